@@ -1,0 +1,12 @@
+-- The definitions that everything is stated with, in reading order.
+pub mod Finite
+pub mod Extended
+pub mod System
+pub mod Plan
+pub mod Estimate
+pub mod Task
+pub mod Pattern
+pub mod Table
+pub mod Search
+pub mod PlanCheck
+pub mod Sample
