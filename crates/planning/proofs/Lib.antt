@@ -1,2 +1,6 @@
 -- The laws about the definitions of specs/, file by file under the same names.
+pub mod Test
+pub mod Finite
+pub mod Extended
+pub mod Sum
 pub mod Sample
