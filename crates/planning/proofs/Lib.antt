@@ -3,4 +3,5 @@ pub mod Test
 pub mod Finite
 pub mod Extended
 pub mod Sum
+pub mod System
 pub mod Sample

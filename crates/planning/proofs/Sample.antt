@@ -3,7 +3,7 @@ use mathlib.Core.Path.{_≡_, refl}
 use mathlib.Core.List.{List, map}
 use Rattle.planning.specs.Finite.{choose, tabulate, chain}
 use Rattle.planning.specs.Extended.{max∞, min∞, add∞, infiniteFrom}
-use Rattle.planning.specs.System.{bellman}
+use Rattle.planning.specs.System.{applies, bellman}
 use Rattle.planning.specs.Plan.{encode}
 use Rattle.planning.specs.Task.{meets, apply, permits, system}
 use Rattle.planning.specs.Pattern.{keep, maskAction, abstraction, affects, affectsPattern, affectedFrom, judge, verdictFrom, verdict}
@@ -13,5 +13,5 @@ use Rattle.planning.specs.PlanCheck.{demand, checkByte, checkBytes, chec
 use Rattle.planning.specs.Sample.{Example, tower, sample, slipping, coupled, samplePatterns, sampleStart, answerReply, searchReply, checkReply, reply, starred}
 
 pub starred-examples : map (λ e. reply (e .question)) starred ≡ map (λ e. e .expected) starred
-unfolding choose tabulate chain max∞ min∞ add∞ infiniteFrom bellman encode meets apply permits system keep maskAction abstraction affects affectsPattern affectedFrom judge verdictFrom verdict indexFrom index stateCount stateAt entryAt largestWeight tableRound tableAfter roundsEnough weightedTable table entryOf tables estimate andThen orElse examineOutcomes tryActions tryAction examine examineWith examination endRound rounds searchFrom search answer demand checkByte checkBytes checkPlan tower sample slipping coupled samplePatterns sampleStart answerReply searchReply checkReply reply starred
+unfolding choose tabulate chain max∞ min∞ add∞ infiniteFrom applies bellman encode meets apply permits system keep maskAction abstraction affects affectsPattern affectedFrom judge verdictFrom verdict indexFrom index stateCount stateAt entryAt largestWeight tableRound tableAfter roundsEnough weightedTable table entryOf tables estimate andThen orElse examineOutcomes tryActions tryAction examine examineWith examination endRound rounds searchFrom search answer demand checkByte checkBytes checkPlan tower sample slipping coupled samplePatterns sampleStart answerReply searchReply checkReply reply starred
 starred-examples = refl

@@ -18,7 +18,7 @@ pub record System (S : Type 0) : Type 0 where
   pub weight : ℕ → ℕ
 
 -- "A move applies in a state that meets its need and is not a goal state."
-abbrev pub applies : {S : Type 0} → System S → ℕ → S → Bool
+unfoldable pub applies : {S : Type 0} → System S → ℕ → S → Bool
 applies Y m s = Y .enabled m s && not (Y .goal s)
 
 -- "0 at a goal, infinite where nothing applies, else the least over applying moves of 1 plus the largest cost among its outcomes":
