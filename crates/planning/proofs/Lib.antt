@@ -4,4 +4,6 @@ pub mod Finite
 pub mod Extended
 pub mod Sum
 pub mod System
+pub mod Plan
+pub mod Search
 pub mod Sample
