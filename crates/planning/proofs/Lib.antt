@@ -4,6 +4,11 @@ pub mod Finite
 pub mod Extended
 pub mod Sum
 pub mod System
+pub mod Canonical
 pub mod Plan
 pub mod Search
+pub mod Fuel
+pub mod Budget
+pub mod PlanBytes
+pub mod PlanCheck
 pub mod Sample

@@ -10,28 +10,12 @@ use Rattle.planning.specs.Finite.{every}
 use Rattle.planning.specs.Extended.{ℕ∞, fin, inf, _≤?_}
 use Rattle.planning.specs.System.{System, applies, IsCost, Invariant}
 use Rattle.planning.specs.Plan.{Plan, arrived, act, Plans, done, _then_, Strong, Strongs, cost, costs}
-use Rattle.planning.proofs.Test.{bool-iff, and-in, and-l, and-r}
+use Rattle.planning.proofs.Test.{bool-iff, and-in}
 use Rattle.planning.proofs.Extended.{mono?}
-use Rattle.planning.proofs.System.{solvable, solves-goal, solves-act, solves-out, cost-solvable}
+use Rattle.planning.proofs.System.{solvable, solves-goal, solves-act, cost-solvable}
+use Rattle.planning.proofs.Canonical.{canonical, canonical-strong}
 
 module _ {S : Type 0} (Y : System S) where
-  -- A state that passes the test has a strong plan of at most that cost.
-  solvable-plans : (e : ℕ) (r : S → Bool) → ((x : S) → T (r x) → (p : Plan) × Strong Y p x × (cost Y p ≤ e)) → (xs : List S) → T (every r xs) → (ps : Plans) × Strongs Y ps xs × (costs Y ps ≤ e)
-  unfolding cost Strong
-  solvable-plans e r h [] t = (done, tt, omega arith)
-  solvable-plans e r h (x ∷ xs) t =
-      let a = h x (and-l (r x) (every r xs) t) in
-      let b = solvable-plans e r h xs (and-r (r x) (every r xs) t) in
-      (a .0 then b .0, (a .1, b .1), omega arith)
-
-  pub solvable-plan : (f d : ℕ) (s : S) → T (solvable Y f d s) → (p : Plan) × Strong Y p s × (cost Y p ≤ d)
-  unfolding solvable cost Strong
-  solvable-plan zero d s t = absurd t
-  solvable-plan (suc f) d s t = solves-out Y (solvable Y f) d s t
-      (λ g. (arrived, g, omega arith))
-      (λ m l c w a. let b = solvable-plans (d - Y .weight m) (solvable Y f (d - Y .weight m)) (solvable-plan f (d - Y .weight m)) (Y .successors m s) a in
-      (act m (b .0), (l, c, b .1), omega arith))
-
   -- A state with a strong plan of cost at most d passes the test.
   module _ (positive : (m : ℕ) → m < Y .actions → 1 ≤ Y .weight m) where
     mutual
@@ -59,10 +43,10 @@ module _ {S : Type 0} (Y : System S) (Ok : S → Type 0) (I : Invariant Y Ok) wh
   unfolding IsLeast
   cost-is-least s o v = (
     λ c. let h = cost-solvable Y Ok I s o v .0 c in
-        (λ p q. rw (h (cost Y p)) (plan-solvable Y (I .weight-positive) p (suc (cost Y p)) (cost Y p) s (omega arith) q (omega arith)), λ d t. solvable-plan Y (suc d) d s (rw (h d) at t)),
+        (λ p q. rw (h (cost Y p)) (plan-solvable Y (I .weight-positive) p (suc (cost Y p)) (cost Y p) s (omega arith) q (omega arith)), λ d t. (canonical Y (suc d) d s, canonical-strong Y (suc d) d s (rw (h d) at t) .0, canonical-strong Y (suc d) d s (rw (h d) at t) .1)),
     λ h. cost-solvable Y Ok I s o v .1 (λ d. bool-iff (v ≤? d) (solvable Y (suc d) d s)
         (λ t. let a = h .1 d t in plan-solvable Y (I .weight-positive) (a .0) (suc d) d s (omega arith) (a .1) (a .2))
-        (λ t. let a = solvable-plan Y (suc d) d s t in mono? v (cost Y (a .0)) d (a .2) (h .0 (a .0) (a .1)))),
+        (λ t. let a = canonical-strong Y (suc d) d s t in mono? v (cost Y (canonical Y (suc d) d s)) d (a .1) (h .0 (canonical Y (suc d) d s) (a .0)))),
   )
 
   pub cost-infinite-iff-no-plan : (s : S) → Ok s → IsCost Y s inf ↔ ((p : Plan) → Strong Y p s → ⊥)

@@ -71,8 +71,11 @@ limit-tests f (fin k) = (λ h d. (h .0, λ m l. ap (λ x. x ≤? d) (h .1 m l)),
   where
     reached : ((d : ℕ) → (n : ℕ) × ((m : ℕ) → n ≤ m → (f m ≤? d) ≡ leb k d)) → (j : ℕ) → j ≡ k → (n : ℕ) × ((m : ℕ) → n ≤ m → f m ≡ fin k)
     reached h zero e = (h k .0, λ m l. exactly (f m) k (rw (h k .1 m l) (le→leb k k (omega arith))) (λ d u. absurd (omega arith)))
-    reached h (suc j) e = (h k .0 + h j .0, λ m l. exactly (f m) k (rw (h k .1 m (omega arith)) (le→leb k k (omega arith)))
-        (λ d u t. let w : k ≤ j = leb→le k j (rw (h j .1 m (omega arith)) at (mono? (f m) d j (omega arith) t)) in omega arith))
+    reached h (suc j) e = (
+      h k .0 + h j .0,
+      λ m l. exactly (f m) k (rw (h k .1 m (omega arith)) (le→leb k k (omega arith)))
+          (λ d u t. let w : k ≤ j = leb→le k j (rw (h j .1 m (omega arith)) at (mono? (f m) d j (omega arith) t)) in omega arith),
+    )
 limit-tests f inf = (λ h d. (h d .0, λ m l. not-T-false (f m ≤? d) (h d .1 m l)), λ h d. (h d .0, λ m l t. rw (h d .1 m l) at t))
 
 module _ {S : Type 0} (Y : System S) (Ok : S → Type 0) (I : Invariant Y Ok) where

@@ -18,7 +18,6 @@ mutual
     _then_ : Plan → Plans → Plans
 
 infixr 30 _then_
-
 module _ {S : Type 0} (Y : System S) where
   -- "A strong plan from a state is a finite tree of this kind, of any depth and from any producer: at a goal state 254, elsewhere a move
   -- that applies there, followed for each of its outcomes by a strong plan from the state after that outcome."
