@@ -13,7 +13,7 @@ use Rattle.planning.specs.Plan.{Plan, Plans}
 use Rattle.planning.specs.Search.{Result, succeeded, failed, stopped, andThen, orElse, examineOutcomes, tryActions, tryAction, examine, examineWith, examination}
 use Rattle.planning.proofs.Test.{and-l, and-r, choose-ext}
 
-then-ext : {A B : Type 0} (r : Result A) (k j : A → ℕ → Result B) → ((a : A) (c : ℕ) → k a c ≡ j a c) → andThen r k ≡ andThen r j
+pub then-ext : {A B : Type 0} (r : Result A) (k j : A → ℕ → Result B) → ((a : A) (c : ℕ) → k a c ≡ j a c) → andThen r k ≡ andThen r j
 unfolding andThen
 then-ext (succeeded a c) k j h = h a c
 then-ext (failed c) k j h = refl
@@ -30,7 +30,7 @@ unfolding examineOutcomes
 outcomes-ext Ok r q h [] c o = refl
 outcomes-ext Ok r q h (x ∷ xs) c o = rw (h x c (o .0)) (then-ext (q x c) _ _ (λ p c₁. rw (outcomes-ext Ok r q h xs c₁ (o .1))))
 
-actions-ext : (r q : ℕ → ℕ → Result Plan) (M : ℕ) → ((m c : ℕ) → m < M → r m c ≡ q m c) → (k n c : ℕ) → k + n ≤ M → tryActions r k n c ≡ tryActions q k n c
+pub actions-ext : (r q : ℕ → ℕ → Result Plan) (M : ℕ) → ((m c : ℕ) → m < M → r m c ≡ q m c) → (k n c : ℕ) → k + n ≤ M → tryActions r k n c ≡ tryActions q k n c
 unfolding tryActions
 actions-ext r q M h k zero c l = refl
 actions-ext r q M h k (suc n) c l = rw (h k c (omega arith)) (else-ext (q k c) _ _ (λ c₁. actions-ext r q M h (suc k) n c₁ (omega arith)))

@@ -11,4 +11,5 @@ pub mod Fuel
 pub mod Budget
 pub mod PlanBytes
 pub mod PlanCheck
+pub mod Simulation
 pub mod Sample

@@ -104,7 +104,7 @@ module _ {S : Type 0} (Y : System S) (most : ℕ) where
 
     -- An action that applies: the next bytes plan for the states after its outcomes, in order, before the rest.
     pub check-applies : (b : ℕ) → b ≢ 254 → b < Y .actions → x .moves < most → T (applies Y b (x .state)) →
-        checkBytes Y most (b ∷ bs) (x ∷ rest) i worst ≡ checkBytes Y most bs (pendingAfter Y most x b ++ rest) (suc i) worst
+        checkBytes Y most (b ∷ bs) (x ∷ rest) i worst ≡ checkBytes Y most bs (pendingAfter Y x b ++ rest) (suc i) worst
     unfolding checkBytes checkByte choose
     check-applies b n a l t = rw (not-equal b 254 n) (demand-met (ltb b (Y .actions)) (refused 13 i) _ (lt→ltb b (Y .actions) a)
         ∙ demand-met (ltb (x .moves) most) (refused 17 i) _ (lt→ltb (x .moves) most l)
@@ -148,7 +148,7 @@ module _ {S : Type 0} (Y : System S) (most : ℕ) where
       (λ a h. demand-passed (ltb (x .moves) most) 17 i c n _ h
       (λ l h. demand-passed (applies Y b (x .state)) 14 i c n _ h
       (λ t h. let l : x .moves < most = ltb→lt (x .moves) most l in
-      let r = passed-planned bs (pendingAfter Y most x b ++ rest) (suc i) worst c n (within-most (suc (x .moves)) (x .paid + Y .weight b) l rest (o .1) (Y .successors b (x .state))) h in
+      let r = passed-planned bs (pendingAfter Y x b ++ rest) (suc i) worst c n (within-most (suc (x .moves)) (x .paid + Y .weight b) l rest (o .1) (Y .successors b (x .state))) h in
       let z = planned-split (suc (x .moves)) (x .paid + Y .weight b) rest l (Y .successors b (x .state)) (r .0) (r .2) in
       (act b (z .0) then z .1, ap (λ l. b ∷ l) (r .1 ∙ z .2), ((ltb→lt b (Y .actions) a, t, z .3), omega (arith, z .4), z .5))))))
 

@@ -1,5 +1,5 @@
 -- Tests (Booleans) as facts: how a conjunction, a disjunction and a choice are taken apart and put together. Assumes nothing.
-use mathlib.Core.Path.{_≡_, refl}
+use mathlib.Core.Path.{_≡_, refl, ap, _∙_}
 use mathlib.Core.Bool.{Bool, true, false, not, _&&_, _||_}
 use Prim.Native.Nat.{ℕ, suc, _≤_, _<_}
 use native.Mathlib.Omega.{arith}
@@ -86,3 +86,6 @@ pub choose-ext : {A : Type 0} (b : Bool) (j k j′ k′ : Unit {0} → A) → (T
 unfolding choose
 choose-ext true j k j′ k′ f g = f tt
 choose-ext false j k j′ k′ f g = g tt
+
+pub choose-same : {A : Type 0} (b b′ : Bool) (j k j′ k′ : Unit {0} → A) → b ≡ b′ → (T b → j tt ≡ j′ tt) → (T (not b) → k tt ≡ k′ tt) → choose b j k ≡ choose b′ j′ k′
+choose-same b b′ j k j′ k′ e f g = choose-ext b j k j′ k′ f g ∙ ap (λ x. choose x j′ k′) e

@@ -22,10 +22,11 @@ pub record Pending (S : Type 0) : Type 0 where
 unfoldable pub demand : Bool → Checked → (Unit {0} → Checked) → Checked
 demand holds no₁ k = choose holds k (λ u. no₁)
 
-module _ {S : Type 0} (Y : System S) (most : ℕ) where
-  abbrev pub pendingAfter : Pending S → ℕ → List (Pending S)
-  pendingAfter x m = map (λ s. record { state = s; moves = suc (x .moves); paid = x .paid + Y .weight m }) (Y .successors m (x .state))
+-- What is pending after an action, in the order of its outcomes.
+abbrev pub pendingAfter : {S : Type 0} → System S → Pending S → ℕ → List (Pending S)
+pendingAfter Y x m = map (λ s. record { state = s; moves = suc (x .moves); paid = x .paid + Y .weight m }) (Y .successors m (x .state))
 
+module _ {S : Type 0} (Y : System S) (most : ℕ) where
   -- "The check's lines are tested at each byte", in the order of the table: 13 "byte neither 254 nor below M", 15 "254 at a state that is
   -- no goal", 17 "a move after 32 moves on the path", 14 "move does not apply". b is the byte at offset i, x what it plans for, worst the
   -- largest cost of a path that has arrived.
@@ -35,7 +36,7 @@ module _ {S : Type 0} (Y : System S) (most : ℕ) where
       (λ u. demand (ltb b (Y .actions)) (refused 13 i)
       (λ u. demand (ltb (x .moves) most) (refused 17 i)
       (λ u. demand (applies Y b (x .state)) (refused 14 i)
-      (λ u. next (pendingAfter x b ++ rest) (suc i) worst))))
+      (λ u. next (pendingAfter Y x b ++ rest) (suc i) worst))))
 
   -- 12 "plan ends early" and 16 "bytes after the plan" are judged where bytes or pending states run out.
   unfoldable pub checkBytes : List ℕ → List (Pending S) → ℕ → ℕ → Checked
