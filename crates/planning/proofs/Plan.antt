@@ -1,16 +1,16 @@
 -- The cost of a state is the least cost of a strong plan from it, and infinite exactly where there is none. Assumes nothing.
-use mathlib.Core.Path.{_≡_}
+use mathlib.Core.Path.{_≡_, refl}
 use mathlib.Core.Logic.{_↔_}
 use mathlib.Core.Bool.{Bool, true, false, _&&_}
 use mathlib.Core.List.{List, [], _∷_}
 use Prim.Native.Nat.{ℕ, zero, suc, _+_, _-_, _≤_, _<_, max}
 use native.Mathlib.Omega.{arith}
-use lib.Dec.{T}
+use lib.Dec.{T, T-not}
 use Rattle.planning.specs.Finite.{every}
 use Rattle.planning.specs.Extended.{ℕ∞, fin, inf, _≤?_}
 use Rattle.planning.specs.System.{System, applies, IsCost, Invariant}
 use Rattle.planning.specs.Plan.{Plan, arrived, act, Plans, done, _then_, Strong, Strongs, cost, costs}
-use Rattle.planning.proofs.Test.{bool-iff, and-in}
+use Rattle.planning.proofs.Test.{bool-iff, and-in, and-r}
 use Rattle.planning.proofs.Extended.{mono?}
 use Rattle.planning.proofs.System.{solvable, solves-goal, solves-act, cost-solvable}
 use Rattle.planning.proofs.Canonical.{canonical, canonical-strong}
@@ -52,3 +52,9 @@ module _ {S : Type 0} (Y : System S) (Ok : S → Type 0) (I : Invariant Y Ok) wh
   pub cost-infinite-iff-no-plan : (s : S) → Ok s → IsCost Y s inf ↔ ((p : Plan) → Strong Y p s → ⊥)
   unfolding IsLeast
   cost-infinite-iff-no-plan s o = (λ h. cost-is-least s o inf .0 h .0, λ h. cost-is-least s o inf .1 (h, λ d t. absurd t))
+
+-- "at a goal state 254": there a strong plan is nothing else.
+pub strong-at-goal : {S : Type 0} (Y : System S) (p : Plan) (s : S) → T (Y .goal s) → Strong Y p s → p ≡ arrived
+unfolding Strong applies
+strong-at-goal Y arrived s g h = refl
+strong-at-goal Y (act m ps) s g h = absurd (T-not (Y .goal s) (and-r (Y .enabled m s) _ (h .1)) g)
