@@ -1,4 +1,4 @@
--- The laws about the definitions of specs/, file by file under the same names.
+-- The laws about the definitions of specs/. First what holds of any system, then tasks, patterns and tables, then the two together.
 pub mod Test
 pub mod Finite
 pub mod Extended
@@ -6,10 +6,19 @@ pub mod Sum
 pub mod System
 pub mod Canonical
 pub mod Plan
+pub mod Bound
+pub mod Projection
 pub mod Search
 pub mod Fuel
 pub mod Budget
+pub mod Simulation
 pub mod PlanBytes
 pub mod PlanCheck
-pub mod Simulation
+pub mod Task
+pub mod Pattern
+pub mod Verdict
+pub mod Table
+pub mod Build
+pub mod Estimate
+pub mod Answer
 pub mod Sample
