@@ -9,4 +9,5 @@ pub mod Pattern
 pub mod Table
 pub mod Search
 pub mod PlanCheck
+pub mod Numbers
 pub mod Sample

@@ -71,11 +71,11 @@ unfoldable pub checkReply : Checked → Reply
 checkReply (passed c n) = passedReply c n
 checkReply (refused n i) = refusedReply n i
 
-unfoldable pub reply : Question → Reply
-reply (tablesOf t) = entries (tables t samplePatterns)
-reply (searchOf t budget limit) = searchReply (verdict t samplePatterns)
+unfoldable pub replyTo : Question → Reply
+replyTo (tablesOf t) = entries (tables t samplePatterns)
+replyTo (searchOf t budget limit) = searchReply (verdict t samplePatterns)
     (λ u. answerReply (estimate t samplePatterns sampleStart) (answer t samplePatterns budget limit sampleStart))
-reply (checkOf bs) = checkReply (checkPlan (system sample) mostMoves sampleStart bs)
+replyTo (checkOf bs) = checkReply (checkPlan (system sample) mostMoves sampleStart bs)
 
 pub record Example : Type 0 where
   pub question : Question
