@@ -1,0 +1,14 @@
+// The reader, the lowest layer with code: the record of a task with its check and its cells (`record`, `cells`), and the text that is
+// read into a record (`text`). It alone knows the record's offsets and the text's grammar.
+mod blank;
+mod blocks;
+pub mod cells;
+pub mod decimal;
+pub mod grammar;
+mod layout;
+pub mod lists;
+pub mod order;
+mod pieces;
+pub mod record;
+mod store;
+pub mod text;

@@ -1,0 +1,58 @@
+// Where a text is parted, and whether a line has a key. Assumes nothing.
+ghost use mathlib.Core.Path.{_≡_};
+ghost use Rattle.reader.specs.Text.{indexOf, indexOfEither, hasKey};
+
+pub const LINE_BREAK: u8 = 10;
+
+pub const COMMA: u8 = 44;
+
+pub const COLON: u8 = 58;
+
+// The index of the first b, or the length where there is none.
+pub fn find(s: &[u8], b: u8) -> usize
+    ensures { λ r. ⌜ r ≡ indexOf b (now (s .entry)) ⌝ }
+{
+    let mut i = 0;
+    while i < s.len() {
+        if s[i] == b {
+            return i;
+        }
+        i += 1;
+    }
+    i
+}
+
+// The index of the first a or b, or the length where there is neither.
+pub fn find_either(s: &[u8], a: u8, b: u8) -> usize
+    ensures { λ r. ⌜ r ≡ indexOfEither a b (now (s .entry)) ⌝ }
+{
+    let mut i = 0;
+    while i < s.len() {
+        let x = s[i];
+        if x == a {
+            return i;
+        }
+        if x == b {
+            return i;
+        }
+        i += 1;
+    }
+    i
+}
+
+// Whether the line begins with the key.
+pub fn has_key(line: &[u8], key: &[u8]) -> bool
+    ensures { λ r. ⌜ r ≡ hasKey (now (key .entry)) (now (line .entry)) ⌝ }
+{
+    let mut i = 0;
+    while i < key.len() {
+        if line.len() <= i {
+            return false;
+        }
+        if line[i] != key[i] {
+            return false;
+        }
+        i += 1;
+    }
+    true
+}

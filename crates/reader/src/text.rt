@@ -1,0 +1,64 @@
+// The entry: a text is read into a lent record of 9,464 bytes. Assumes nothing.
+ghost use mathlib.Core.Path.{_≡_};
+ghost use Rattle.reader.specs.Text.{linesOf};
+ghost use Rattle.reader.specs.Grammar.{readFrom, wholeOf, readAnswer, readLeaves};
+use crate::blank::blank_record;
+use crate::grammar::Taken;
+use crate::grammar::take_line;
+use crate::layout::RECORD_SIZE;
+use crate::order::Due;
+use crate::order::is_end;
+use crate::pieces::LINE_BREAK;
+use crate::pieces::find;
+use crate::store::put_cells;
+
+// What a call answers: the text is read, or a refusal's number with its second number.
+pub enum Reading {
+    Read,
+    Refused(u64, u64),
+}
+
+// The lines of a text, one after the other, into a record that is lent with nothing used.
+fn read_lines(text: &[u8], rec: &mut [u8]) -> Reading
+    ensures { λ r. ⌜ readFrom 1 Due.Vars (now (rec .entry)) (linesOf (now (text .entry))) ≡ wholeOf r (now (rec .exit)) ⌝ }
+{
+    let mut due = Due::Vars;
+    let mut line: u64 = 1;
+    let mut at = 0;
+    while at < text.len() {
+        let rest = &text[at..];
+        let k = find(rest, LINE_BREAK);
+        match take_line(rec, due, &rest[..k]) {
+            Taken::Faulty(number) => {
+                return Reading::Refused(number, line);
+            }
+            Taken::Next(next) => {
+                due = next;
+            }
+        }
+        line += 1;
+        at = at + k + 1;
+    }
+    if is_end(due) {
+        return Reading::Read;
+    }
+    Reading::Refused(1, line)
+}
+
+// Reads a text into a record. The record is filled apart and copied out once the whole text is good, so a refusal leaves the lent one as found.
+pub fn read_text(text: &[u8], record: &mut [u8]) -> Reading
+    ensures { λ r. ⌜ (r ≡ readAnswer (now (text .entry)) (now («record» .entry))) × (now («record» .exit) ≡ readLeaves (now (text .entry)) (now («record» .entry))) ⌝ }
+{
+    if record.len() < RECORD_SIZE {
+        return Reading::Refused(5, record.len() as u64);
+    }
+    let mut local = blank_record();
+    let answer = read_lines(text, &mut local);
+    match answer {
+        Reading::Read => {
+            put_cells(record, 0, &local);
+            Reading::Read
+        }
+        Reading::Refused(number, line) => Reading::Refused(number, line),
+    }
+}

@@ -1,0 +1,121 @@
+//! The planner library behind its C declarations.
+
+use crate::answer::Answer;
+use crate::planner::Planner;
+
+// Every slice is a pointer and a length in elements.
+unsafe extern "C" {
+    fn planner_read_text(
+        text: *const u8,
+        text_length: usize,
+        record: *mut u8,
+        record_length: usize,
+    ) -> Answer;
+    fn planner_check_record(record: *const u8, record_length: usize) -> Answer;
+    fn planner_check_state(
+        record: *const u8,
+        record_length: usize,
+        state: *const u8,
+        state_length: usize,
+    ) -> Answer;
+    fn planner_build_tables(
+        record: *const u8,
+        record_length: usize,
+        tables: *mut u16,
+        tables_length: usize,
+    ) -> Answer;
+    fn planner_additive(record: *const u8, record_length: usize) -> Answer;
+    fn planner_value(
+        record: *const u8,
+        record_length: usize,
+        state: *const u8,
+        state_length: usize,
+        tables: *const u16,
+        tables_length: usize,
+    ) -> Answer;
+    fn planner_search(
+        record: *const u8,
+        record_length: usize,
+        tables: *mut u16,
+        tables_length: usize,
+        plan: *mut u8,
+        plan_length: usize,
+    ) -> Answer;
+    fn planner_check_plan(
+        record: *const u8,
+        record_length: usize,
+        state: *const u8,
+        state_length: usize,
+        plan: *const u8,
+        plan_length: usize,
+    ) -> Answer;
+}
+
+/// The library of the product.
+pub struct Library;
+
+// SAFETY (all calls below): each pointer comes with the length of the live
+// slice it was taken from, and only slices borrowed mutably go to parameters
+// the library may write through.
+impl Planner for Library {
+    fn read_text(&self, text: &[u8], record: &mut [u8]) -> Answer {
+        unsafe { planner_read_text(text.as_ptr(), text.len(), record.as_mut_ptr(), record.len()) }
+    }
+
+    fn check_record(&self, record: &[u8]) -> Answer {
+        unsafe { planner_check_record(record.as_ptr(), record.len()) }
+    }
+
+    fn check_state(&self, record: &[u8], state: &[u8]) -> Answer {
+        unsafe { planner_check_state(record.as_ptr(), record.len(), state.as_ptr(), state.len()) }
+    }
+
+    fn build_tables(&self, record: &[u8], tables: &mut [u16]) -> Answer {
+        unsafe {
+            planner_build_tables(record.as_ptr(), record.len(), tables.as_mut_ptr(), tables.len())
+        }
+    }
+
+    fn additive(&self, record: &[u8]) -> Answer {
+        unsafe { planner_additive(record.as_ptr(), record.len()) }
+    }
+
+    fn value(&self, record: &[u8], state: &[u8], tables: &[u16]) -> Answer {
+        unsafe {
+            planner_value(
+                record.as_ptr(),
+                record.len(),
+                state.as_ptr(),
+                state.len(),
+                tables.as_ptr(),
+                tables.len(),
+            )
+        }
+    }
+
+    fn search(&self, record: &[u8], tables: &mut [u16], plan: &mut [u8]) -> Answer {
+        unsafe {
+            planner_search(
+                record.as_ptr(),
+                record.len(),
+                tables.as_mut_ptr(),
+                tables.len(),
+                plan.as_mut_ptr(),
+                plan.len(),
+            )
+        }
+    }
+
+    fn check_plan(&self, record: &[u8], state: &[u8], plan: &[u8]) -> Answer {
+        unsafe {
+            planner_check_plan(
+                record.as_ptr(),
+                record.len(),
+                state.as_ptr(),
+                state.len(),
+                plan.as_ptr(),
+                plan.len(),
+            )
+        }
+    }
+}
