@@ -1,0 +1,12 @@
+pub mod Weights
+pub mod Affected
+pub mod Room
+pub mod Summing
+pub mod Runs
+pub mod Reading
+pub mod Sizes
+pub mod Refusals
+pub mod Built
+pub mod Gathering
+pub mod Named
+pub mod Verdicts
