@@ -16,7 +16,7 @@ use Rattle.planning.proofs.Finite.{length-tabulate, getD-tabulate}
 use Rattle.reader.specs.Scan.{allBelow}
 use Rattle.reader.specs.Cells.{sparesCell, stateCells}
 use Rattle.reader.proofs.Scanning.{all-from-first, all-none}
-use Rattle.reader.proofs.Tests.{by-test}
+use Rattle.planning.proofs.Test.{by-test}
 use Rattle.reader.proofs.Sixteens.{any-default}
 
 abbrev pub met : List ℕ → List ℕ → ℕ → Bool

@@ -9,7 +9,8 @@ use borrow.Author.Tests.{lt-ltb, le-ltb, ltb-true, ltb-false, le-leb, leb-true, 
 use Rattle.reader.specs.Layout.{atSizes, atGoal, atStart, atPattern, atAction, actionSize, inPrecondition, inOutcomes}
 use Rattle.reader.specs.Numbers.{byte, actionCount, outcomeCount}
 use Rattle.reader.specs.Record.{cellOk, sizeOk, assignmentOk, stateCellOk, patternOk, countOk, actionOk}
-use Rattle.reader.proofs.Tests.{by-test, same-test}
+use Rattle.planning.proofs.Test.{by-test}
+use Rattle.reader.proofs.Tests.{same-test}
 
 module _ (r : List ℕ) (i : ℕ) (l : i < 16) where
   pub size-at : cellOk r (atSizes + i) ≡ sizeOk r i (byte r (atSizes + i))

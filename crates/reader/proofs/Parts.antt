@@ -12,7 +12,8 @@ use Rattle.reader.specs.Numbers.{byte, variableCount, actionCount, patte
 use Rattle.reader.specs.Scan.{firstFrom, allBelow}
 use Rattle.reader.specs.Window.{rowFits, nineFit, columnFits, Sixteen, Tops, usedBlocks}
 use Rattle.reader.specs.Record.{cellOk, headOk, sizeOk, stateCellOk, assignmentOk, countOk}
-use Rattle.reader.proofs.Tests.{by-test, same-test, both-right}
+use Rattle.planning.proofs.Test.{by-test}
+use Rattle.reader.proofs.Tests.{same-test, both-right}
 use Rattle.reader.proofs.Scanning.{first-same, first-all, first-suc, first-stops, first-none, all-at}
 use Rattle.reader.proofs.Offsets.{size-at, goal-at, start-at, pattern-at, count-at, block-at}
 use Rattle.reader.proofs.Windows.{row-cell, size-window, assignment-window, unused-assignment-window, state-window, pattern-window, unused-pattern-window}

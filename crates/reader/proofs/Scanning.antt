@@ -8,7 +8,8 @@ use native.Mathlib.Omega.{arith}
 use lib.Bits.{bitOr}
 use lib.Dec.{eqb}
 use Rattle.reader.specs.Scan.{firstFrom, allBelow}
-use Rattle.reader.proofs.Tests.{by-test, both, both-left, both-right, or-none}
+use Rattle.planning.proofs.Test.{by-test}
+use Rattle.reader.proofs.Tests.{both, both-left, both-right, or-none}
 
 -- One step of a scan of n numbers.
 module _ (ok : ℕ → Bool) (i n : ℕ) (l : i < n) where

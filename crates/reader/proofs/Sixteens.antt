@@ -7,7 +7,7 @@ use lib.ListN.{length, getD, set, replicate}
 use lib.Seq.{getD-set-same, getD-set-other}
 use lib.Dec.{eqb}
 use borrow.Author.Tests.{eqb-true, eqb-false}
-use Rattle.reader.proofs.Tests.{by-test}
+use Rattle.planning.proofs.Test.{by-test}
 
 pub filled-next : (f : ℕ → ℕ) (l : List ℕ) (i x : ℕ) → i < length l → x ≡ f i → ((v : ℕ) → v < i → getD l v 0 ≡ f v)
     → (v : ℕ) → v < i + 1 → getD (set l i x) v 0 ≡ f v

@@ -17,7 +17,8 @@ use Rattle.reader.specs.Layout.{recordSize, atVariables, atActions, atPa
 use Rattle.reader.specs.Numbers.{byte, variableCount, actionCount, patternCount, sizeOf, outcomeCount}
 use Rattle.reader.specs.Record.{cellOk, headOk, sizeOk, valueOk, assignmentOk, stateOk, stateCellOk, countOk, Sound}
 use Rattle.reader.specs.TaskOf.{cellsAt, actionOf, taskOf, startOf}
-use Rattle.reader.proofs.Tests.{by-test, both-left, both-right}
+use Rattle.planning.proofs.Test.{by-test}
+use Rattle.reader.proofs.Tests.{both-left, both-right}
 use Rattle.reader.proofs.Offsets.{size-at, goal-at, start-at, count-at, block-at}
 use Rattle.reader.proofs.Soundness.{sound-length, sound-cell}
 use Rattle.reader.proofs.Sixteens.{any-default}

@@ -11,7 +11,7 @@ use borrow.Author.Tests.{ltb-false, le-ltb}
 use Rattle.reader.specs.Layout.{recordSize, atSizes, atGoal}
 use Rattle.reader.specs.Scan.{firstFrom}
 use Rattle.reader.specs.Record.{cellOk, firstBad, recordCheck, Sound}
-use Rattle.reader.proofs.Tests.{by-test}
+use Rattle.planning.proofs.Test.{by-test}
 use Rattle.reader.proofs.Scanning.{first-all, first-none}
 
 module _ (r : List ℕ) (sound : Sound r) where

@@ -21,7 +21,8 @@ use Rattle.reader.specs.declared.record.RecordCheck.{RecordCheck}
 use Rattle.reader.specs.declared.record.RecordCheck.the-variants as of-record
 use Rattle.reader.specs.declared.record.StateCheck.{StateCheck}
 use Rattle.reader.specs.declared.record.StateCheck.the-variants as of-state
-use Rattle.reader.proofs.Tests.{by-test, both-left, both-right, one-of}
+use Rattle.planning.proofs.Test.{by-test}
+use Rattle.reader.proofs.Tests.{both-left, both-right, one-of}
 use Rattle.reader.proofs.Scanning.{first-all}
 use Rattle.reader.proofs.Offsets.{start-at}
 use Rattle.reader.proofs.Sixteens.{any-default}

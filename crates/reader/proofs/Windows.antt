@@ -10,7 +10,8 @@ use borrow.Author.Tests.{lt-ltb, ltb-true, le-leb, leb-true, eq-eqb, eqb-true, e
 use Rattle.reader.specs.Numbers.{variableCount, patternCount, sizeOf}
 use Rattle.reader.specs.Window.{fits, rowFits, Sixteen}
 use Rattle.reader.specs.Record.{sizeOk, valueOk, assignmentOk, stateOk, patternOk}
-use Rattle.reader.proofs.Tests.{by-test, same-test, both, both-left, both-right, either, one-of}
+use Rattle.planning.proofs.Test.{by-test}
+use Rattle.reader.proofs.Tests.{same-test, both, both-left, both-right, either, one-of}
 
 -- A cell of a row of blocks against the windows of the place that it has in its block.
 pub row-cell : (f g : ℕ → ℕ) (c shift top : List ℕ) (a i : ℕ) → Sixteen f shift → Sixteen g top

@@ -6,7 +6,8 @@ use Prim.Native.Nat.{ℕ, _+_, _≤_, _<_}
 use lib.Dec.{eqb}
 use lib.ListN.{length, getD, drop}
 use Rattle.planning.specs.Pattern.{affects}
-use Rattle.tables.proofs.Weights.{drop-step, drop-all}
+use Rattle.reader.proofs.Rest.{drop-step}
+use Rattle.tables.proofs.Weights.{drop-all}
 
 pub affects-step : (p o : List ℕ) (v : ℕ) → v < length p → v < length o →
     affects (drop v p) (drop v o) ≡ ((eqb (getD p v 0) 1 && not (eqb (getD o v 0) 255)) || affects (drop (v + 1) p) (drop (v + 1) o))

@@ -14,7 +14,7 @@ use Rattle.reader.specs.Record.{Sound}
 use Rattle.reader.specs.TaskOf.{cellsAt, taskOf}
 use Rattle.reader.specs.Window.{Sixteen}
 use Rattle.reader.proofs.Soundness.{sound-length}
-use Rattle.reader.proofs.SoundTask.{variables-right, patterns-right, cell-of-part, length-of-part, sound-well-formed}
+use Rattle.reader.proofs.SoundTask.{variables-right, patterns-right, cell-of-part, length-of-part, sizes-length, sound-well-formed}
 use Rattle.tables.proofs.Weights.{Positive}
 
 -- A state has a value for each size.
@@ -29,12 +29,9 @@ module _ (r : List ℕ) (sound : Sound r) where
   pub variables-few : variableCount r ≤ 16
   variables-few = variables-right r sound .1
 
-  sizes-length : length (take (variableCount r) (drop atSizes r)) ≡ variableCount r
-  sizes-length = let n = sound-length r sound in let v = variables-few in length-of-part r (variableCount r) 8 (omega arith)
-
   pub sizes-few : length (taskOf r .sizes) ≤ 16
   unfolding taskOf
-  sizes-few = let n = sizes-length in let v = variables-few in omega arith
+  sizes-few = let n = sizes-length r sound in let v = variables-few in omega arith
 
   -- Of sixteen sizes the task has those of its variables.
   pub sizes-taken : (all : List ℕ) → Sixteen (sizeOf r) all → take (variableCount r) all ≡ taskOf r .sizes
@@ -42,7 +39,7 @@ module _ (r : List ℕ) (sound : Sound r) where
   sizes-taken all s =
       let n = variables-few in let w = s .whole in
       let l : length (take (variableCount r) all) ≡ variableCount r = length-take-le (variableCount r) all (omega arith) in
-      ext-getD 0 (take (variableCount r) all) (take (variableCount r) (drop 8 r)) (l ∙ sym sizes-length)
+      ext-getD 0 (take (variableCount r) all) (take (variableCount r) (drop 8 r)) (l ∙ sym (sizes-length r sound))
       (λ i h. let k : i < variableCount r = rw l at h in
       getD-take (variableCount r) all i 0 k ∙ s .cell i (omega arith) ∙ sym (cell-of-part r (variableCount r) 8 i k))
 

@@ -5,17 +5,14 @@ use mathlib.Core.Bool.{false}
 use mathlib.Core.List.{List, [], _∷_}
 use Prim.Native.Nat.{ℕ, zero, suc, _+_, _*_, _≤_, _<_}
 use native.Mathlib.Nat.{mul-le-mul-left, mul-le-mul-right, mul-assoc, mul-comm, mul-one, zero-add}
-use native.Mathlib.Numerals.{add-one}
 use native.Mathlib.Omega.{arith}
 use lib.Dec.{eqb}
 use lib.ListN.{length, getD, drop}
-use lib.Seq.{drop-cons, drop-nil}
+use lib.Seq.{drop-nil}
 use Rattle.planning.specs.Finite.{All}
 use Rattle.planning.specs.Table.{indexFrom, index, stateCount}
 use Rattle.planning.proofs.Test.{by-test}
-
-pub drop-step : (s : List ℕ) (i : ℕ) → i < length s → drop i s ≡ getD s i 0 ∷ drop (i + 1) s
-drop-step s i h = rw (add-one, drop-cons s i 0)
+use Rattle.reader.proofs.Rest.{drop-step}
 
 pub drop-all : {A : Type 0} (s : List A) (i : ℕ) → length s ≤ i → drop i s ≡ []
 drop-all [] i h = drop-nil i
