@@ -1,3 +1,4 @@
+-- The laws about the definitions of specs/. First verdict, room and value, then packed states and the build of one table.
 pub mod Weights
 pub mod Affected
 pub mod Room
@@ -10,3 +11,12 @@ pub mod Built
 pub mod Gathering
 pub mod Named
 pub mod Verdicts
+pub mod Packing
+pub mod Compiled
+pub mod Simulating
+pub mod Abstracted
+pub mod Settled
+pub mod Sweeping
+pub mod Spacing
+pub mod Building
+pub mod CompiledAction

@@ -1,0 +1,6 @@
+-- What the contracts of this crate cite, in reading order.
+pub mod Value
+pub mod Buffer
+pub mod Examination
+pub mod Packed
+pub mod Answer

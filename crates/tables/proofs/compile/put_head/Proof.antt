@@ -1,0 +1,54 @@
+-- `tables::compile::put_head` meets its contract. Assumes nothing.
+use borrow.Author.Needs.{needs}
+use Rattle.tables.proofs.compile.put_head.Statement.{statement}
+use Rattle.tables.proofs.compile.put_head.Tie as tie
+use mathlib.Core.Path.{_∙_}
+
+pack-requires : tie.Need-pack-requires
+pack-requires c κs = search needs
+
+pack-requires-2 : tie.Need-pack-requires-2
+pack-requires-2 c κs = search needs
+
+put-requires : tie.Need-put-requires
+put-requires c κs = search needs
+
+add-put : tie.Need-add-put
+add-put c = search needs
+
+put-requires-2 : tie.Need-put-requires-2
+put-requires-2 c κs = search needs
+
+add-put-2 : tie.Need-add-put-2
+add-put-2 c = search needs
+
+put-requires-3 : tie.Need-put-requires-3
+put-requires-3 c κs = search needs
+
+add-put-3 : tie.Need-add-put-3
+add-put-3 c = search needs
+
+put-requires-4 : tie.Need-put-requires-4
+put-requires-4 c κs = search needs
+
+same-length : tie.Need-same-length
+same-length c = search needs
+
+returns : tie.Need-returns
+returns c = c .before .before .put4 .ensures ∙ rw (c .before .before .before .before .before .before .put3 .ensures, c .before .before .before .before .before .before .before .before .before .before .put2 .ensures, c .before .before .before .before .before .before .before .before .before .before .before .before .before .before .put .ensures, c .before .before .before .before .before .before .before .before .before .before .before .before .before .before .before .before .before .pack .ensures, c .before .before .before .before .before .before .before .before .before .before .before .before .before .before .before .before .pack2 .ensures)
+
+pub put-head-spec : {M : Type 1} → statement M
+put-head-spec =
+    tie.close
+    (tie.spec
+    pack-requires
+    pack-requires-2
+    put-requires
+    add-put
+    put-requires-2
+    add-put-2
+    put-requires-3
+    add-put-3
+    put-requires-4
+    same-length
+    returns)

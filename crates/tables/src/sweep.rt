@@ -1,0 +1,272 @@
+// Passes over the entries of a pattern's table: each entry falls to what an action says of it, until no action says less of any.
+ghost use mathlib.Core.Path.{_≡_};
+ghost use mathlib.Core.Bool.{cond};
+ghost use Prim.Native.Nat.{ℕ, _+_, _*_, _≤_, _<_};
+ghost use lib.Dec.{eqb};
+ghost use lib.ListN.{length, getD};
+ghost use Rattle.tables.specs.Packed.{outcomeCount};
+ghost use Rattle.tables.specs.Steps.{weigh, space, isGoal, permitted, after, touches, worst, raised, outcomeEntry, offer, lowers, relaxed, started, Readable, RowSwept, RowPassed, Swept, Settled};
+
+fn wide(x: u16) -> usize
+    ensures { λ r. ⌜ (r ≡ x) × (r < 65536) ⌝ }
+{
+    x as usize
+}
+
+// Entry j, and infinite past the end.
+pub(crate) fn entry_at(entries: &[u16], j: usize) -> u16
+    ensures { λ r. ⌜ r ≡ getD (now (entries .entry)) j 65535 ⌝ }
+{
+    if j < entries.len() {
+        return entries[j];
+    }
+    65535
+}
+
+// A digit times a weight.
+fn times(x: u64, w: u16) -> usize
+    requires { ⌜ x < 16 ⌝ }
+    ensures { λ r. ⌜ (r ≡ x * w) × (r ≤ 983025) ⌝ }
+{
+    let y = x as usize;
+    y * wide(w)
+}
+
+// The index of a word. It ends with the last digit that is not 0.
+pub(crate) fn index_of(weights: &[u16; 16], s: u64) -> usize
+    ensures { λ r. ⌜ r ≡ weigh (now (weights .entry)) s ⌝ }
+{
+    let mut sum = 0usize;
+    let mut rest = s;
+    let mut v = 0usize;
+    while v < 16 {
+        if rest == 0 {
+            return sum;
+        }
+        sum = sum + times(rest % 16, weights[v]);
+        rest = rest / 16;
+        v += 1;
+    }
+    sum
+}
+
+pub(crate) fn at_goal(task: &[u64; 1282], mask: u64, s: u64) -> bool
+    ensures { λ r. ⌜ r ≡ isGoal (now (task .entry)) mask s ⌝ }
+{
+    s & (task[1280] & mask) == task[1281] & mask
+}
+
+fn permits(task: &[u64; 1282], mask: u64, m: usize, s: u64) -> bool
+    requires { ⌜ m < 64 ⌝ }
+    ensures { λ r. ⌜ r ≡ permitted (now (task .entry)) mask m s ⌝ }
+{
+    s & (task[20 * m] & mask) == task[20 * m + 1] & mask
+}
+
+fn state_after(task: &[u64; 1282], mask: u64, m: usize, o: usize, s: u64) -> u64
+    requires { ⌜ (m < 64) × (o < 8) ⌝ }
+    ensures { λ r. ⌜ r ≡ after (now (task .entry)) mask m o s ⌝ }
+{
+    ((s & task[20 * m + 4 + 2 * o]) | task[20 * m + 5 + 2 * o]) & mask
+}
+
+// The largest entry among the outcomes.
+fn worst_entry(
+    task: &[u64; 1282],
+    mask: u64,
+    weights: &[u16; 16],
+    entries: &[u16],
+    m: usize,
+    s: u64,
+) -> u16
+    requires { ⌜ (m < 64) × (outcomeCount (now task) m ≤ 8) ⌝ }
+    ensures { λ r. ⌜ r ≡ worst (outcomeEntry (now (task .entry)) mask (now (weights .entry)) (now (entries .entry)) m s) 0 (outcomeCount (now (task .entry)) m) ⌝ }
+{
+    let n = task[20 * m + 2] as usize;
+    let mut most = 0u16;
+    let mut o = 0usize;
+    while o < n {
+        let e = entry_at(entries, index_of(weights, state_after(task, mask, m, o, s)));
+        if most < e {
+            most = e;
+        }
+        o += 1;
+    }
+    most
+}
+
+// A sum that reaches 65,535 counts as infinite.
+fn raise(w: u64, v: u16) -> u16
+    ensures { λ r. ⌜ r ≡ raised w v ⌝ }
+{
+    if w >= 65535 {
+        return 65535;
+    }
+    let sum = w as usize + wide(v);
+    if sum >= 65535 {
+        return 65535;
+    }
+    sum as u16
+}
+
+// What an action says of the entry of a state.
+fn offer_of(
+    task: &[u64; 1282],
+    mask: u64,
+    weights: &[u16; 16],
+    entries: &[u16],
+    m: usize,
+    s: u64,
+) -> u16
+    requires { ⌜ (m < 64) × (outcomeCount (now task) m ≤ 8) ⌝ }
+    ensures { λ r. ⌜ r ≡ offer (now (task .entry)) mask (now (weights .entry)) (now (entries .entry)) m s ⌝ }
+{
+    raise(
+        task[20 * m + 3],
+        worst_entry(task, mask, weights, entries, m, s),
+    )
+}
+
+// Lowers an entry to what an action says of it, where that is less, and says whether it did.
+pub(crate) fn try_action(
+    task: &[u64; 1282],
+    mask: u64,
+    weights: &[u16; 16],
+    entries: &mut [u16],
+    m: usize,
+    i: usize,
+    s: u64,
+) -> bool
+    requires { ⌜ (m < 64) × (outcomeCount (now task) m ≤ 8) × (i < length (now entries)) ⌝ }
+    ensures told { λ r. ⌜ r ≡ lowers (now (task .entry)) mask (now (weights .entry)) (now (entries .entry)) m i s ⌝ }
+    ensures left { λ _. ⌜ now (entries .exit) ≡ relaxed (now (task .entry)) mask (now (weights .entry)) (now (entries .entry)) m i s ⌝ }
+{
+    if !permits(task, mask, m, s) {
+        return false;
+    }
+    let v = offer_of(task, mask, weights, entries, m, s);
+    if v < entries[i] {
+        entries[i] = v;
+        return true;
+    }
+    false
+}
+
+// One pass with one action.
+fn sweep_action(
+    task: &[u64; 1282],
+    mask: u64,
+    weights: &[u16; 16],
+    states: &[u64],
+    actions: usize,
+    entries: &mut [u16],
+    m: usize,
+) -> bool
+    requires { ⌜ (Readable (now task) actions) × (m < actions) × (length (now entries) ≤ length (now states)) ⌝ }
+    ensures { λ r. ⌜ RowSwept (space (now (task .entry)) mask (now (weights .entry)) (now (states .entry)) actions) m (now (entries .entry)) (now (entries .exit)) r ⌝ }
+{
+    let mut changed = false;
+    let mut i = 0usize;
+    while i < entries.len() {
+        if try_action(task, mask, weights, entries, m, i, states[i]) {
+            changed = true;
+        }
+        i += 1;
+    }
+    changed
+}
+
+// Whether an outcome names a variable of the pattern. Where none does, an action leads from each abstract state to itself.
+pub(crate) fn touches_pattern(task: &[u64; 1282], mask: u64, m: usize) -> bool
+    requires { ⌜ (m < 64) × (outcomeCount (now task) m ≤ 8) ⌝ }
+    ensures { λ r. ⌜ r ≡ touches (now (task .entry)) mask m ⌝ }
+{
+    let n = task[20 * m + 2] as usize;
+    let mut o = 0usize;
+    while o < n {
+        if task[20 * m + 4 + 2 * o] & mask != mask {
+            return true;
+        }
+        o += 1;
+    }
+    false
+}
+
+// The same, where an action that does not touch the pattern is passed over.
+fn pass_action(
+    task: &[u64; 1282],
+    mask: u64,
+    weights: &[u16; 16],
+    states: &[u64],
+    actions: usize,
+    entries: &mut [u16],
+    m: usize,
+) -> bool
+    requires { ⌜ (Readable (now task) actions) × (m < actions) × (length (now entries) ≤ length (now states)) ⌝ }
+    ensures { λ r. ⌜ RowPassed (space (now (task .entry)) mask (now (weights .entry)) (now (states .entry)) actions) m (now (entries .entry)) (now (entries .exit)) r ⌝ }
+{
+    if !touches_pattern(task, mask, m) {
+        return false;
+    }
+    sweep_action(task, mask, weights, states, actions, entries, m)
+}
+
+// One pass with every action.
+fn sweep(
+    task: &[u64; 1282],
+    mask: u64,
+    weights: &[u16; 16],
+    states: &[u64],
+    actions: usize,
+    entries: &mut [u16],
+) -> bool
+    requires { ⌜ (Readable (now task) actions) × (length (now entries) ≤ length (now states)) ⌝ }
+    ensures { λ r. ⌜ Swept (space (now (task .entry)) mask (now (weights .entry)) (now (states .entry)) actions) (now (entries .entry)) (now (entries .exit)) r ⌝ }
+{
+    let mut changed = false;
+    let mut m = 0usize;
+    while m < actions {
+        if pass_action(task, mask, weights, states, actions, entries, m) {
+            changed = true;
+        }
+        m += 1;
+    }
+    changed
+}
+
+// Passes until one changes nothing.
+pub(crate) fn settle(
+    task: &[u64; 1282],
+    mask: u64,
+    weights: &[u16; 16],
+    states: &[u64],
+    actions: usize,
+    entries: &mut [u16],
+)
+    requires { ⌜ (Readable (now task) actions) × (length (now entries) ≤ length (now states)) ⌝ }
+    ensures { λ _. ⌜ Settled (space (now (task .entry)) mask (now (weights .entry)) (now (states .entry)) actions) (now (entries .entry)) (now (entries .exit)) ⌝ }
+{
+    while sweep(task, mask, weights, states, actions, entries) {}
+}
+
+// The entry of a state before the first pass.
+fn first_entry(task: &[u64; 1282], mask: u64, s: u64) -> u16
+    ensures { λ r. ⌜ r ≡ cond (isGoal (now (task .entry)) mask s) 0 65535 ⌝ }
+{
+    if at_goal(task, mask, s) {
+        return 0;
+    }
+    65535
+}
+
+// 0 at the goals, infinite elsewhere.
+pub(crate) fn start(task: &[u64; 1282], mask: u64, states: &[u64], entries: &mut [u16])
+    requires { ⌜ length (now entries) ≤ length (now states) ⌝ }
+    ensures { λ _. ⌜ now (entries .exit) ≡ started (now (task .entry)) mask (now (states .entry)) (length (now (entries .entry))) ⌝ }
+{
+    let mut next = 0usize;
+    while next < entries.len() {
+        entries[next] = first_entry(task, mask, states[next]);
+        next += 1;
+    }
+}
