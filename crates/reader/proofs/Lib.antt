@@ -1,5 +1,5 @@
 -- The laws about the definitions of specs/. The record: tests and scans, its check, cells and the task of a sound record. The text: how
--- it splits into lines and pieces, what a line does, the last line, the sample.
+-- it splits into lines and pieces, what a line does, the last line, that a record that was read is sound, the sample.
 pub mod Tests
 pub mod Scanning
 pub mod Sixteens
@@ -21,4 +21,12 @@ pub mod Pairs
 pub mod Items
 pub mod Lines
 pub mod LastLine
+pub mod StoredCells
+pub mod ListCells
+pub mod Filling
+pub mod FillingSteps
+pub mod LongerRecords
+pub mod Begun
+pub mod LinesKept
+pub mod ReadSound
 pub mod Sample
