@@ -60,7 +60,7 @@ fn value_of(s: &[u8]) -> usize
 }
 
 // A decimal number, or none.
-pub fn number(s: &[u8]) -> Decimal
+pub(crate) fn number(s: &[u8]) -> Decimal
     ensures { λ r. ⌜ r ≡ numberOf (now (s .entry)) ⌝ }
 {
     if well_formed(s) {

@@ -3,11 +3,11 @@
 mod blank;
 mod blocks;
 pub mod cells;
-pub mod decimal;
-pub mod grammar;
+mod decimal;
+mod grammar;
 mod layout;
-pub mod lists;
-pub mod order;
+mod lists;
+mod order;
 mod pieces;
 pub mod record;
 mod store;

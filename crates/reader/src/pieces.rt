@@ -9,7 +9,7 @@ pub const COMMA: u8 = 44;
 pub const COLON: u8 = 58;
 
 // The index of the first b, or the length where there is none.
-pub fn find(s: &[u8], b: u8) -> usize
+pub(crate) fn find(s: &[u8], b: u8) -> usize
     ensures { λ r. ⌜ r ≡ indexOf b (now (s .entry)) ⌝ }
 {
     let mut i = 0;
@@ -23,7 +23,7 @@ pub fn find(s: &[u8], b: u8) -> usize
 }
 
 // The index of the first a or b, or the length where there is neither.
-pub fn find_either(s: &[u8], a: u8, b: u8) -> usize
+pub(crate) fn find_either(s: &[u8], a: u8, b: u8) -> usize
     ensures { λ r. ⌜ r ≡ indexOfEither a b (now (s .entry)) ⌝ }
 {
     let mut i = 0;
@@ -41,7 +41,7 @@ pub fn find_either(s: &[u8], a: u8, b: u8) -> usize
 }
 
 // Whether the line begins with the key.
-pub fn has_key(line: &[u8], key: &[u8]) -> bool
+pub(crate) fn has_key(line: &[u8], key: &[u8]) -> bool
     ensures { λ r. ⌜ r ≡ hasKey (now (key .entry)) (now (line .entry)) ⌝ }
 {
     let mut i = 0;
