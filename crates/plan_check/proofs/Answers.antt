@@ -6,11 +6,11 @@ use native.Mathlib.Nat.{zero-add, sub-zero}
 use borrow.Author.Tests.{lt-ltb, le-ltb, eq-eqb}
 use lib.ListN.{length}
 use Rattle.planning.specs.PlanCheck.{checkPlan, mostMoves}
-use Rattle.reader.specs.Record.{stateCellOk, Sound}
-use Rattle.reader.specs.State.{firstBadValue, judgeState, afterRecord, stateCheck}
-use Rattle.reader.specs.declared.record.StateCheck.the-variants as of-state
-use Rattle.reader.proofs.Scanning.{first-none}
-use Rattle.reader.proofs.States.{GoodState}
+use Rattle.task_record.specs.Record.{stateCellOk, Sound}
+use Rattle.task_record.specs.State.{firstBadValue, judgeState, afterRecord, stateCheck}
+use Rattle.task_record.specs.declared.record.StateCheck.the-variants as of-state
+use Rattle.task_record.proofs.Scanning.{first-none}
+use Rattle.task_record.proofs.States.{GoodState}
 use Rattle.plan_check.specs.declared.check.PlanCheck.the-variants as answer
 use Rattle.plan_check.specs.declared.walk.Walk.the-variants as walk
 use Rattle.plan_check.specs.Tower.{tower}

@@ -7,11 +7,11 @@ use Prim.Native.Nat.{ℕ}
 use native.Mathlib.Omega.{arith}
 use Rattle.planning.specs.PlanCheck.{Checked, passed, refused, checkPlan, mostMoves}
 use Rattle.planning.proofs.PlanCheck.{check-exact}
-use Rattle.reader.specs.Record.{Sound}
-use Rattle.reader.specs.State.{stateCheck}
-use Rattle.reader.proofs.States.{GoodState, checked-good}
-use Rattle.reader.specs.declared.record.StateCheck.{StateCheck}
-use Rattle.reader.specs.declared.record.StateCheck.the-variants as of-state
+use Rattle.task_record.specs.Record.{Sound}
+use Rattle.task_record.specs.State.{stateCheck}
+use Rattle.task_record.proofs.States.{GoodState, checked-good}
+use Rattle.task_record.specs.declared.record.StateCheck.{StateCheck}
+use Rattle.task_record.specs.declared.record.StateCheck.the-variants as of-state
 use Rattle.plan_check.specs.declared.check.PlanCheck.{PlanCheck}
 use Rattle.plan_check.specs.declared.check.PlanCheck.the-variants as answer
 use Rattle.plan_check.specs.Tower.{tower, valuesOf}

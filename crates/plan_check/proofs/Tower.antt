@@ -12,12 +12,12 @@ use Rattle.planning.specs.Finite.{Some, tabulate}
 use Rattle.planning.specs.Task.{meets, apply, permits, system}
 use Rattle.planning.proofs.Finite.{length-tabulate, getD-tabulate, getD-map}
 use Rattle.planning.proofs.Task.{task-filled}
-use Rattle.reader.specs.Layout.{atGoal, atPrecondition, atOutcome}
-use Rattle.reader.specs.Numbers.{actionCount, outcomeCount}
-use Rattle.reader.specs.Record.{Sound}
-use Rattle.reader.specs.TaskOf.{cellsAt, actionOf, taskOf}
-use Rattle.reader.proofs.SoundTask.{actions-right, sound-well-formed}
-use Rattle.reader.proofs.States.{action-of-task, actions-of-task, goal-of-values, precondition-of-values, outcome-of-values}
+use Rattle.task_record.specs.Layout.{atGoal, atPrecondition, atOutcome}
+use Rattle.task_record.specs.Numbers.{actionCount, outcomeCount}
+use Rattle.task_record.specs.Record.{Sound}
+use Rattle.task_record.specs.TaskOf.{cellsAt, actionOf, taskOf}
+use Rattle.task_record.proofs.SoundTask.{actions-right, sound-well-formed}
+use Rattle.task_record.proofs.States.{action-of-task, actions-of-task, goal-of-values, precondition-of-values, outcome-of-values}
 use Rattle.plan_check.specs.declared.walk.Walk.{Walk}
 use Rattle.plan_check.specs.declared.walk.Walk.the-variants as walk
 use Rattle.plan_check.specs.Walk.{branchesAt, successorsFrom}

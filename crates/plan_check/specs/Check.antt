@@ -3,9 +3,9 @@
 use mathlib.Core.List.{List}
 use Prim.Native.Nat.{ℕ}
 use Rattle.planning.specs.PlanCheck.{Checked, passed, refused, checkPlan, mostMoves}
-use Rattle.reader.specs.State.{stateCheck}
-use Rattle.reader.specs.declared.record.StateCheck.{StateCheck}
-use Rattle.reader.specs.declared.record.StateCheck.the-variants as of-state
+use Rattle.task_record.specs.State.{stateCheck}
+use Rattle.task_record.specs.declared.record.StateCheck.{StateCheck}
+use Rattle.task_record.specs.declared.record.StateCheck.the-variants as of-state
 use Rattle.plan_check.specs.declared.check.PlanCheck.{PlanCheck}
 use Rattle.plan_check.specs.declared.check.PlanCheck.the-variants as answer
 use Rattle.plan_check.specs.Tower.{tower, valuesOf}

@@ -4,8 +4,8 @@ use Prim.Native.Nat.{ℕ}
 use lib.ListN.{take}
 use Rattle.planning.specs.System.{System}
 use Rattle.planning.specs.Task.{system}
-use Rattle.reader.specs.Numbers.{variableCount}
-use Rattle.reader.specs.TaskOf.{taskOf}
+use Rattle.task_record.specs.Numbers.{variableCount}
+use Rattle.task_record.specs.TaskOf.{taskOf}
 
 -- The task of the record, as a transition system.
 unfoldable pub tower : List ℕ → System (List ℕ)

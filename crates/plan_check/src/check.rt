@@ -1,14 +1,14 @@
 // The check of a plan on three lent slices: record, state and plan. It accepts all inputs, and only reads.
 ghost use mathlib.Core.Path.{_≡_};
 ghost use Rattle.planning.specs.PlanCheck.{checkPlan, mostMoves};
-ghost use Rattle.reader.specs.Record.{Sound};
+ghost use Rattle.task_record.specs.Record.{Sound};
 ghost use Rattle.plan_check.specs.Tower.{tower, valuesOf};
 ghost use Rattle.plan_check.specs.Check.{answerOf, planCheck};
 use crate::walk::Walk;
 use crate::walk::walk_from;
-use reader::cells::state_of;
-use reader::record::StateCheck;
-use reader::record::check_state;
+use task_record::cells::state_of;
+use task_record::record::StateCheck;
+use task_record::record::check_state;
 
 // "at most 32 moves depth"
 const MOST_MOVES: u8 = 32;

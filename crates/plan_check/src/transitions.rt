@@ -3,15 +3,15 @@ ghost use mathlib.Core.Path.{_≡_};
 ghost use mathlib.Core.List.{_∷_};
 ghost use Prim.Native.Nat.{_+_, _<_};
 ghost use Rattle.planning.specs.System.{applies};
-ghost use Rattle.reader.specs.Record.{Sound};
-ghost use Rattle.reader.specs.Numbers.{outcomeCount};
+ghost use Rattle.task_record.specs.Record.{Sound};
+ghost use Rattle.task_record.specs.Numbers.{outcomeCount};
 ghost use Rattle.plan_check.specs.Walk.{successorsFrom};
 ghost use Rattle.plan_check.specs.Tower.{tower, valuesOf};
-use reader::cells::apply;
-use reader::cells::goal_cells;
-use reader::cells::meets;
-use reader::cells::outcome_cells;
-use reader::cells::precondition_cells;
+use task_record::cells::apply;
+use task_record::cells::goal_cells;
+use task_record::cells::meets;
+use task_record::cells::outcome_cells;
+use task_record::cells::precondition_cells;
 
 pub(crate) fn at_goal(rec: &[u8], state: [u8; 16]) -> bool
     requires { ⌜ Sound (now rec) ⌝ }

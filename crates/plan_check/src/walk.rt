@@ -3,14 +3,14 @@
 ghost use mathlib.Core.Path.{_≡_};
 ghost use Prim.Native.Nat.{_≤_, _<_, max};
 ghost use lib.ListN.{length};
-ghost use Rattle.reader.specs.Record.{Sound};
+ghost use Rattle.task_record.specs.Record.{Sound};
 ghost use Rattle.plan_check.specs.Walk.{judgeByte, branchesAt, successorsFrom, walkAt};
 ghost use Rattle.plan_check.specs.Tower.{tower, valuesOf};
 use crate::transitions::action_applies;
 use crate::transitions::at_goal;
 use crate::transitions::state_after;
-use reader::cells::action_count;
-use reader::cells::outcome_count;
+use task_record::cells::action_count;
+use task_record::cells::outcome_count;
 
 // What the byte at an offset says of a state: the number of a refusal, that the plan arrives there, or an action that applies.
 pub(crate) enum Judged {

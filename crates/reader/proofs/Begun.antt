@@ -7,8 +7,8 @@ use lib.Dec.{leb}
 use lib.ListN.{length, drop, set}
 use lib.Seq.{sets}
 use borrow.Author.Tests.{leb-true}
-use Rattle.reader.specs.Layout.{atBudget}
-use Rattle.reader.specs.Numbers.{variableCount, actionCount, patternCount, outcomeCount}
+use Rattle.task_record.specs.Layout.{atBudget}
+use Rattle.task_record.specs.Numbers.{variableCount, actionCount, patternCount, outcomeCount}
 use Rattle.reader.specs.Text.{hasKey, numberOf}
 use Rattle.reader.specs.Lists.{Gathered, listOf, wholeList}
 use Rattle.reader.specs.Grammar.{Line, taken, faulty, goOn, takeNumber, budgetBytes, takeBudget, takeList, numberLine, budgetLine, listLine}
@@ -17,7 +17,7 @@ use Rattle.reader.specs.declared.decimal.Decimal.the-variants.{Value, Ma
 use Rattle.reader.specs.declared.lists.Kind.{Kind}
 use Rattle.reader.specs.declared.order.Due.{Due}
 use Rattle.reader.specs.declared.order.Due.the-variants.{Vars, Size, Moves, Need, Outcomes, Eff, Goal, Start, Patterns, Pattern, Limit, Budget, End}
-use Rattle.reader.proofs.Tests.{both-left, both-right}
+use Rattle.task_record.proofs.Tests.{both-left, both-right}
 use Rattle.reader.proofs.Filling.{Filled, Started}
 
 -- Up to the start, no pattern is given; N is known and every size is given.

@@ -11,7 +11,7 @@ use lib.Dec.{leb, eqb}
 use lib.ListN.{length, drop, getD, drop-of-length-le}
 use borrow.Author.Tests.{leb-true}
 use Rattle.reader.specs.Text.{digit, digits, value, wellFormed}
-use Rattle.reader.proofs.Rest.{drop-step}
+use Rattle.task_record.proofs.Rest.{drop-step}
 
 pub digits-step : (s : List ℕ) (i : ℕ) → i < length s → digits (drop i s) ≡ (digit (getD s i 0) && digits (drop (i + 1) s))
 unfolding digits

@@ -9,14 +9,14 @@ use native.Mathlib.Omega.{arith}
 use lib.Dec.{ltb, leb, eqb}
 use lib.ListN.{length}
 use borrow.Author.Tests.{lt-ltb, ltb-true, ltb-false, le-leb, leb-true, eq-eqb}
-use Rattle.reader.specs.Layout.{recordSize, atSizes, atGoal, atStart, atPattern, atAction}
-use Rattle.reader.specs.Numbers.{byte, variableCount, actionCount, patternCount, limitOf, budgetOf, sizeOf, outcomeCount}
-use Rattle.reader.specs.Record.{headOk, sizeOk, valueOk, assignmentOk, stateOk, stateCellOk, patternOk, countOk, cellOk, Sound}
+use Rattle.task_record.specs.Layout.{recordSize, atSizes, atGoal, atStart, atPattern, atAction}
+use Rattle.task_record.specs.Numbers.{byte, variableCount, actionCount, patternCount, limitOf, budgetOf, sizeOf, outcomeCount}
+use Rattle.task_record.specs.Record.{headOk, sizeOk, valueOk, assignmentOk, stateOk, stateCellOk, patternOk, countOk, cellOk, Sound}
 use Rattle.reader.specs.Grammar.{blank}
 use Rattle.planning.proofs.Test.{by-test}
-use Rattle.reader.proofs.Tests.{both, both-left, both-right, either, one-of}
-use Rattle.reader.proofs.Offsets.{size-at, goal-at, start-at, pattern-at, count-at, block-at}
-use Rattle.reader.proofs.Soundness.{every-cell-sound}
+use Rattle.task_record.proofs.Tests.{both, both-left, both-right, either, one-of}
+use Rattle.task_record.proofs.Offsets.{size-at, goal-at, start-at, pattern-at, count-at, block-at}
+use Rattle.task_record.proofs.Soundness.{every-cell-sound}
 use Rattle.reader.proofs.StoredCells.{inside-or-outside, blank-whole, blank-front, blank-states, blank-patterns, blank-count, blank-block}
 
 -- The numbers by which rows are judged do not fall from r to e.

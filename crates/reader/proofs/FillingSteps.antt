@@ -10,13 +10,13 @@ use lib.Dec.{ltb, leb, eqb}
 use lib.ListN.{length, getD, set, length-set}
 use lib.Seq.{sets, length-sets, getD-set-same, getD-set-other}
 use borrow.Author.Tests.{lt-ltb, ltb-true, ltb-false, le-leb, eqb-true, eqb-false, eq-eqb}
-use Rattle.reader.specs.Layout.{recordSize, atLimit, atBudget, atSizes, atGoal, atStart, atPattern, atAction}
-use Rattle.reader.specs.Numbers.{byte, variableCount, actionCount, patternCount, budgetOf, sizeOf, outcomeCount}
-use Rattle.reader.specs.Record.{valueOk, assignmentOk, stateOk, patternOk}
+use Rattle.task_record.specs.Layout.{recordSize, atLimit, atBudget, atSizes, atGoal, atStart, atPattern, atAction}
+use Rattle.task_record.specs.Numbers.{byte, variableCount, actionCount, patternCount, budgetOf, sizeOf, outcomeCount}
+use Rattle.task_record.specs.Record.{valueOk, assignmentOk, stateOk, patternOk}
 use Rattle.reader.specs.Grammar.{budgetBytes}
 use Rattle.planning.proofs.Test.{by-test}
-use Rattle.reader.proofs.Tests.{both, both-left, both-right, either, one-of}
-use Rattle.reader.proofs.SoundTask.{Assigns}
+use Rattle.task_record.proofs.Tests.{both, both-left, both-right, either, one-of}
+use Rattle.task_record.proofs.SoundTask.{Assigns}
 use Rattle.reader.proofs.StoredCells.{outside-sets, inside-sets}
 use Rattle.reader.proofs.ListCells.{Marks, Valued}
 use Rattle.reader.proofs.Filling.{Grown, assignment-grown, pattern-grown, atBlock, usedBlock, used-grown, Rows, rows-kept, heads-kept, given-kept, Filled, Started}

@@ -8,7 +8,7 @@ use native.Mathlib.Omega.{arith}
 use lib.Dec.{eqb}
 use lib.ListN.{length, drop, getD, drop-of-length-le}
 use Rattle.reader.specs.Text.{hasKey}
-use Rattle.reader.proofs.Rest.{drop-step}
+use Rattle.task_record.proofs.Rest.{drop-step}
 
 -- a key's byte and the line's byte at i decide, with the rest
 pub key-step : (key line : List ℕ) (i : ℕ) → i < length key → i < length line

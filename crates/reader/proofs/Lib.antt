@@ -1,18 +1,5 @@
--- The laws about the definitions of specs/. The record: tests and scans, its check, cells and the task of a sound record. The text: how
--- it splits into lines and pieces, what a line does, the last line, that a record that was read is sound, the sample.
-pub mod Tests
-pub mod Scanning
-pub mod Sixteens
-pub mod BlockRows
-pub mod Offsets
-pub mod Windows
-pub mod Parts
-pub mod Soundness
-pub mod Cellwise
-pub mod Fronts
-pub mod SoundTask
-pub mod States
-pub mod Rest
+-- The laws about the definitions of specs/: how a text splits into lines and pieces, what a line does, the last line, that a record that was
+-- read is sound, that every sound record has a text, the sample.
 pub mod Split
 pub mod Keys
 pub mod Decimals
@@ -25,8 +12,15 @@ pub mod StoredCells
 pub mod ListCells
 pub mod Filling
 pub mod FillingSteps
-pub mod LongerRecords
 pub mod Begun
 pub mod LinesKept
 pub mod ReadSound
+pub mod WrittenNumbers
+pub mod WrittenPieces
+pub mod WrittenLists
+pub mod WrittenCells
+pub mod WrittenLines
+pub mod WrittenStores
+pub mod WrittenOrder
+pub mod Complete
 pub mod Sample

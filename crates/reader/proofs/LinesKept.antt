@@ -7,8 +7,8 @@ use lib.Dec.{ltb}
 use lib.ListN.{set}
 use lib.Seq.{sets}
 use borrow.Author.Tests.{ltb-true, ltb-false, eqb-true}
-use Rattle.reader.specs.Layout.{atLimit, atBudget, atSizes, atGoal, atStart, atPattern, atAction, atPrecondition, atOutcome}
-use Rattle.reader.specs.Numbers.{byte, variableCount, actionCount, patternCount, outcomeCount}
+use Rattle.task_record.specs.Layout.{atLimit, atBudget, atSizes, atGoal, atStart, atPattern, atAction, atPrecondition, atOutcome}
+use Rattle.task_record.specs.Numbers.{byte, variableCount, actionCount, patternCount, outcomeCount}
 use Rattle.reader.specs.Lists.{listOf}
 use Rattle.reader.specs.Grammar.{actionFrom, patternFrom, nextDue, budgetBytes, takeLine}
 use Rattle.reader.specs.declared.lists.Kind.the-variants.{Pairs, Values, Members}

@@ -9,8 +9,8 @@ use lib.Dec.{ltb, leb, eqb}
 use lib.ListN.{length, getD, set, length-set, length-replicate, getD-replicate}
 use lib.Seq.{getD-set-same, getD-set-other}
 use borrow.Author.Tests.{eqb-true, eqb-false}
-use Rattle.reader.specs.Numbers.{variableCount, sizeOf}
-use Rattle.reader.specs.Record.{valueOk, assignmentOk}
+use Rattle.task_record.specs.Numbers.{variableCount, sizeOf}
+use Rattle.task_record.specs.Record.{valueOk, assignmentOk}
 use Rattle.reader.specs.Text.{numberOf}
 use Rattle.reader.specs.Lists.{pairFrom, pairOf, itemOf, pairFits, Gathered, pairStep, listFrom, listed, noItems, listOf}
 use Rattle.reader.specs.declared.decimal.Decimal.{Decimal}
@@ -20,8 +20,8 @@ use Rattle.reader.specs.declared.lists.Pair.the-variants.{Named, Ill}
 use Rattle.reader.specs.declared.lists.Kind.{Kind}
 use Rattle.reader.specs.declared.lists.Kind.the-variants.{Pairs, Values, Members}
 use Rattle.planning.proofs.Test.{by-test}
-use Rattle.reader.proofs.Tests.{both, both-left, both-right, either}
-use Rattle.reader.proofs.SoundTask.{Assigns}
+use Rattle.task_record.proofs.Tests.{both, both-left, both-right, either}
+use Rattle.task_record.proofs.SoundTask.{Assigns}
 
 -- What every piece keeps, the list keeps.
 pub list-keeps : (r : List ℕ) (kind : Kind) (P : Gathered → Type 0) → ((g : Gathered) (p : List ℕ) → P g → P (pairStep r g (itemOf kind (g .next) p)))

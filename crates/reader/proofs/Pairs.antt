@@ -14,7 +14,7 @@ use Rattle.reader.specs.declared.decimal.Decimal.{Decimal}
 use Rattle.reader.specs.declared.lists.Pair.the-variants.{Ill}
 use Rattle.reader.specs.Text.{comma, colon, indexOf, indexOfEither, numberOf}
 use Rattle.reader.specs.Lists.{firstPiece, pairFrom, pairOf}
-use Rattle.reader.proofs.Rest.{drop-step}
+use Rattle.task_record.proofs.Rest.{drop-step}
 use Rattle.reader.proofs.Items.{pair-no-colon, pair-parts}
 
 -- one byte further

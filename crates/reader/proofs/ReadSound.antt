@@ -9,8 +9,8 @@ use lib.Dec.{ltb}
 use lib.ListN.{length, drop, take, length-take}
 use lib.Seq.{take-at}
 use borrow.Author.Tests.{le-ltb, ltb-false}
-use Rattle.reader.specs.Layout.{recordSize}
-use Rattle.reader.specs.Record.{Sound}
+use Rattle.task_record.specs.Layout.{recordSize}
+use Rattle.task_record.specs.Record.{Sound}
 use Rattle.reader.specs.Text.{linesOf}
 use Rattle.reader.specs.Grammar.{ended, Line, taken, faulty, takeLine, Whole, complete, refused, proceed, readFrom, blank, readWhole, answerOf, readAnswer, readLeaves}
 use Rattle.reader.specs.declared.order.Due.{Due}
@@ -18,8 +18,8 @@ use Rattle.reader.specs.declared.order.Due.the-variants.{Vars, Size, Mov
 use Rattle.reader.specs.declared.text.Reading.{Reading}
 use Rattle.reader.specs.declared.text.Reading.the-variants.{Read, Refused}
 use Rattle.planning.proofs.Test.{by-test}
-use Rattle.reader.proofs.Soundness.{sound-length}
-use Rattle.reader.proofs.LongerRecords.{check-of-front}
+use Rattle.task_record.proofs.Soundness.{sound-length}
+use Rattle.task_record.proofs.LongerRecords.{check-of-front}
 use Rattle.reader.proofs.StoredCells.{blank-front}
 use Rattle.reader.proofs.Filling.{blank-filled, filled-sound}
 use Rattle.reader.proofs.Begun.{Settled, Begun, Kept}

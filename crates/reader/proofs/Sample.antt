@@ -4,7 +4,7 @@ use mathlib.Core.Path.{_≡_, refl}
 use mathlib.Core.List.{List, [], _∷_, _++_, map}
 use Prim.Native.Nat.{ℕ, _+_}
 use lib.ListN.{take, replicate}
-use Rattle.reader.specs.Layout.{recordSize}
+use Rattle.task_record.specs.Layout.{recordSize}
 use Rattle.reader.specs.Bytes.{bytes}
 use Rattle.reader.specs.Text.{indexOf, linesOf, pieces, hasKey, digits, value, wellFormed, numberOf}
 use Rattle.reader.specs.Lists.{pairOf, itemOf, pairFits, pairStep, listFrom, listed, noItems, listOf}

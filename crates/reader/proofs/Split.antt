@@ -12,7 +12,7 @@ use lib.ListN.{length, take, drop, getD, length-drop, drop-of-length-le}
 use lib.Seq.{drop-drop}
 use borrow.Author.Tests.{lt-ltb, le-ltb, le-leb, lt-leb, eq-eqb, ne-eqb}
 use Rattle.reader.specs.Text.{lineBreak, indexOf, push, pieces, linesOf}
-use Rattle.reader.proofs.Rest.{drop-step}
+use Rattle.task_record.proofs.Rest.{drop-step}
 
 pub index-hit : (s : List ℕ) (i b : ℕ) → i < length s → getD s i 0 ≡ b → indexOf b (drop i s) ≡ 0
 unfolding indexOf

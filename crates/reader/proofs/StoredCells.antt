@@ -7,8 +7,8 @@ use lib.Dec.{ltb}
 use lib.ListN.{length, getD, set, replicate, length-set, getD-replicate, List·getD-append}
 use lib.Seq.{sets, getD-set-same, getD-set-other, getD-append-add}
 use borrow.Author.Tests.{ltb-true, ltb-false}
-use Rattle.reader.specs.Layout.{recordSize, atGoal, atPattern, atAction}
-use Rattle.reader.specs.Numbers.{byte}
+use Rattle.task_record.specs.Layout.{recordSize, atGoal, atPattern, atAction}
+use Rattle.task_record.specs.Numbers.{byte}
 use Rattle.reader.specs.Grammar.{unusedAction, unusedActions, blank}
 use Rattle.planning.proofs.Test.{by-test}
 

@@ -8,10 +8,10 @@ use native.Mathlib.Nat.{lt-of-not-le}
 use native.Mathlib.Omega.{arith}
 use lib.ListN.{length, drop, getD, set, replicate, drop-of-length-le}
 use lib.Seq.{sets, sets-eq, set-out}
-use Rattle.reader.specs.Layout.{atGoal, atPattern, atAction}
+use Rattle.task_record.specs.Layout.{atGoal, atPattern, atAction}
 use Rattle.reader.specs.Grammar.{unusedAction, unusedActions, blank}
 use Rattle.reader.specs.Stores.{allUnnamed, clearActions}
-use Rattle.reader.proofs.Rest.{drop-step}
+use Rattle.task_record.proofs.Rest.{drop-step}
 
 -- one store more of a run of stores
 pub sets-step : (r vs : List ℕ) (at i : ℕ) → i < length vs → sets r (at + i) (drop i vs) ≡ sets (set r (at + i) (getD vs i 0)) (at + (i + 1)) (drop (i + 1) vs)

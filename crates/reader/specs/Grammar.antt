@@ -6,7 +6,7 @@ use mathlib.Core.List.{List, [], _∷_, _++_}
 use lib.ListN.{length, getD, drop, set, replicate}
 use lib.Seq.{sets}
 use lib.Dec.{ltb, leb}
-use Rattle.reader.specs.Layout.{recordSize, atVariables, atActions, atPatterns, atLimit, atBudget, atSizes, atGoal, atStart, atPattern, atAction, atPrecondition, atOutcome}
+use Rattle.task_record.specs.Layout.{recordSize, atVariables, atActions, atPatterns, atLimit, atBudget, atSizes, atGoal, atStart, atPattern, atAction, atPrecondition, atOutcome}
 use Rattle.reader.specs.Bytes.{bytes}
 use Rattle.reader.specs.Text.{linesOf, hasKey, numberOf}
 use Rattle.reader.specs.Lists.{Gathered, listOf, wholeList}

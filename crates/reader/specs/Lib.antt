@@ -1,16 +1,8 @@
--- The definitions that the contracts cite. The record: where each cell stands, what it may hold, what the checks answer, the task that it
--- holds. The text: lines and numbers, lists, the grammar. Scan, Window, Parts, Cells and Stores are the code's own.
-pub mod Layout
-pub mod Numbers
-pub mod Scan
-pub mod Record
-pub mod State
-pub mod TaskOf
+-- The definitions that the contracts cite: lines and numbers, lists, the grammar and what a text leaves. Stores is the code's own; Written, the text
+-- of a record, is what laws speak of and no code.
 pub mod Bytes
 pub mod Text
 pub mod Lists
 pub mod Grammar
-pub mod Window
-pub mod Parts
-pub mod Cells
 pub mod Stores
+pub mod Written

@@ -5,7 +5,7 @@ use mathlib.Core.Bool.{Bool, true, false, cond, _&&_}
 use mathlib.Core.List.{List, [], _∷_}
 use lib.ListN.{getD, take, drop, set, replicate}
 use lib.Dec.{ltb, leb, eqb}
-use Rattle.reader.specs.Layout.{atVariables, atSizes}
+use Rattle.task_record.specs.Layout.{atVariables, atSizes}
 use Rattle.reader.specs.Text.{comma, colon, indexOf, pieces, numberOf}
 use Rattle.reader.specs.declared.decimal.Decimal.{Decimal}
 use Rattle.reader.specs.declared.decimal.Decimal.the-variants.{Value, Malformed}

@@ -3,7 +3,7 @@
 use Prim.Native.Nat.{ℕ, zero, suc}
 use mathlib.Core.List.{List}
 use lib.ListN.{replicate, set}
-use Rattle.reader.specs.Layout.{recordSize, atAction}
+use Rattle.task_record.specs.Layout.{recordSize, atAction}
 
 unfoldable pub allUnnamed : List ℕ
 allUnnamed = replicate recordSize 255

@@ -2,13 +2,13 @@
 ghost use mathlib.Core.Path.{_≡_};
 ghost use Rattle.reader.specs.Grammar.{blank};
 ghost use Rattle.reader.specs.Stores.{allUnnamed, clearActions};
-use crate::layout::AT_GOAL;
-use crate::layout::RECORD_SIZE;
-use crate::layout::UNNAMED;
-use crate::layout::at_action;
-use crate::layout::at_pattern;
+use crate::places::at_action;
+use crate::places::at_pattern;
 use crate::store::fill;
 use crate::store::put;
+use task_record::layout::AT_GOAL;
+use task_record::layout::RECORD_SIZE;
+use task_record::layout::UNNAMED;
 
 fn unnamed_record() -> [u8; RECORD_SIZE]
     ensures { λ r. ⌜ r ≡ allUnnamed ⌝ }

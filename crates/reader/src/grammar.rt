@@ -6,19 +6,6 @@ ghost use Rattle.reader.specs.Grammar.{goOn, told, takeNumber, takeBudge
 ghost use Rattle.reader.specs.Lists.{gathered};
 use crate::decimal::Decimal;
 use crate::decimal::number;
-use crate::layout::AT_ACTION_COUNT;
-use crate::layout::AT_BUDGET;
-use crate::layout::AT_GOAL;
-use crate::layout::AT_LIMIT;
-use crate::layout::AT_PATTERN_COUNT;
-use crate::layout::AT_SIZES;
-use crate::layout::AT_START;
-use crate::layout::AT_VARIABLES;
-use crate::layout::ROW_SIZE;
-use crate::layout::at_action;
-use crate::layout::at_outcome;
-use crate::layout::at_pattern;
-use crate::layout::at_precondition;
 use crate::lists::Kind;
 use crate::lists::Progress;
 use crate::lists::is_whole;
@@ -27,10 +14,23 @@ use crate::lists::unnamed_of;
 use crate::order::Due;
 use crate::order::next_due;
 use crate::pieces::has_key;
+use crate::places::at_action;
+use crate::places::at_outcome;
+use crate::places::at_pattern;
+use crate::places::at_precondition;
 use crate::store::cell_at;
 use crate::store::put;
 use crate::store::put_cells;
 use crate::store::wide;
+use task_record::layout::AT_ACTION_COUNT;
+use task_record::layout::AT_BUDGET;
+use task_record::layout::AT_GOAL;
+use task_record::layout::AT_LIMIT;
+use task_record::layout::AT_PATTERN_COUNT;
+use task_record::layout::AT_SIZES;
+use task_record::layout::AT_START;
+use task_record::layout::AT_VARIABLES;
+use task_record::layout::ROW_SIZE;
 
 // What a line came to: the line that is due next, or the number of its fault.
 pub enum Taken {

@@ -1,14 +1,10 @@
-// The reader, the lowest layer with code: the record of a task with its check and its cells (`record`, `cells`), and the text that is
-// read into a record (`text`). It alone knows the record's offsets and the text's grammar.
+// The reader: a text is read into a record. It alone knows the text's grammar; where the record's cells stand it has from `task_record`.
 mod blank;
-mod blocks;
-pub mod cells;
 mod decimal;
 mod grammar;
-mod layout;
 mod lists;
 mod order;
 mod pieces;
-pub mod record;
+mod places;
 mod store;
 pub mod text;

@@ -7,15 +7,15 @@ ghost use Rattle.reader.specs.Text.{comma, indexOf};
 ghost use Rattle.reader.specs.Lists.{firstPiece, pairFrom, pairOf, itemOf, pairFits, gathered, pairStep, noProgress, started, listFrom, listed, isValues, unnamed, wholeList};
 use crate::decimal::Decimal;
 use crate::decimal::number;
-use crate::layout::AT_SIZES;
-use crate::layout::AT_VARIABLES;
-use crate::layout::UNNAMED;
 use crate::pieces::COLON;
 use crate::pieces::COMMA;
 use crate::pieces::find;
 use crate::pieces::find_either;
 use crate::store::cell_at;
 use crate::store::put;
+use task_record::layout::AT_SIZES;
+use task_record::layout::AT_VARIABLES;
+use task_record::layout::UNNAMED;
 
 pub enum Pair {
     Named(usize, usize),

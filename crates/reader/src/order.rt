@@ -1,12 +1,12 @@
 // The order of the lines: which line is due after another, by the counts that the record holds. Assumes nothing.
 ghost use mathlib.Core.Path.{_≡_};
 ghost use Rattle.reader.specs.Grammar.{actionFrom, patternFrom, nextDue, ended};
-use crate::layout::AT_ACTION_COUNT;
-use crate::layout::AT_PATTERN_COUNT;
-use crate::layout::AT_VARIABLES;
-use crate::layout::at_action;
+use crate::places::at_action;
 use crate::store::cell_at;
 use crate::store::wide;
+use task_record::layout::AT_ACTION_COUNT;
+use task_record::layout::AT_PATTERN_COUNT;
+use task_record::layout::AT_VARIABLES;
 
 // The line that is due, by its key: of a size the variable, of the lines of an action its number, of an eff its place, of a pattern its number.
 pub enum Due {

@@ -5,12 +5,12 @@ ghost use Rattle.reader.specs.Grammar.{readFrom, wholeOf, readAnswer, re
 use crate::blank::blank_record;
 use crate::grammar::Taken;
 use crate::grammar::take_line;
-use crate::layout::RECORD_SIZE;
 use crate::order::Due;
 use crate::order::is_end;
 use crate::pieces::LINE_BREAK;
 use crate::pieces::find;
 use crate::store::put_cells;
+use task_record::layout::RECORD_SIZE;
 
 // What a call answers: the text is read, or a refusal's number with its second number.
 pub enum Reading {

@@ -3,8 +3,8 @@ use borrow.Author.Needs.{needs}
 use Rattle.plan_check.proofs.check.check_plan.Statement.{statement}
 use Rattle.plan_check.proofs.check.check_plan.Tie as tie
 use mathlib.Core.Path.{sym, _∙_}
-use Rattle.reader.proofs.Cellwise.{state-cells-whole}
-use Rattle.reader.proofs.States.{checked-good}
+use Rattle.task_record.proofs.Cellwise.{state-cells-whole}
+use Rattle.task_record.proofs.States.{checked-good}
 use Rattle.plan_check.specs.Check.{afterState, planCheck}
 
 check-state-requires : tie.Need-check-state-requires

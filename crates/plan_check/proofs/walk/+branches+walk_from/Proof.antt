@@ -12,7 +12,7 @@ use Rattle.plan_check.proofs.walk.+branches+walk_from.Lts-walk_from as 
 use Rattle.plan_check.proofs.transitions.state_after.Reads as state-after-reads
 use Rattle.plan_check.proofs.walk.judge_byte.Reads as judge-byte-reads
 use Rattle.plan_check.proofs.walk.larger.Reads as larger-reads
-use Rattle.reader.proofs.cells.outcome_count.Reads as outcome-count-reads
+use Rattle.task_record.proofs.cells.outcome_count.Reads as outcome-count-reads
 use Rattle.plan_check.proofs.walk.+branches+walk_from.{statement}
 use Rattle.plan_check.proofs.walk.+branches+walk_from.Tie.{close}
 use mathlib.Core.Path.{_≡_, refl, sym, _∙_}

@@ -5,7 +5,7 @@ use lib.ListN.{replicate}
 use lib.Seq.{sets}
 use mathlib.Core.List.{List}
 use mathlib.Core.Path.{_∙_, ap}
-use Rattle.reader.specs.Layout.{atAction, atGoal, atPattern}
+use Rattle.task_record.specs.Layout.{atAction, atGoal, atPattern}
 use Rattle.reader.specs.Stores.{clearActions}
 use Rattle.reader.proofs.Stores.{blank-by-stores}
 use Rattle.reader.proofs.blank.blank_record.Statement.{statement}

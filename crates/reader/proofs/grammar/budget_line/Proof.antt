@@ -5,7 +5,7 @@ use mathlib.Core.Path.{_∙_, ap, sym}
 use Rattle.reader.specs.Grammar.{budgetLine}
 use Rattle.reader.specs.Text.{numberOf}
 use Rattle.reader.proofs.Keys.{key-length}
-use Rattle.reader.proofs.Rest.{part-rest}
+use Rattle.task_record.proofs.Rest.{part-rest}
 use Rattle.reader.proofs.grammar.budget_line.Statement.{statement}
 use Rattle.reader.proofs.grammar.budget_line.Tie as tie
 

@@ -5,7 +5,7 @@ use mathlib.Core.Path.{_∙_, sym}
 use Rattle.reader.specs.Grammar.{listLine}
 use Rattle.reader.proofs.Items.{list-read}
 use Rattle.reader.proofs.Keys.{key-length}
-use Rattle.reader.proofs.Rest.{part-rest}
+use Rattle.task_record.proofs.Rest.{part-rest}
 use Rattle.reader.proofs.grammar.list_line.Statement.{statement}
 use Rattle.reader.proofs.grammar.list_line.Tie as tie
 

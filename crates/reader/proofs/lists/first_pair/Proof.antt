@@ -8,7 +8,7 @@ use mathlib.Core.Path.{_∙_, _≡_, ap, sym}
 use native.Mathlib.Omega.{arith}
 use Rattle.reader.specs.Text.{comma, indexOf, numberOf}
 use Rattle.reader.proofs.Pairs.{first-pair-none, first-pair-parts}
-use Rattle.reader.proofs.Rest.{part-rest}
+use Rattle.task_record.proofs.Rest.{part-rest}
 use Rattle.reader.proofs.Split.{index-le}
 use Rattle.reader.proofs.lists.first_pair.Statement.{statement}
 use Rattle.reader.proofs.lists.first_pair.Tie as tie

@@ -15,7 +15,7 @@ use Rattle.reader.specs.Text.{comma, indexOf, pieces}
 use Rattle.reader.specs.declared.lists.Kind.{Kind}
 use Rattle.reader.specs.declared.lists.Progress.{Progress}
 use Rattle.reader.proofs.Items.{listed-none, listed-some, listed-values}
-use Rattle.reader.proofs.Rest.{part-rest}
+use Rattle.task_record.proofs.Rest.{part-rest}
 use Rattle.reader.proofs.Split.{index-le, left, left-end, left-next}
 use Rattle.reader.proofs.lists.read_list.Statement.{statement}
 use Rattle.reader.proofs.lists.read_list.Tie as tie

@@ -12,7 +12,7 @@ use Rattle.reader.specs.Text.{indexOf, lineBreak, linesOf}
 use Rattle.reader.specs.declared.grammar.Taken.{Taken}
 use Rattle.reader.specs.declared.order.Due.the-variants.{Vars}
 use Rattle.reader.proofs.Lines.{read-complete, read-faulty, read-missing, read-taken}
-use Rattle.reader.proofs.Rest.{part-rest}
+use Rattle.task_record.proofs.Rest.{part-rest}
 use Rattle.reader.proofs.Split.{index-le, lines-next, lines-none}
 use Rattle.reader.proofs.text.read_lines.Statement.{statement}
 use Rattle.reader.proofs.text.read_lines.Tie as tie

@@ -7,7 +7,7 @@ use lib.ListN.{drop, length}
 use mathlib.Core.List.{List, _++_}
 use mathlib.Core.Path.{_∙_, _≡_, ap, sym}
 use Rattle.reader.specs.Grammar.{complete, readAnswer, readFrom, readLeaves, readWhole, refused, wholeOf}
-use Rattle.reader.specs.Layout.{recordSize}
+use Rattle.task_record.specs.Layout.{recordSize}
 use Rattle.reader.specs.Text.{linesOf}
 use Rattle.reader.specs.declared.order.Due.the-variants.{Vars}
 use Rattle.reader.specs.declared.text.Reading.{Reading}

@@ -1,0 +1,16 @@
+-- The laws about the definitions of specs/: tests and scans, the record's check, its cells, the task of a sound record and its states, longer
+-- records; and the rest of a list.
+pub mod Tests
+pub mod Scanning
+pub mod Sixteens
+pub mod BlockRows
+pub mod Offsets
+pub mod Windows
+pub mod Parts
+pub mod Soundness
+pub mod Cellwise
+pub mod Fronts
+pub mod SoundTask
+pub mod States
+pub mod LongerRecords
+pub mod Rest

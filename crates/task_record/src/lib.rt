@@ -1,0 +1,6 @@
+// The record of a task, the lowest layer with code: its layout, its check and that of a state (`record`), its cells by name and what a state
+// does with them (`cells`). It alone knows the record's offsets; to the reader, which writes a record, it tells them (`layout`).
+mod blocks;
+pub mod cells;
+pub mod layout;
+pub mod record;
