@@ -1,7 +1,6 @@
 -- The words of an action, put into a compiled task one by one. Assumes nothing.
 use mathlib.Core.Path.{_≡_, refl, sym, ap, _∙_}
 use mathlib.Core.Logic.{_⊎_, inl, inr, ⊎-elim}
-use mathlib.Core.Bool.{cond}
 use mathlib.Core.List.{List, [], _∷_, _++_}
 use Prim.Native.Nat.{ℕ, _+_, _*_, _-_, _≤_, _<_}
 use native.Mathlib.Omega.{arith}
@@ -15,8 +14,11 @@ use Rattle.planning.specs.Finite.{chain}
 use Rattle.planning.specs.Task.{Action}
 use Rattle.planning.proofs.Test.{by-test}
 use Rattle.planning.proofs.Finite.{length-tabulate, getD-tabulate}
+use Rattle.task_record.specs.Layout.{atPrecondition, atOutcome}
+use Rattle.task_record.specs.Numbers.{outcomeCount}
+use Rattle.task_record.specs.TaskOf.{cellsAt, actionOf}
 use Rattle.tables.specs.Packed.{packBy, naming, setting, digitBy, actionWords}
-use Rattle.tables.specs.Compiling.{part, actionOf, ActionCompiled}
+use Rattle.tables.specs.Compiling.{outcomeWord, ActionCompiled}
 use Rattle.tables.proofs.Compiled.{outcomeWords, length-chain, outcome-word}
 
 -- The words of action m from the one with number `from` to before i are there.
@@ -51,19 +53,25 @@ compiling-both old mid new m a i l f g = record {
     word j (yes q) u = g .others (20 * m + j) (inl (omega arith)) ∙ f .words j (omega arith) q
     word j (no q) u = g .words j (omega arith) (omega arith)
 
-module _ (pre outs : List ℕ) (count weight : ℕ) (few : count ≤ 8) where
+module _ (r : List ℕ) (m : ℕ) (few : outcomeCount r m ≤ 8) where
+  abbrev count : ℕ
+  count = outcomeCount r m
+
+  abbrev outcome : ℕ → List ℕ
+  outcome k = cellsAt r (atOutcome m k)
+
   abbrev action : Action
-  action = actionOf pre outs count weight
+  action = actionOf r m
 
   outcomes-count : length (action .outcomes) ≡ count
   unfolding actionOf
-  outcomes-count = length-tabulate (part outs) 0 count
+  outcomes-count = length-tabulate outcome 0 count
 
   -- The words of an outcome, and of none.
-  some-word : (k i : ℕ) → k < count → i < 2 → getD (actionWords action) (4 + (2 * k + i)) 0 ≡ getD (outcomeWords (part outs k)) i 0
+  some-word : (k i : ℕ) → k < count → i < 2 → getD (actionWords action) (4 + (2 * k + i)) 0 ≡ getD (outcomeWords (outcome k)) i 0
   unfolding actionOf
   some-word k i l b = outcome-word action k i (omega (arith, outcomes-count)) (omega (arith, outcomes-count)) b
-      ∙ ap (λ o. getD (outcomeWords o) i 0) (getD-tabulate (part outs) 0 count k [] l ∙ (let z : 0 + k ≡ k = zero-add k in rw z))
+      ∙ ap (λ o. getD (outcomeWords o) i 0) (getD-tabulate outcome 0 count k [] l ∙ (let z : 0 + k ≡ k = zero-add k in rw z))
 
   no-word : (k i : ℕ) → count ≤ k → k < 8 → i < 2 → getD (actionWords action) (4 + (2 * k + i)) 0 ≡ 0
   unfolding actionWords
@@ -73,31 +81,31 @@ module _ (pre outs : List ℕ) (count weight : ℕ) (few : count ≤ 8) where
       ∙ getD-take 16 (w ++ replicate 16 0) (2 * k + i) 0 (omega arith)
       ∙ ap (λ z. getD (w ++ replicate 16 0) z 0) e ∙ getD-append-add w (replicate 16 0) (2 * k + i - 2 * count) 0 ∙ getD-replicate 16 (2 * k + i - 2 * count) 0 0 (omega arith)
 
-  keep-word : (k : ℕ) → k < 8 → cond (ltb k count) (packBy (digitBy 1) (part outs k)) 0 ≡ getD (actionWords action) (4 + (2 * k + 0)) 0
-  unfolding digitBy
+  keep-word : (k : ℕ) → k < 8 → outcomeWord 1 r m k ≡ getD (actionWords action) (4 + (2 * k + 0)) 0
+  unfolding outcomeWord digitBy
   keep-word k b = by-test (ltb k count) (λ e. rw e (sym (some-word k 0 (ltb-true k count e) (omega arith)))) (λ e. rw e (sym (no-word k 0 (ltb-false k count e) b (omega arith))))
 
-  set-word : (k : ℕ) → k < 8 → cond (ltb k count) (packBy (digitBy 2) (part outs k)) 0 ≡ getD (actionWords action) (4 + (2 * k + 1)) 0
-  unfolding digitBy
+  set-word : (k : ℕ) → k < 8 → outcomeWord 2 r m k ≡ getD (actionWords action) (4 + (2 * k + 1)) 0
+  unfolding outcomeWord digitBy
   set-word k b = by-test (ltb k count) (λ e. rw e (sym (some-word k 1 (ltb-true k count e) (omega arith)))) (λ e. rw e (sym (no-word k 1 (ltb-false k count e) b (omega arith))))
 
   -- One turn of the loop over the outcomes, and the words before it.
-  pub compiling-outcome : (old now new : List ℕ) (m k : ℕ) → k < 8 → 20 * m + 20 ≤ length old
-      → new ≡ set (set now (20 * m + 4 + 2 * k) (cond (ltb k count) (packBy (digitBy 1) (part outs k)) 0)) (20 * m + 4 + 2 * k + 1) (cond (ltb k count) (packBy (digitBy 2) (part outs k)) 0)
+  pub compiling-outcome : (old now new : List ℕ) (k : ℕ) → k < 8 → 20 * m + 20 ≤ length old
+      → new ≡ set (set now (20 * m + 4 + 2 * k) (outcomeWord 1 r m k)) (20 * m + 4 + 2 * k + 1) (outcomeWord 2 r m k)
       → Compiling old now m action 4 (4 + 2 * k) → Compiling old new m action 4 (4 + 2 * (k + 1))
-  compiling-outcome old now new m k b l e h =
+  compiling-outcome old now new k b l e h =
       let p : 4 + (2 * k + 0) ≡ 4 + 2 * k = omega arith in
       let q : 4 + (2 * k + 1) ≡ 4 + 2 * k + 1 = omega arith in
-      let r : 4 + 2 * (k + 1) ≡ 4 + 2 * k + 1 + 1 = omega arith in
-      rw (e, r) (compiling-put old _ m action 4 (4 + 2 * k + 1) _ (20 * m + 4 + 2 * k + 1) (omega arith) (omega arith) (omega arith) l (rw q at (set-word k b))
+      let s : 4 + 2 * (k + 1) ≡ 4 + 2 * k + 1 + 1 = omega arith in
+      rw (e, s) (compiling-put old _ m action 4 (4 + 2 * k + 1) _ (20 * m + 4 + 2 * k + 1) (omega arith) (omega arith) (omega arith) l (rw q at (set-word k b))
       (compiling-put old now m action 4 (4 + 2 * k) _ (20 * m + 4 + 2 * k) (omega arith) (omega arith) (omega arith) l (rw p at (keep-word k b)) h))
 
-  pub compiling-head : (old new : List ℕ) (m : ℕ) → 20 * m + 20 ≤ length old
-      → new ≡ set (set (set (set old (20 * m) (packBy (digitBy 0) pre)) (20 * m + 1) (packBy (digitBy 2) pre)) (20 * m + 2) count) (20 * m + 3) weight
+  pub compiling-head : (old new : List ℕ) → 20 * m + 20 ≤ length old
+      → new ≡ set (set (set (set old (20 * m) (packBy (digitBy 0) (cellsAt r (atPrecondition m)))) (20 * m + 1) (packBy (digitBy 2) (cellsAt r (atPrecondition m)))) (20 * m + 2) count) (20 * m + 3) 1
       → Compiling old new m action 0 4
   unfolding digitBy actionWords actionOf
-  compiling-head old new m l e = rw e
-      (compiling-put old _ m action 0 3 weight (20 * m + 3) (omega arith) (omega arith) (omega arith) l refl
+  compiling-head old new l e = rw e
+      (compiling-put old _ m action 0 3 1 (20 * m + 3) (omega arith) (omega arith) (omega arith) l refl
       (compiling-put old _ m action 0 2 count (20 * m + 2) (omega arith) (omega arith) (omega arith) l (sym outcomes-count)
-      (compiling-put old _ m action 0 1 (packBy setting pre) (20 * m + 1) (omega arith) (omega arith) (omega arith) l refl
-      (compiling-put old _ m action 0 0 (packBy naming pre) (20 * m) (omega arith) (omega arith) (omega arith) l refl (compiling-start old m action 0)))))
+      (compiling-put old _ m action 0 1 (packBy setting (cellsAt r (atPrecondition m))) (20 * m + 1) (omega arith) (omega arith) (omega arith) l refl
+      (compiling-put old _ m action 0 0 (packBy naming (cellsAt r (atPrecondition m))) (20 * m) (omega arith) (omega arith) (omega arith) l refl (compiling-start old m action 0)))))

@@ -1,18 +1,8 @@
 -- The laws about the definitions of specs/. First verdict, room and value, then packed states and the build of one table.
-pub mod Weights
-pub mod Affected
-pub mod Room
-pub mod Summing
-pub mod Runs
-pub mod Reading
-pub mod Sizes
-pub mod Refusals
-pub mod Built
-pub mod Gathering
-pub mod Named
-pub mod Verdicts
 pub mod Packing
 pub mod Compiled
+pub mod CompiledRecord
+pub mod SoundPacked
 pub mod Simulating
 pub mod Abstracted
 pub mod Settled
@@ -20,3 +10,5 @@ pub mod Sweeping
 pub mod Spacing
 pub mod Building
 pub mod CompiledAction
+pub mod TableChain
+pub mod BuiltTables

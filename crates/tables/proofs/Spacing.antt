@@ -127,6 +127,29 @@ weighing-end sizes p n r w v l h = let e : v ≡ n = omega (arith, h .at) in rw 
 pub weighing-small : (sizes p : List ℕ) (n : ℕ) (r : List ℕ) (w v : ℕ) → Sized sizes p n → Weighing sizes p n r w v → w ≤ 4096
 weighing-small sizes p n r w v s h = omega (arith, h .count, s .states-few, count-fewer sizes p v n (h .at) (s .values-some))
 
+-- The same without the weights: w is the number of abstract states of the variables below v.
+pub record Weighed (sizes p : List ℕ) (n w v : ℕ) : Type 0 where
+  pub at : v ≤ n
+  pub long : length sizes ≡ 16
+  pub count : w ≡ stateCount (take v sizes) p
+
+pub weighed-start : (sizes p : List ℕ) (n : ℕ) → length sizes ≡ 16 → Weighed sizes p n 1 0
+unfolding stateCount
+weighed-start sizes p n h = record { at = omega arith; long = h; count = refl }
+
+pub weighed-step : (sizes p : List ℕ) (n w v : ℕ) → Sized sizes p n → v < n → Weighed sizes p n w v → Weighed sizes p n (cond (inPattern p v) (w * getD sizes v 0) w) (v + 1)
+weighed-step sizes p n w v s l h = let b : v < length sizes = omega (arith, h .long, s .variables-few) in record {
+  at = omega arith;
+  long = h .long;
+  count = rw (h .count) (sym (count-more sizes p v b));
+}
+
+pub weighed-end : (sizes p : List ℕ) (n w v : ℕ) → n ≤ v → Weighed sizes p n w v → w ≡ stateCount (take n sizes) p
+weighed-end sizes p n w v l h = let e : v ≡ n = omega (arith, h .at) in rw e at (h .count)
+
+pub weighed-small : (sizes p : List ℕ) (n w v : ℕ) → Sized sizes p n → Weighed sizes p n w v → w ≤ 4096
+weighed-small sizes p n w v s h = omega (arith, h .count, s .states-few, count-fewer sizes p v n (h .at) (s .values-some))
+
 -- Weights of 0 do not count.
 weigh-none : (j s : ℕ) → weigh (replicate j 0) s ≡ 0
 unfolding weigh

@@ -1,5 +1,5 @@
 -- Laws for the loops of a sweep: one turn and the end of each. Assumes nothing.
-use mathlib.Core.Path.{_≡_, refl, sym, _∙_}
+use mathlib.Core.Path.{_≡_, refl, sym, ap, _∙_}
 use mathlib.Core.Bool.{Bool, true, false, not, cond}
 use mathlib.Core.List.{List, [], _∷_}
 use Prim.Native.Nat.{ℕ, zero, suc, _+_, _*_, _-_, _/_, _%_, _^_, _≤_, _<_, max}
@@ -13,10 +13,10 @@ use lib.Dec.{eqb, ltb}
 use lib.ListN.{length, getD, set, drop, length-set, drop-of-length-le, List·getD-eq-default}
 use lib.Seq.{drop-cons, ext-getD, getD-set-same, getD-set-other}
 use Rattle.planning.specs.Finite.{anyFrom}
-use Rattle.planning.proofs.Test.{T-true, and-l, and-r}
+use Rattle.planning.proofs.Test.{T-true, and-l, and-r, by-test}
 use Rattle.planning.proofs.Finite.{length-tabulate, getD-tabulate}
 use Rattle.tables.specs.Packed.{outcomeCount, keepMask}
-use Rattle.tables.specs.Steps.{weigh, Space, isGoal, permitted, touches, worst, offer, offerAt, permittedAt, Steps, none, more, started, total, lowers, relaxed, RowSwept, RowPassed, Swept, Settled, Tried}
+use Rattle.tables.specs.Steps.{weigh, Space, isGoal, permitted, touches, worst, raised, Below, offer, offerAt, permittedAt, Steps, none, more, started, total, lowers, relaxed, RowSwept, RowPassed, Swept, Settled, Tried}
 use Rattle.tables.proofs.Settled.{then, steps-length}
 
 -- The index of a word, digit by digit.
@@ -40,12 +40,20 @@ weigh-step w v s = either (decLt v (length w))
     either (yes l) = inside-step w v s l
     either (no l) = beyond-step w v s (omega arith)
 
--- A word of at most 16 digits has none left after the sixteenth.
-pub digits-left : (v rest : ℕ) → v < 16 → rest < 16 ^ (16 - v) → rest / 16 < 16 ^ (16 - (v + 1))
-digits-left v rest l h = let e : 16 - v ≡ suc (16 - (v + 1)) = omega arith in let p = pow-suc 16 (16 - (v + 1)) in let k = rw e at h in omega arith
+pub weigh-four : (w : List ℕ) (v s : ℕ) → weigh (drop v w) s
+    ≡ s % 16 * getD w v 0 + s / 16 % 16 * getD w (v + 1) 0 + s / 256 % 16 * getD w (v + 2) 0 + s / 4096 % 16 * getD w (v + 3) 0 + weigh (drop (v + 4) w) (s / 65536)
+weigh-four w v s =
+    let a : v + 1 + 1 ≡ v + 2 = omega arith in let b : v + 2 + 1 ≡ v + 3 = omega arith in let c : v + 3 + 1 ≡ v + 4 = omega arith in
+    let x : s / 16 / 16 ≡ s / 256 = omega arith in let y : s / 256 / 16 ≡ s / 4096 = omega arith in let z : s / 4096 / 16 ≡ s / 65536 = omega arith in
+    let first = weigh-step w v s in let second = rw (a, x) at (weigh-step w (v + 1) (s / 16)) in
+    let third = rw (b, y) at (weigh-step w (v + 2) (s / 256)) in let fourth = rw (c, z) at (weigh-step w (v + 3) (s / 4096)) in omega arith
 
-pub digits-over : (v rest : ℕ) → 16 ≤ v → rest < 16 ^ (16 - v) → rest ≡ 0
-digits-over v rest l h = let e : 16 - v ≡ 0 = omega arith in let k : rest < 1 = rw e at h in omega arith
+-- A word of at most 16 digits has none left after the fourth four.
+pub digits-left : (g rest : ℕ) → g < 4 → rest < 65536 ^ (4 - g) → rest / 65536 < 65536 ^ (4 - (g + 1))
+digits-left g rest l h = let e : 4 - g ≡ suc (4 - (g + 1)) = omega arith in let p = pow-suc 65536 (4 - (g + 1)) in let k = rw e at h in omega arith
+
+pub digits-over : (g rest : ℕ) → 4 ≤ g → rest < 65536 ^ (4 - g) → rest ≡ 0
+digits-over g rest l h = let e : 4 - g ≡ 0 = omega arith in let k : rest < 1 = rw e at h in omega arith
 
 -- The outcomes of an action, one by one: does it name a variable of the pattern?
 abbrev pub Touching : List ℕ → ℕ → ℕ → ℕ → ℕ → Type 0
@@ -81,6 +89,27 @@ worst-start f n = let e : n - 0 ≡ n = omega arith in rw e (omega arith)
 pub worst-end : (f : ℕ → ℕ) (o n most : ℕ) → n ≤ o → worst f 0 n ≡ max most (worst f o (n - o)) → most ≡ worst f 0 n
 unfolding worst
 worst-end f o n most l v = let e : n - o ≡ 0 = omega arith in let u : worst f o (n - o) ≡ 0 = rw e in omega arith
+
+pub worst-reaches : (f : ℕ → ℕ) (o n most : ℕ) → o < n → worst f 0 n ≡ max most (worst f o (n - o)) → f o ≤ worst f 0 n
+worst-reaches f o n most l v = let e = worst-step f o n l in omega arith
+
+-- The largest below a limit, and the offer that it makes.
+pub below-same : (limit x v : ℕ) → v ≡ x → Below limit x v
+below-same limit x v e = record { exact = λ l. e; enough = λ l. rw e at l }
+
+pub below-not : (limit x v : ℕ) → limit ≤ v → limit ≤ x → Below limit x v
+below-not limit x v h k = record { exact = λ l. absurd (omega arith); enough = λ l. k }
+
+raised-high : (limit w v : ℕ) → limit ≤ 65535 → limit ≤ v → limit ≤ raised w v
+unfolding raised
+raised-high limit w v b h = by-test (ltb (w + v) 65535) (λ e. rw e (omega arith)) (λ e. rw e b)
+
+pub below-raised : (limit w x v : ℕ) → limit ≤ 65535 → Below limit x v → Below limit (raised w x) (raised w v)
+below-raised limit w x v b h = either (decLt v limit)
+  where
+    either : Dec (v < limit) → Below limit (raised w x) (raised w v)
+    either (yes l) = below-same limit (raised w x) (raised w v) (ap (raised w) (h .exact l))
+    either (no l) = let k : limit ≤ v = omega arith in below-not limit (raised w x) (raised w v) (raised-high limit w v b k) (raised-high limit w x b (h .enough k))
 
 -- The first entries, one by one.
 abbrev firstOf : List ℕ → ℕ → List ℕ → ℕ → ℕ

@@ -1,32 +1,10 @@
--- Each answer as the document's numbers: document 01, "Where an answer is an enum, a definition gives, for each of its cases, this paper's
--- number and values". Assumes nothing.
+-- The build's answer as the document's numbers: document 01, "Where an answer is an enum, a definition gives, for each of its cases, this
+-- paper's number and values". Assumes nothing.
 use Rattle.planning.specs.Numbers.{Numbers, refusal, answered}
-use Rattle.tables.specs.declared.space.TableCheck.{TableCheck}
-use Rattle.tables.specs.declared.space.TableCheck.the-variants as of-tables
-use Rattle.tables.specs.declared.verdict.Additivity.{Additivity}
-use Rattle.tables.specs.declared.verdict.Additivity.the-variants as of-verdict
-use Rattle.tables.specs.declared.estimate.EstimateCheck.{EstimateCheck}
-use Rattle.tables.specs.declared.estimate.EstimateCheck.the-variants as of-estimate
-use Rattle.tables.specs.declared.value.StateValue.{StateValue}
-use Rattle.tables.specs.declared.value.StateValue.the-variants as of-value
+use Rattle.tables.specs.declared.record_tables.TableBuild.{TableBuild}
+use Rattle.tables.specs.declared.record_tables.TableBuild.the-variants as of-build
 
--- Kind 0: the entries needed.
-unfoldable pub tableNumbers : TableCheck → Numbers
-tableNumbers (of-tables.Fits needed) = answered 0 needed 0 0
-tableNumbers (of-tables.Refused number second) = refusal number second
-
--- Kind 0: yes. Kind 1: no, with the move and the two patterns.
-unfoldable pub additivityNumbers : Additivity → Numbers
-additivityNumbers of-verdict.Additive = answered 0 0 0 0
-additivityNumbers (of-verdict.Conflict m p q) = answered 1 m p q
-additivityNumbers (of-verdict.Refused number second) = refusal number second
-
-unfoldable pub estimateNumbers : EstimateCheck → Numbers
-estimateNumbers of-estimate.Ready = answered 0 0 0 0
-estimateNumbers (of-estimate.Refused number second) = refusal number second
-
--- Kind 0: the value. Kind 1: infinite.
-unfoldable pub valueNumbers : StateValue → Numbers
-valueNumbers (of-value.Finite value) = answered 0 value 0 0
-valueNumbers of-value.Infinite = answered 1 0 0 0
-valueNumbers (of-value.Refused number second) = refusal number second
+-- Kind 0: the entries written.
+unfoldable pub tableBuildNumbers : TableBuild → Numbers
+tableBuildNumbers (of-build.Built written) = answered 0 written 0 0
+tableBuildNumbers (of-build.Refused number second) = refusal number second

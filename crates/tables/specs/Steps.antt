@@ -56,6 +56,11 @@ worst f o (suc n) = max (f o) (worst f (suc o) n)
 unfoldable pub raised : ℕ → ℕ → ℕ
 raised w v = cond (ltb (w + v) 65535) (w + v) 65535
 
+-- v is x if it is below the limit; if not, x is not below it either.
+pub record Below (limit x v : ℕ) : Type 0 where
+  pub exact : v < limit → v ≡ x
+  pub enough : limit ≤ v → limit ≤ x
+
 -- The entry after outcome o of action m in state s, and what the action says of the state's entry.
 unfoldable pub outcomeEntry : List ℕ → ℕ → List ℕ → List ℕ → ℕ → ℕ → ℕ → ℕ
 outcomeEntry a k w entries m s o = getD entries (weigh w (after a k m o s)) 65535

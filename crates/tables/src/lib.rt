@@ -1,13 +1,11 @@
 // Tables of a task's patterns: the additivity verdict (`verdict`), room for the tables (`space`, `estimate`), the value of a state (`value`),
-// packed states and the table of one pattern (`packed`, `build`).
+// packed states, the compiled task and the table of one pattern (`packed`, `compile_record`, `build`), all tables of a record
+// (`record_tables`).
 mod build;
 mod compile;
-pub mod estimate;
+mod compile_record;
 pub mod packed;
-mod places;
 mod ranking;
-pub mod space;
+pub mod record_tables;
 mod sweep;
-pub mod value;
-pub mod verdict;
 mod worklist;

@@ -10,7 +10,7 @@ ghost use Rattle.planning.specs.Finite.{All};
 ghost use Rattle.tables.specs.Packed.{packBy, low};
 ghost use Rattle.tables.specs.Steps.{weightsFrom, Sized, Extended};
 
-fn wide(x: u8) -> usize
+pub(crate) fn wide(x: u8) -> usize
     ensures { λ r. ⌜ (r ≡ x) × (r < 256) ⌝ }
 {
     x as usize
@@ -52,6 +52,20 @@ pub(crate) fn weights_of(sizes: [u8; 16], pattern: [u8; 16], n: usize) -> [u16; 
         v += 1;
     }
     r
+}
+
+// The number of abstract states: the weight of a variable after the last.
+pub(crate) fn state_count(sizes: [u8; 16], pattern: [u8; 16], n: usize) -> usize
+    requires { ⌜ Sized sizes pattern n ⌝ }
+    ensures { λ r. ⌜ r ≡ stateCount (take n sizes) pattern ⌝ }
+{
+    let mut w = 1usize;
+    let mut v = 0usize;
+    while v < n {
+        w = next_weight(pattern[v], w, sizes[v]);
+        v += 1;
+    }
+    w
 }
 
 // Sixteen times a place value, for the next variable; beyond the sixteenth it is not used.

@@ -1,11 +1,11 @@
 // Passes over the entries of a pattern's table: each entry falls to what an action says of it, until no action says less of any.
 ghost use mathlib.Core.Path.{_≡_};
 ghost use mathlib.Core.Bool.{cond};
-ghost use Prim.Native.Nat.{ℕ, _+_, _*_, _≤_, _<_};
+ghost use Prim.Native.Nat.{ℕ, _+_, _*_, _/_, _%_, _≤_, _<_};
 ghost use lib.Dec.{eqb};
 ghost use lib.ListN.{length, getD};
 ghost use Rattle.tables.specs.Packed.{outcomeCount};
-ghost use Rattle.tables.specs.Steps.{weigh, space, isGoal, permitted, after, touches, worst, raised, outcomeEntry, offer, lowers, relaxed, started, Readable, RowSwept, RowPassed, Swept, Settled};
+ghost use Rattle.tables.specs.Steps.{weigh, space, isGoal, permitted, after, touches, worst, raised, outcomeEntry, Below, offer, lowers, relaxed, started, Readable, RowSwept, RowPassed, Swept, Settled};
 
 fn wide(x: u16) -> usize
     ensures { λ r. ⌜ (r ≡ x) × (r < 65536) ⌝ }
@@ -32,20 +32,29 @@ fn times(x: u64, w: u16) -> usize
     y * wide(w)
 }
 
-// The index of a word. It ends with the last digit that is not 0.
+// Four digits of a word, from the lowest on, times the weights from v on.
+fn four_digits(weights: &[u16; 16], v: usize, s: u64) -> usize
+    requires { ⌜ v ≤ 12 ⌝ }
+    ensures { λ r. ⌜ (r ≡ s % 16 * getD (now (weights .entry)) v 0 + s / 16 % 16 * getD (now (weights .entry)) (v + 1) 0 + s / 256 % 16 * getD (now (weights .entry)) (v + 2) 0 + s / 4096 % 16 * getD (now (weights .entry)) (v + 3) 0) × (r ≤ 3932100) ⌝ }
+{
+    let low = times(s % 16, weights[v]) + times(s / 16 % 16, weights[v + 1]);
+    low + times(s / 256 % 16, weights[v + 2]) + times(s / 4096 % 16, weights[v + 3])
+}
+
+// The index of a word, four digits at a time: a test at each digit would cost more than the digit. It ends with the last that are not 0.
 pub(crate) fn index_of(weights: &[u16; 16], s: u64) -> usize
     ensures { λ r. ⌜ r ≡ weigh (now (weights .entry)) s ⌝ }
 {
     let mut sum = 0usize;
     let mut rest = s;
-    let mut v = 0usize;
-    while v < 16 {
+    let mut g = 0usize;
+    while g < 4 {
         if rest == 0 {
             return sum;
         }
-        sum = sum + times(rest % 16, weights[v]);
-        rest = rest / 16;
-        v += 1;
+        sum = sum + four_digits(weights, 4 * g, rest);
+        rest = rest / 65536;
+        g += 1;
     }
     sum
 }
@@ -70,7 +79,7 @@ fn state_after(task: &[u64; 1282], mask: u64, m: usize, o: usize, s: u64) -> u64
     ((s & task[20 * m + 4 + 2 * o]) | task[20 * m + 5 + 2 * o]) & mask
 }
 
-// The largest entry among the outcomes.
+// The largest entry among the outcomes, as far as it is below a limit.
 fn worst_entry(
     task: &[u64; 1282],
     mask: u64,
@@ -78,15 +87,19 @@ fn worst_entry(
     entries: &[u16],
     m: usize,
     s: u64,
+    limit: u16,
 ) -> u16
     requires { ⌜ (m < 64) × (outcomeCount (now task) m ≤ 8) ⌝ }
-    ensures { λ r. ⌜ r ≡ worst (outcomeEntry (now (task .entry)) mask (now (weights .entry)) (now (entries .entry)) m s) 0 (outcomeCount (now (task .entry)) m) ⌝ }
+    ensures { λ r. ⌜ Below limit (worst (outcomeEntry (now (task .entry)) mask (now (weights .entry)) (now (entries .entry)) m s) 0 (outcomeCount (now (task .entry)) m)) r ⌝ }
 {
     let n = task[20 * m + 2] as usize;
     let mut most = 0u16;
     let mut o = 0usize;
     while o < n {
         let e = entry_at(entries, index_of(weights, state_after(task, mask, m, o, s)));
+        if e >= limit {
+            return e;
+        }
         if most < e {
             most = e;
         }
@@ -109,7 +122,7 @@ fn raise(w: u64, v: u16) -> u16
     sum as u16
 }
 
-// What an action says of the entry of a state.
+// What an action says of the entry of a state, as far as it is below a limit.
 fn offer_of(
     task: &[u64; 1282],
     mask: u64,
@@ -117,13 +130,14 @@ fn offer_of(
     entries: &[u16],
     m: usize,
     s: u64,
+    limit: u16,
 ) -> u16
     requires { ⌜ (m < 64) × (outcomeCount (now task) m ≤ 8) ⌝ }
-    ensures { λ r. ⌜ r ≡ offer (now (task .entry)) mask (now (weights .entry)) (now (entries .entry)) m s ⌝ }
+    ensures { λ r. ⌜ Below limit (offer (now (task .entry)) mask (now (weights .entry)) (now (entries .entry)) m s) r ⌝ }
 {
     raise(
         task[20 * m + 3],
-        worst_entry(task, mask, weights, entries, m, s),
+        worst_entry(task, mask, weights, entries, m, s, limit),
     )
 }
 
@@ -144,8 +158,9 @@ pub(crate) fn try_action(
     if !permits(task, mask, m, s) {
         return false;
     }
-    let v = offer_of(task, mask, weights, entries, m, s);
-    if v < entries[i] {
+    let e = entries[i];
+    let v = offer_of(task, mask, weights, entries, m, s, e);
+    if v < e {
         entries[i] = v;
         return true;
     }
@@ -177,7 +192,7 @@ fn sweep_action(
 }
 
 // Whether an outcome names a variable of the pattern. Where none does, an action leads from each abstract state to itself.
-pub(crate) fn touches_pattern(task: &[u64; 1282], mask: u64, m: usize) -> bool
+fn touches_pattern(task: &[u64; 1282], mask: u64, m: usize) -> bool
     requires { ⌜ (m < 64) × (outcomeCount (now task) m ≤ 8) ⌝ }
     ensures { λ r. ⌜ r ≡ touches (now (task .entry)) mask m ⌝ }
 {

@@ -7,7 +7,6 @@ ghost use lib.ListN.{length};
 ghost use Rattle.tables.specs.Steps.{space, Readable, Tried};
 use crate::sweep::entry_at;
 use crate::sweep::index_of;
-use crate::sweep::touches_pattern;
 use crate::sweep::try_action;
 
 fn put(queue: &mut [u16], at: usize, x: u16)
@@ -56,6 +55,9 @@ fn word_at(states: &[u64], i: u16) -> u64 {
 
 // The word with the next values of the free digits, the first again after the last.
 fn next_word(s: u64, free: u64, tops: u64) -> u64 {
+    if free == 0 {
+        return s;
+    }
     let mut r = s;
     let mut field = 15u64;
     let mut v = 0usize;
@@ -152,7 +154,7 @@ fn visit_all(
 }
 
 // Outcome o of action m at every state from which it leads to word j: there the digits that it names have any value that the precondition
-// allows, and the others are those of j.
+// allows, and the others are those of j. An outcome that names no variable of the pattern leads from each state to itself.
 fn visit_before(
     task: &[u64; 1282],
     mask: u64,
@@ -172,14 +174,14 @@ fn visit_before(
     ensures { λ _. ⌜ Tried (space (now (task .entry)) mask (now (weights .entry)) (now (states .entry)) actions) (now (entries .entry)) (now (entries .exit)) (now (queue .entry)) (now (queue .exit)) (now (counts .entry)) (now (counts .exit)) ⌝ }
 {
     let keep = task[20 * m + 4 + 2 * o] & mask;
+    let named = mask ^ keep;
+    if named == 0 {
+        return tail;
+    }
     let value = task[20 * m + 5 + 2 * o] & mask;
     let need = task[20 * m] & mask;
     let needed = task[20 * m + 1] & mask;
-    let named = mask ^ keep;
-    if j & named != value {
-        return tail;
-    }
-    if j & keep & need != needed & keep {
+    if j & (named | need) != value | (needed & keep) {
         return tail;
     }
     let free = named ^ (named & need);
@@ -218,9 +220,6 @@ fn spread_action(
     requires { ⌜ (Readable (now task) actions) × (m < actions) × (length (now entries) ≤ length (now states)) × (length (now entries) ≤ 4096) ⌝ }
     ensures { λ _. ⌜ Tried (space (now (task .entry)) mask (now (weights .entry)) (now (states .entry)) actions) (now (entries .entry)) (now (entries .exit)) (now (queue .entry)) (now (queue .exit)) (now (counts .entry)) (now (counts .exit)) ⌝ }
 {
-    if !touches_pattern(task, mask, m) {
-        return tail;
-    }
     let mut end = tail;
     let mut o = 0usize;
     while o < 8 {

@@ -35,7 +35,9 @@ same-length : tie.Need-same-length
 same-length c = search needs
 
 returns : tie.Need-returns
-returns c = c .before .before .put4 .ensures ∙ rw (c .before .before .before .before .before .before .put3 .ensures, c .before .before .before .before .before .before .before .before .before .before .put2 .ensures, c .before .before .before .before .before .before .before .before .before .before .before .before .before .before .put .ensures, c .before .before .before .before .before .before .before .before .before .before .before .before .before .before .before .before .before .pack .ensures, c .before .before .before .before .before .before .before .before .before .before .before .before .before .before .before .before .pack2 .ensures)
+returns c = let third = c .before .before .before .before .before .before in let second = third .before .before .before .before in let first = second .before .before .before .before in
+    c .before .before .put4 .ensures
+    ∙ rw (third .put3 .ensures, second .put2 .ensures, first .put .ensures, first .before .before .before .pack .ensures, first .before .before .pack2 .ensures)
 
 pub put-head-spec : {M : Type 1} → statement M
 put-head-spec =

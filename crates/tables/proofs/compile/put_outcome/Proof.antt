@@ -23,7 +23,8 @@ same-length : tie.Need-same-length
 same-length c = search needs
 
 returns : tie.Need-returns
-returns c = c .before .before .put2 .ensures ∙ rw (c .before .before .before .before .before .before .put .ensures, c .before .before .before .before .before .before .before .before .before .outcome-word .ensures, c .before .before .before .before .before .before .before .before .outcome-word2 .ensures)
+returns c = let first = c .before .before .before .before .before .before in
+    c .before .before .put2 .ensures ∙ rw (first .put .ensures, first .before .before .before .outcome-word .ensures, first .before .before .outcome-word2 .ensures)
 
 pub put-outcome-spec : {M : Type 1} → statement M
 put-outcome-spec =

@@ -2,7 +2,9 @@
 use borrow.Author.Needs.{needs}
 use Rattle.tables.proofs.sweep.offer_of.Statement.{statement}
 use Rattle.tables.proofs.sweep.offer_of.Tie as tie
+use native.Mathlib.Omega.{arith}
 use Rattle.tables.specs.Steps.{offer}
+use Rattle.tables.proofs.Sweeping.{below-raised}
 
 mul-raise : tie.Need-mul-raise
 mul-raise c = search needs
@@ -24,7 +26,7 @@ raise-requires c κs = search needs
 
 returns : tie.Need-returns
 unfolding offer
-returns c = simp (← c .before .worst-entry .ensures) (c .raise .ensures)
+returns c = rw (c .raise .ensures) (below-raised _ _ _ _ (omega arith) (c .before .worst-entry .ensures))
 
 pub offer-of-spec : {M : Type 1} → statement M
 offer-of-spec =

@@ -13,14 +13,14 @@ returns : tie.Need-returns
 unfolding lowers relaxed
 returns c = let q = sym (c .before .permits .ensures) ∙ not-true _ (c .if1 .taken) in (simp q, simp q)
 
+mul-e : tie.Need-mul-e
+mul-e c = search needs
+
+slice-read-e : tie.Need-slice-read-e
+slice-read-e c = search needs
+
 offer-of-requires : tie.Need-offer-of-requires
 offer-of-requires c κs = search needs
-
-mul-if2 : tie.Need-mul-if2
-mul-if2 c = search needs
-
-slice-read-if2 : tie.Need-slice-read-if2
-slice-read-if2 c = search needs
 
 mul-entries : tie.Need-mul-entries
 mul-entries c = search needs
@@ -33,7 +33,8 @@ same-length c = search needs
 
 returns-2 : tie.Need-returns-2
 unfolding lowers relaxed
-returns-2 c = let b = c .before .before .before .before in let q = sym (b .before .permits .ensures) ∙ not-false _ (b .if1 .left) in let o = c .before .before .offer-of .ensures in
+returns-2 c = let b = c .before .before .before .before in let q = sym (b .before .permits .ensures) ∙ not-false _ (b .if1 .left) in
+    let o = c .before .offer-of .ensures .exact (c .if2 .taken) in
     (simp (q, ← o, lt-ltb _ _ (c .if2 .taken)), simp (q, ← o, lt-ltb _ _ (c .if2 .taken)))
 
 same-length-2 : tie.Need-same-length-2
@@ -41,8 +42,8 @@ same-length-2 c = search needs
 
 returns-3 : tie.Need-returns-3
 unfolding lowers relaxed
-returns-3 c = let b = c .before .before .before .before in let q = sym (b .before .permits .ensures) ∙ not-false _ (b .if1 .left) in let o = c .before .before .offer-of .ensures in
-    (simp (q, ← o, le-ltb _ _ (c .if2 .left)), simp (q, ← o, le-ltb _ _ (c .if2 .left)))
+returns-3 c = let b = c .before .before .before .before in let q = sym (b .before .permits .ensures) ∙ not-false _ (b .if1 .left) in
+    let o = c .before .offer-of .ensures .enough (c .if2 .left) in (simp (q, le-ltb _ _ o), simp (q, le-ltb _ _ o))
 
 pub try-action-spec : {M : Type 1} → statement M
 try-action-spec =
@@ -50,9 +51,9 @@ try-action-spec =
     (tie.spec
     permits-requires
     returns
+    mul-e
+    slice-read-e
     offer-of-requires
-    mul-if2
-    slice-read-if2
     mul-entries
     slice-write-entries
     same-length

@@ -10,14 +10,17 @@ Inv-loop s free tops r₀ field₀ v₀ r field v = v ≤ 16
 abbrev μ-loop : tie.MeasureT-loop
 μ-loop s free tops r₀ field₀ v₀ r field v = 16 - v
 
+returns : tie.Need-returns Inv-loop μ-loop
+returns c = search needs
+
 loop-holds : tie.Need-loop-holds Inv-loop μ-loop
 loop-holds c = search needs
 
 wrapping-add-u64-requires : tie.Need-wrapping-add-u64-requires Inv-loop μ-loop
 wrapping-add-u64-requires c κs = search needs
 
-returns : tie.Need-returns Inv-loop μ-loop
-returns c = search needs
+returns-2 : tie.Need-returns-2 Inv-loop μ-loop
+returns-2 c = search needs
 
 add-v : tie.Need-add-v Inv-loop μ-loop
 add-v c = search needs
@@ -28,8 +31,8 @@ loop-less c = search needs
 loop-again : tie.Need-loop-again Inv-loop μ-loop
 loop-again c = search needs
 
-returns-2 : tie.Need-returns-2 Inv-loop μ-loop
-returns-2 c = search needs
+returns-3 : tie.Need-returns-3 Inv-loop μ-loop
+returns-3 c = search needs
 
 pub next-word-spec : {M : Type 1} → statement M
 next-word-spec =
@@ -37,10 +40,11 @@ next-word-spec =
     (tie.spec
     Inv-loop
     μ-loop
+    returns
     loop-holds
     wrapping-add-u64-requires
-    returns
+    returns-2
     add-v
     loop-less
     loop-again
-    returns-2)
+    returns-3)

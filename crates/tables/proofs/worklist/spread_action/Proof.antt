@@ -13,17 +13,11 @@ Inv-loop task mask weights states actions entries₀ queue₀ counts₀ m j tops
 abbrev μ-loop : tie.MeasureT-loop
 μ-loop task mask weights states actions entries₀ queue₀ counts₀ m j tops tail end₀ o₀ entries queue counts end o = 8 - o
 
-touches-pattern-requires : tie.Need-touches-pattern-requires Inv-loop μ-loop
-touches-pattern-requires c κs = let p = c .before .before .before .before .pre in (omega (arith, p .0 .actions-few, p .1), p .0 .outcomes-few _ (p .1))
-
-returns : tie.Need-returns Inv-loop μ-loop
-returns c = tried-none _ _ _ _
-
 loop-holds : tie.Need-loop-holds Inv-loop μ-loop
 loop-holds c = (omega arith, tried-none _ _ _ _)
 
 outcomes-of-requires : tie.Need-outcomes-of-requires Inv-loop μ-loop
-outcomes-of-requires c κs = let p = c .before .before .before .before .before .before .before .before .pre in omega (arith, p .0 .actions-few, p .1)
+outcomes-of-requires c κs = let p = c .before .before .before .before .before .before .pre in omega (arith, p .0 .actions-few, p .1)
 
 same-length : tie.Need-same-length Inv-loop μ-loop
 same-length c = search needs
@@ -34,11 +28,12 @@ same-length-2 c = search needs
 same-length-3 : tie.Need-same-length-3 Inv-loop μ-loop
 same-length-3 c = search needs
 
-returns-2 : tie.Need-returns-2 Inv-loop μ-loop
-returns-2 c = c .before .before .before .loop .inv .1
+returns : tie.Need-returns Inv-loop μ-loop
+returns c = c .before .before .before .loop .inv .1
 
 visit-before-requires : tie.Need-visit-before-requires Inv-loop μ-loop
-visit-before-requires c κs = let p = c .before .before .before .before .before .before .before .before .before .before .before .before .before .pre in let n = c .before .before .before .before .before .before .loop .inv .1 .entries-long in (p .0, p .1, c .before .before .before .before .before .loop-test .taken, omega (arith, p .2, n), omega (arith, p .3, n))
+visit-before-requires c κs = let at = c .before .before .before .before .before .before in let p = at .before .before .before .before .before .pre in let n = at .loop .inv .1 .entries-long in
+    (p .0, p .1, c .before .before .before .before .before .loop-test .taken, omega (arith, p .2, n), omega (arith, p .3, n))
 
 add-o : tie.Need-add-o Inv-loop μ-loop
 add-o c = search needs
@@ -58,8 +53,8 @@ same-length-5 c = search needs
 same-length-6 : tie.Need-same-length-6 Inv-loop μ-loop
 same-length-6 c = search needs
 
-returns-3 : tie.Need-returns-3 Inv-loop μ-loop
-returns-3 c = c .before .loop .inv .1
+returns-2 : tie.Need-returns-2 Inv-loop μ-loop
+returns-2 c = c .before .loop .inv .1
 
 pub spread-action-spec : {M : Type 1} → statement M
 spread-action-spec =
@@ -67,14 +62,12 @@ spread-action-spec =
     (tie.spec
     Inv-loop
     μ-loop
-    touches-pattern-requires
-    returns
     loop-holds
     outcomes-of-requires
     same-length
     same-length-2
     same-length-3
-    returns-2
+    returns
     visit-before-requires
     add-o
     loop-less
@@ -82,4 +75,4 @@ spread-action-spec =
     same-length-4
     same-length-5
     same-length-6
-    returns-3)
+    returns-2)

@@ -22,6 +22,9 @@ mul-keep-3 c = search needs
 element-copy-out-keep : tie.Need-element-copy-out-keep
 element-copy-out-keep c = search needs
 
+returns : tie.Need-returns
+returns c = tried-none _ _ _ _
+
 mul-value : tie.Need-mul-value
 mul-value c = search needs
 
@@ -61,9 +64,6 @@ mul-needed-2 c = search needs
 element-copy-out-needed : tie.Need-element-copy-out-needed
 element-copy-out-needed c = search needs
 
-returns : tie.Need-returns
-returns c = tried-none _ _ _ _
-
 returns-2 : tie.Need-returns-2
 returns-2 c = tried-none _ _ _ _
 
@@ -92,6 +92,7 @@ visit-before-spec =
     add-keep-2
     mul-keep-3
     element-copy-out-keep
+    returns
     mul-value
     add-value
     mul-value-2
@@ -105,7 +106,6 @@ visit-before-spec =
     add-needed
     mul-needed-2
     element-copy-out-needed
-    returns
     returns-2
     visit-all-requires
     same-length

@@ -1,0 +1,40 @@
+-- `check_tables`: the record's refusal, else what is said of the tables. Assumes nothing.
+use borrow.Author.Needs.{needs}
+use Rattle.patterns.proofs.space.check_tables.Statement.{statement}
+use Rattle.patterns.proofs.space.check_tables.Tie as tie
+use mathlib.Core.Path.{sym, ap, _∙_}
+use Rattle.task_record.specs.Record.{Sound}
+use Rattle.task_record.specs.TaskOf.{taskOf, patternsOf}
+use Rattle.patterns.specs.Space.{judgeTables, afterRecord, tableCheck}
+
+check-record-requires : tie.Need-check-record-requires
+check-record-requires c κs = search needs
+
+enum-known-number : tie.Need-enum-known-number
+enum-known-number c = search needs
+
+enum-told : tie.Need-enum-told
+enum-told c = search needs
+
+judge-tables-requires : tie.Need-judge-tables-requires
+unfolding Sound
+judge-tables-requires c κs = sym (c .before .before .check-record .ensures) ∙ c .enum-told .given .1
+
+returns : tie.Need-returns
+unfolding tableCheck afterRecord
+returns c = let a = c .before .before .before .before .before .args in sym (ap (λ t. afterRecord t (judgeTables (taskOf (a .rec .now) .sizes) (patternsOf (a .rec .now)) (a .lent))) (sym (c .before .before .before .check-record .ensures) ∙ c .before .number .given .1))
+
+returns-2 : tie.Need-returns-2
+unfolding tableCheck afterRecord
+returns-2 c = let a = c .before .before .before .before .before .args in c .judge-tables .ensures ∙ sym (ap (λ t. afterRecord t (judgeTables (taskOf (a .rec .now) .sizes) (patternsOf (a .rec .now)) (a .lent))) (sym (c .before .before .before .check-record .ensures) ∙ c .before .enum-told .given .1))
+
+pub check-tables-spec : {M : Type 1} → statement M
+check-tables-spec =
+    tie.close
+    (tie.spec
+    check-record-requires
+    enum-known-number
+    enum-told
+    judge-tables-requires
+    returns
+    returns-2)
