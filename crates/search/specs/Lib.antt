@@ -1,6 +1,8 @@
 -- What the contracts of this crate cite, in reading order.
 pub mod Value
+pub mod Rows
 pub mod Buffer
 pub mod Examination
 pub mod Packed
 pub mod Answer
+pub mod Entry

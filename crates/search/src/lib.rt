@@ -1,6 +1,8 @@
-// The search of a compiled task over packed states: the estimate of a state, examining states and outcomes, rounds.
+// The search of a record's task (`entry`): its rows, the estimate of a packed state, examining states and outcomes, rounds.
 mod buffer;
 mod compiled;
+pub mod entry;
 mod estimate;
 mod examine;
 mod rounds;
+mod rows;

@@ -1,0 +1,76 @@
+-- What the search answers and leaves, by what its preparation found out. Assumes nothing.
+use mathlib.Core.Path.{_≡_, ap, _∙_}
+use mathlib.Core.List.{List, _++_}
+use Prim.Native.Nat.{ℕ, _≤_}
+use lib.ListN.{length, drop}
+use Rattle.planning.specs.Pattern.{Additive}
+use Rattle.planning.specs.Table.{tables, Small}
+use Rattle.planning.proofs.Verdict.{verdict-additive}
+use Rattle.task_record.specs.Record.{Sound}
+use Rattle.task_record.specs.TaskOf.{taskOf, patternsOf}
+use Rattle.patterns.specs.Additivity.{additivityOf}
+use Rattle.patterns.specs.Estimate.{afterVerdict, estimateCheck}
+use Rattle.patterns.specs.Estimate as of-checks
+use Rattle.tables.specs.Packed.{compiled}
+use Rattle.patterns.specs.Space.{entriesNeeded, tableCheck}
+use Rattle.patterns.specs.Space as of-space
+use Rattle.tables.specs.RecordTables.{builtOver, whereReady, tablesPrepared, wordsPrepared}
+use Rattle.patterns.specs.declared.space.TableCheck.the-variants as of-tables
+use Rattle.patterns.specs.declared.estimate.EstimateCheck.the-variants as of-estimate
+use Rattle.tables.proofs.BuiltTables.{ready-buildable}
+use Rattle.patterns.proofs.Refusals.{verdict-decides}
+use Rattle.patterns.proofs.Room.{small-fits}
+use Rattle.search.specs.Answer.{bufferOf}
+use Rattle.search.specs.Entry.{HoldsTables, taskAnswer, searchOf, afterEstimate, searchAnswer, bufferAfter, planAfter}
+use Rattle.search.specs.declared.entry.SearchAnswer.the-variants as outcome
+
+module _ (r : List ℕ) (lent : ℕ) where
+  module _ {number second : ℕ} (h : estimateCheck r lent ≡ of-estimate.Refused number second) where
+    pub search-refused : (n : ℕ) → searchAnswer r lent n ≡ outcome.Refused number second
+    unfolding searchAnswer afterEstimate
+    search-refused n = rw h
+
+    pub plan-refused : (plan : List ℕ) → planAfter r lent plan ≡ plan
+    unfolding planAfter bufferAfter
+    plan-refused plan = rw h
+
+  module _ (h : estimateCheck r lent ≡ of-estimate.Ready) where
+    pub search-ready : (n : ℕ) → searchAnswer r lent n ≡ searchOf n (taskAnswer r)
+    unfolding searchAnswer afterEstimate
+    search-ready n = rw h
+
+    pub plan-ready : (plan : List ℕ) → planAfter r lent plan ≡ bufferOf (length plan) (taskAnswer r)
+    unfolding planAfter bufferAfter
+    plan-ready plan = rw h
+
+-- Prepared tables and words.
+module _ (r tabs : List ℕ) (h : estimateCheck r (length tabs) ≡ of-estimate.Ready) where
+  pub prepared-tables : tablesPrepared r tabs ≡ tables (taskOf r) (patternsOf r) ++ drop (entriesNeeded (taskOf r .sizes) (patternsOf r)) tabs
+  unfolding tablesPrepared whereReady builtOver
+  prepared-tables = rw h
+
+  prepared-words : (words : List ℕ) → wordsPrepared r (length tabs) words ≡ compiled (taskOf r)
+  unfolding wordsPrepared whereReady
+  prepared-words words = rw h
+
+  pub prepared-holds : {new : List ℕ} → new ≡ tablesPrepared r tabs → HoldsTables r new
+  prepared-holds e = record { rest = drop (entriesNeeded (taskOf r .sizes) (patternsOf r)) tabs; built = e ∙ prepared-tables }
+
+  pub prepared : (words : List ℕ) {new task : List ℕ} → new ≡ tablesPrepared r tabs → task ≡ wordsPrepared r (length tabs) words →
+      Sound r × Small (taskOf r) (patternsOf r) × (task ≡ compiled (taskOf r)) × HoldsTables r new
+  prepared words e f = let k = ready-buildable r (length tabs) h in (k .sound, k .small, f ∙ prepared-words words, prepared-holds e)
+
+-- Nothing is refused of a sound record with additive patterns that are small enough and have room.
+pub ready-when : (r : List ℕ) (lent : ℕ) → Sound r → Additive (taskOf r) (patternsOf r) → Small (taskOf r) (patternsOf r) →
+    entriesNeeded (taskOf r .sizes) (patternsOf r) ≤ lent →
+    estimateCheck r lent ≡ of-estimate.Ready
+unfolding estimateCheck of-checks.afterRecord Sound Small afterVerdict additivityOf
+ready-when r lent sound add small room = rw sound
+    (verdict-decides r lent (small-fits (taskOf r .sizes) (patternsOf r) lent small room)
+    (ap additivityOf (verdict-additive (taskOf r) (patternsOf r) .1 add)))
+
+-- Nor does a build of it refuse.
+pub fits-when : (r : List ℕ) (lent : ℕ) → Sound r → Small (taskOf r) (patternsOf r) → entriesNeeded (taskOf r .sizes) (patternsOf r) ≤ lent →
+    tableCheck r lent ≡ of-tables.Fits (entriesNeeded (taskOf r .sizes) (patternsOf r))
+unfolding tableCheck of-space.afterRecord Sound Small
+fits-when r lent sound small room = rw sound (small-fits (taskOf r .sizes) (patternsOf r) lent small room)
