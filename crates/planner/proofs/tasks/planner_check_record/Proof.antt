@@ -1,0 +1,42 @@
+-- `planner_check_record`: the numbers of each case of the answer. Assumes nothing.
+use borrow.Author.Needs.{needs}
+use Rattle.planner.proofs.tasks.planner_check_record.Statement.{statement}
+use Rattle.planner.proofs.tasks.planner_check_record.Tie as tie
+use mathlib.Core.Path.{sym, ap, _∙_}
+use Rattle.planner.specs.Answers.{recordNumbers}
+use Rattle.planner.specs.ForC.{fiveNumbers}
+
+check-record-requires : tie.Need-check-record-requires
+check-record-requires c κs = search needs
+
+enum-known-number : tie.Need-enum-known-number
+enum-known-number c = search needs
+
+refuse-requires : tie.Need-refuse-requires
+refuse-requires c κs = search needs
+
+enum-told : tie.Need-enum-told
+enum-told c = search needs
+
+reply-requires : tie.Need-reply-requires
+reply-requires c κs = search needs
+
+returns : tie.Need-returns
+unfolding recordNumbers
+returns c = c .refuse .ensures ∙ ap (λ x. fiveNumbers (recordNumbers x)) (sym (c .before .before .number .given .1) ∙ c .before .before .before .before .check-record .ensures)
+
+returns-2 : tie.Need-returns-2
+unfolding recordNumbers
+returns-2 c = c .reply .ensures ∙ ap (λ x. fiveNumbers (recordNumbers x)) (sym (c .before .enum-told .given .1) ∙ c .before .before .before .check-record .ensures)
+
+pub planner-check-record-spec : {M : Type 1} → statement M
+planner-check-record-spec =
+    tie.close
+    (tie.spec
+    check-record-requires
+    enum-known-number
+    refuse-requires
+    enum-told
+    reply-requires
+    returns
+    returns-2)
