@@ -7,6 +7,16 @@ use reference::answer::Answer;
 use reference::brute::Brute;
 use reference::planner::Planner;
 
+/// A slice that C lends; one of length 0 may have a null pointer.
+unsafe fn lent<'a, T>(first: *const T, length: usize) -> &'a [T] {
+    if length == 0 { &[] } else { unsafe { from_raw_parts(first, length) } }
+}
+
+/// The same of a slice that may be written.
+unsafe fn lent_mut<'a, T>(first: *mut T, length: usize) -> &'a mut [T] {
+    if length == 0 { &mut [] } else { unsafe { from_raw_parts_mut(first, length) } }
+}
+
 /// # Safety
 /// Both pointers must be good for the lengths beside them; so below.
 #[unsafe(no_mangle)]
@@ -16,14 +26,14 @@ pub unsafe extern "C" fn planner_read_text(
     record: *mut u8,
     r: usize,
 ) -> Answer {
-    unsafe { Brute.read_text(from_raw_parts(text, t), from_raw_parts_mut(record, r)) }
+    unsafe { Brute.read_text(lent(text, t), lent_mut(record, r)) }
 }
 
 /// # Safety
 /// As above.
 #[unsafe(no_mangle)]
 pub unsafe extern "C" fn planner_check_record(record: *const u8, r: usize) -> Answer {
-    unsafe { Brute.check_record(from_raw_parts(record, r)) }
+    unsafe { Brute.check_record(lent(record, r)) }
 }
 
 /// # Safety
@@ -35,7 +45,7 @@ pub unsafe extern "C" fn planner_check_state(
     state: *const u8,
     s: usize,
 ) -> Answer {
-    unsafe { Brute.check_state(from_raw_parts(record, r), from_raw_parts(state, s)) }
+    unsafe { Brute.check_state(lent(record, r), lent(state, s)) }
 }
 
 /// # Safety
@@ -47,14 +57,14 @@ pub unsafe extern "C" fn planner_build_tables(
     tables: *mut u16,
     t: usize,
 ) -> Answer {
-    unsafe { Brute.build_tables(from_raw_parts(record, r), from_raw_parts_mut(tables, t)) }
+    unsafe { Brute.build_tables(lent(record, r), lent_mut(tables, t)) }
 }
 
 /// # Safety
 /// As above.
 #[unsafe(no_mangle)]
 pub unsafe extern "C" fn planner_additive(record: *const u8, r: usize) -> Answer {
-    unsafe { Brute.additive(from_raw_parts(record, r)) }
+    unsafe { Brute.additive(lent(record, r)) }
 }
 
 /// # Safety
@@ -69,8 +79,8 @@ pub unsafe extern "C" fn planner_value(
     t: usize,
 ) -> Answer {
     unsafe {
-        let (record, state) = (from_raw_parts(record, r), from_raw_parts(state, s));
-        Brute.value(record, state, from_raw_parts(tables, t))
+        let (record, state) = (lent(record, r), lent(state, s));
+        Brute.value(record, state, lent(tables, t))
     }
 }
 
@@ -86,8 +96,8 @@ pub unsafe extern "C" fn planner_search(
     p: usize,
 ) -> Answer {
     unsafe {
-        let (tables, plan) = (from_raw_parts_mut(tables, t), from_raw_parts_mut(plan, p));
-        Brute.search(from_raw_parts(record, r), tables, plan)
+        let (tables, plan) = (lent_mut(tables, t), lent_mut(plan, p));
+        Brute.search(lent(record, r), tables, plan)
     }
 }
 
@@ -103,7 +113,7 @@ pub unsafe extern "C" fn planner_check_plan(
     p: usize,
 ) -> Answer {
     unsafe {
-        let (record, state) = (from_raw_parts(record, r), from_raw_parts(state, s));
-        Brute.check_plan(record, state, from_raw_parts(plan, p))
+        let (record, state) = (lent(record, r), lent(state, s));
+        Brute.check_plan(record, state, lent(plan, p))
     }
 }

@@ -5,6 +5,7 @@ pub mod answer;
 pub mod brute;
 pub mod compare;
 pub mod demand;
+pub mod fast;
 pub mod generate;
 #[cfg(feature = "library")]
 pub mod library;

@@ -54,34 +54,60 @@ unsafe extern "C" {
 /// The library of the product.
 pub struct Library;
 
+impl Library {
+    /// Whether the linked archive has the entry.
+    pub fn has(entry: &str) -> bool {
+        env!("PLANNER_ENTRIES").split(',').any(|name| name.strip_prefix("planner_") == Some(entry))
+    }
+}
+
+/// The call, if the linked archive has the entry.
+macro_rules! entry {
+    ($name:literal, $call:expr) => {{
+        #[cfg(exported = $name)]
+        let answer = unsafe { $call };
+        #[cfg(not(exported = $name))]
+        let answer = panic!("the planner library has no {}", $name);
+        answer
+    }};
+}
+
 // SAFETY (all calls below): each pointer comes with the length of the live
 // slice it was taken from, and only slices borrowed mutably go to parameters
 // the library may write through.
 impl Planner for Library {
     fn read_text(&self, text: &[u8], record: &mut [u8]) -> Answer {
-        unsafe { planner_read_text(text.as_ptr(), text.len(), record.as_mut_ptr(), record.len()) }
+        entry!(
+            "planner_read_text",
+            planner_read_text(text.as_ptr(), text.len(), record.as_mut_ptr(), record.len())
+        )
     }
 
     fn check_record(&self, record: &[u8]) -> Answer {
-        unsafe { planner_check_record(record.as_ptr(), record.len()) }
+        entry!("planner_check_record", planner_check_record(record.as_ptr(), record.len()))
     }
 
     fn check_state(&self, record: &[u8], state: &[u8]) -> Answer {
-        unsafe { planner_check_state(record.as_ptr(), record.len(), state.as_ptr(), state.len()) }
+        entry!(
+            "planner_check_state",
+            planner_check_state(record.as_ptr(), record.len(), state.as_ptr(), state.len())
+        )
     }
 
     fn build_tables(&self, record: &[u8], tables: &mut [u16]) -> Answer {
-        unsafe {
+        entry!(
+            "planner_build_tables",
             planner_build_tables(record.as_ptr(), record.len(), tables.as_mut_ptr(), tables.len())
-        }
+        )
     }
 
     fn additive(&self, record: &[u8]) -> Answer {
-        unsafe { planner_additive(record.as_ptr(), record.len()) }
+        entry!("planner_additive", planner_additive(record.as_ptr(), record.len()))
     }
 
     fn value(&self, record: &[u8], state: &[u8], tables: &[u16]) -> Answer {
-        unsafe {
+        entry!(
+            "planner_value",
             planner_value(
                 record.as_ptr(),
                 record.len(),
@@ -90,11 +116,12 @@ impl Planner for Library {
                 tables.as_ptr(),
                 tables.len(),
             )
-        }
+        )
     }
 
     fn search(&self, record: &[u8], tables: &mut [u16], plan: &mut [u8]) -> Answer {
-        unsafe {
+        entry!(
+            "planner_search",
             planner_search(
                 record.as_ptr(),
                 record.len(),
@@ -103,11 +130,12 @@ impl Planner for Library {
                 plan.as_mut_ptr(),
                 plan.len(),
             )
-        }
+        )
     }
 
     fn check_plan(&self, record: &[u8], state: &[u8], plan: &[u8]) -> Answer {
-        unsafe {
+        entry!(
+            "planner_check_plan",
             planner_check_plan(
                 record.as_ptr(),
                 record.len(),
@@ -116,6 +144,6 @@ impl Planner for Library {
                 plan.as_ptr(),
                 plan.len(),
             )
-        }
+        )
     }
 }
