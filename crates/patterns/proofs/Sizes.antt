@@ -1,10 +1,10 @@
 -- The sizes and patterns of a sound record, and a state, as the code reads them. Assumes nothing.
-use mathlib.Core.Path.{_≡_, refl, sym, _∙_}
+use mathlib.Core.Path.{_≡_, refl, sym, ap, _∙_}
 use mathlib.Core.List.{List, [], _∷_}
 use Prim.Native.Nat.{ℕ, _≤_, _<_}
 use native.Mathlib.Omega.{arith}
 use lib.Dec.{T, ltb}
-use lib.ListN.{length, take, drop}
+use lib.ListN.{length, getD, take, drop}
 use lib.Seq.{ext-getD, getD-take, length-take-le}
 use Rattle.planning.specs.Task.{inSizes}
 use Rattle.planning.proofs.Test.{and-r}
@@ -15,6 +15,8 @@ use Rattle.task_record.specs.TaskOf.{cellsAt, taskOf}
 use Rattle.task_record.specs.Window.{Sixteen}
 use Rattle.task_record.proofs.Soundness.{sound-length}
 use Rattle.task_record.proofs.SoundTask.{variables-right, patterns-right, cell-of-part, length-of-part, sizes-length, sound-well-formed}
+use Rattle.planning.proofs.Finite.{length-tabulate, getD-tabulate}
+use Rattle.patterns.specs.Space.{allSizes}
 use Rattle.patterns.proofs.Weights.{Positive}
 
 -- A state has a value for each size.
@@ -24,6 +26,17 @@ state-length [] [] h = refl
 state-length [] (x ∷ s) h = absurd h
 state-length (z ∷ zs) [] h = absurd h
 state-length (z ∷ zs) (x ∷ s) h = let e = state-length zs s (and-r (ltb x z) _ h) in omega arith
+
+-- The sizes of sixteen variables, one by one and as a list.
+pub sixteen-sizes : (r all : List ℕ) → all ≡ allSizes r → Sixteen (sizeOf r) all
+unfolding allSizes
+sixteen-sizes r all e = record { whole = ap length e ∙ length-tabulate (sizeOf r) 0 16; cell = λ v l. ap (λ x. getD x v 0) e ∙ getD-tabulate (sizeOf r) 0 16 v 0 l ∙ ap (sizeOf r) (omega arith) }
+
+pub sixteen-are-sizes : (r all : List ℕ) → Sixteen (sizeOf r) all → all ≡ allSizes r
+unfolding allSizes
+sixteen-are-sizes r all s =
+    ext-getD 0 all (allSizes r) (s .whole ∙ sym (length-tabulate (sizeOf r) 0 16))
+    (λ i l. let m : i < 16 = rw (s .whole) at l in s .cell i m ∙ sym (getD-tabulate (sizeOf r) 0 16 i 0 m ∙ ap (sizeOf r) (omega arith)))
 
 module _ (r : List ℕ) (sound : Sound r) where
   pub variables-few : variableCount r ≤ 16

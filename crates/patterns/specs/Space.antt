@@ -5,13 +5,19 @@ use mathlib.Core.List.{List, [], _∷_}
 use Prim.Native.Nat.{ℕ, suc, _+_}
 use lib.Dec.{ltb}
 use lib.ListN.{length}
+use Rattle.planning.specs.Finite.{tabulate}
 use Rattle.planning.specs.Table.{stateCount}
+use Rattle.task_record.specs.Numbers.{sizeOf}
 use Rattle.task_record.specs.Record.{recordCheck}
 use Rattle.task_record.specs.declared.record.RecordCheck.{RecordCheck}
 use Rattle.task_record.specs.declared.record.RecordCheck.the-variants as of-record
 use Rattle.task_record.specs.TaskOf.{taskOf, patternsOf}
 use Rattle.patterns.specs.declared.space.TableCheck.{TableCheck}
 use Rattle.patterns.specs.declared.space.TableCheck.the-variants.{Fits, Refused}
+
+-- "8 sizes (16 bytes)": of sixteen variables; "Unused cells: size .. 0".
+unfoldable pub allSizes : List ℕ → List ℕ
+allSizes r = tabulate (sizeOf r) 0 16
 
 -- "A pattern has at most 4,096 states".
 abbrev pub mostStates : ℕ

@@ -2,11 +2,9 @@
 ghost use mathlib.Core.Path.{_≡_};
 ghost use Prim.Native.Nat.{_<_};
 ghost use lib.ListN.{length};
-ghost use Rattle.task_record.specs.Numbers.{sizeOf};
-ghost use Rattle.task_record.specs.Window.{Sixteen};
 ghost use Rattle.task_record.specs.Record.{Sound};
 ghost use Rattle.task_record.specs.TaskOf.{taskOf, patternsOf};
-ghost use Rattle.patterns.specs.Space.{judgeTables, tableCheck};
+ghost use Rattle.patterns.specs.Space.{allSizes, judgeTables, tableCheck};
 use crate::places::state_count;
 use crate::places::wide;
 use task_record::cells::pattern_cells;
@@ -30,7 +28,7 @@ pub(crate) fn sixteen_zeros() -> [u8; 16]
 
 // The sizes of sixteen variables, 0 for those that the task does not have.
 pub fn sizes_of(rec: &[u8]) -> [u8; 16]
-    ensures { λ r. ⌜ Sixteen (sizeOf (now (rec .entry))) r ⌝ }
+    ensures { λ r. ⌜ r ≡ allSizes (now (rec .entry)) ⌝ }
 {
     let mut r = sixteen_zeros();
     for v in 0..16u8 {

@@ -8,6 +8,7 @@ use lib.ListN.{length, getD, length-set}
 use borrow.Author.Needs.{needs}
 use Rattle.task_record.specs.Numbers.{sizeOf}
 use Rattle.task_record.proofs.Sixteens.{filled-next}
+use Rattle.patterns.proofs.Sizes.{sixteen-are-sizes}
 
 abbrev Inv-loop : tie.InvT-loop
 Inv-loop rec r₀ v₀ r v = (v ≤ 16) × (length r ≡ 16) × ((k : ℕ) → k < v → getD r k 0 ≡ sizeOf rec k)
@@ -41,7 +42,8 @@ loop-again c = let l = c .before .before .before .loop in let r = c .before .bef
     (omega arith, simp length-set (l .inv .1), rw (c .before .wide .ensures .0) (filled-next (sizeOf r) (l .r) (l .v) (c .size-of .result) (omega arith) (c .size-of .ensures) (l .inv .2)))
 
 returns : tie.Need-returns Inv-loop μ-loop
-returns c = let l = c .before .loop in record { whole = l .inv .1; cell = λ k h. l .inv .2 k (omega arith) }
+returns c = let l = c .before .loop in let r = c .before .before .before .before .args .rec .now in
+    sixteen-are-sizes r (l .r) (record { whole = l .inv .1; cell = λ k h. l .inv .2 k (omega arith) })
 
 pub sizes-of-spec : {M : Type 1} → statement M
 sizes-of-spec =

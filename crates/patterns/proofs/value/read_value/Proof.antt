@@ -12,7 +12,7 @@ use Rattle.task_record.specs.TaskOf.{taskOf, patternsOf}
 use Rattle.patterns.specs.Value.{valueOf, valuesOf, readValue}
 use Rattle.patterns.proofs.Refusals.{ready-means}
 use Rattle.patterns.proofs.Room.{fits-small, fits-room}
-use Rattle.patterns.proofs.Sizes.{variables-few, sizes-taken}
+use Rattle.patterns.proofs.Sizes.{sixteen-sizes, variables-few, sizes-taken}
 
 sizes-of-requires : tie.Need-sizes-of-requires
 sizes-of-requires c κs = search needs
@@ -25,11 +25,11 @@ wide-requires c κs = search needs
 
 array-share-prefix-all : tie.Need-array-share-prefix-all
 array-share-prefix-all c = let a = c .before .before .before .before .before .before in let g = checked-good (a .args .rec .now) (a .args .state .now) (a .pre .0) in
-    rw (c .wide .ensures .0, c .before .variable-count .ensures, c .before .before .sizes-of .ensures .whole) (variables-few (a .args .rec .now) (g .0))
+    rw (c .wide .ensures .0, c .before .variable-count .ensures, (sixteen-sizes _ _ (c .before .before .sizes-of .ensures)) .whole) (variables-few (a .args .rec .now) (g .0))
 
 slice-aggregate-sum-entries : tie.Need-slice-aggregate-sum-entries
 slice-aggregate-sum-entries c = let a = c .before .before .before .before .before .before .before in let g = checked-good (a .args .rec .now) (a .args .state .now) (a .pre .0) in
-    sym (length-take-le _ _ (rw (c .before .wide .ensures .0, c .before .before .variable-count .ensures, c .before .before .before .sizes-of .ensures .whole) (variables-few (a .args .rec .now) (g .0))))
+    sym (length-take-le _ _ (rw (c .before .wide .ensures .0, c .before .before .variable-count .ensures, (sixteen-sizes _ _ (c .before .before .before .sizes-of .ensures)) .whole) (variables-few (a .args .rec .now) (g .0))))
 
 slice-aggregate-sum-entries-2 : tie.Need-slice-aggregate-sum-entries-2
 slice-aggregate-sum-entries-2 c = let a = c .before .before .before .before .before .before .before .before in let g = checked-good (a .args .rec .now) (a .args .state .now) (a .pre .0) in
@@ -40,7 +40,7 @@ unfolding Small
 sum-entries-requires c κs = let a = c .before .before .before .before .before .before .before .before in let r = a .args .rec .now in let s = a .args .state .now in let g = checked-good r s (a .pre .0) in
     let k = ready-means r (length (a .args .tables .now)) (a .pre .1) in (
       g .0,
-      rw (c .before .before .wide .ensures .0, c .before .before .before .variable-count .ensures) (sizes-taken r (g .0) (c .before .before .before .before .sizes-of .result) (c .before .before .before .before .sizes-of .ensures)),
+      rw (c .before .before .wide .ensures .0, c .before .before .before .variable-count .ensures) (sizes-taken r (g .0) (c .before .before .before .before .sizes-of .result) ((sixteen-sizes _ _ (c .before .before .before .before .sizes-of .ensures)))),
       rw (c .before .before .wide .ensures .0, c .before .before .before .variable-count .ensures) (good-values r (g .0) s (g .1)),
       fits-small (taskOf r .sizes) (patternsOf r) (length (a .args .tables .now)) (k .0 .0) (k .0 .1),
       let o = fits-room (taskOf r .sizes) (patternsOf r) (length (a .args .tables .now)) (k .0 .0) (k .0 .1) in omega arith,

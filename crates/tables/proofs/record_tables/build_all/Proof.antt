@@ -11,6 +11,7 @@ use Rattle.planning.specs.Table.{stateCount, Small}
 use Rattle.planning.proofs.Finite.{all-at}
 use Rattle.task_record.specs.Numbers.{patternCount}
 use Rattle.task_record.specs.TaskOf.{taskOf, patternsOf}
+use Rattle.patterns.proofs.Sizes.{sixteen-sizes}
 use Rattle.patterns.proofs.Reading.{patterns-length, pattern-at}
 use Rattle.tables.proofs.TableChain.{Chaining, chaining-start, next-inside, chaining-next, chaining-end}
 
@@ -36,7 +37,7 @@ build-one-requires c κs = let a = c .before .before .before .before .before .be
     let m : l .p < length (patternsOf r) = rw (patterns-length r) t in let q = pattern-at r (l .p) t in
     let k = rw q at (all-at (λ x. stateCount (taskOf r .sizes) x ≤ 4096) (patternsOf r) [] (a .pre .0 .small) (l .p) m) in
     let n = rw q at (next-inside r (a .args .tables .now) (l .tables) (l .begin) (l .p) (l .inv) m (a .pre .0 .room)) in
-    (a .pre .0 .sound, a .pre .1, c .before .before .before .before .sizes-of .ensures, t, k, n)
+    (a .pre .0 .sound, a .pre .1, (sixteen-sizes _ _ (c .before .before .before .before .sizes-of .ensures)), t, k, n)
 
 add-p : tie.Need-add-p Inv-loop μ-loop
 add-p c = search needs
