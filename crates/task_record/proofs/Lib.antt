@@ -7,6 +7,7 @@ pub mod BlockRows
 pub mod Offsets
 pub mod Windows
 pub mod Parts
+pub mod ColumnLaws
 pub mod Soundness
 pub mod Cellwise
 pub mod Fronts

@@ -6,15 +6,15 @@ use Prim.Native.Nat.{ℕ, _+_, _-_, _*_, _/_, _%_, _≤_, _<_}
 use native.Mathlib.Omega.{arith}
 use lib.Dec.{ltb, leb, eqb}
 use lib.ListN.{getD}
-use borrow.Author.Tests.{lt-ltb, le-ltb, ltb-true, ltb-false, le-leb, lt-leb, leb-true}
-use Rattle.task_record.specs.Layout.{atSizes, atGoal, atStart, atPattern, atAction, atPatterns, actionSize}
+use borrow.Author.Tests.{lt-ltb, le-ltb, ltb-true, le-leb, lt-leb, leb-true}
+use Rattle.task_record.specs.Layout.{atSizes, atGoal, atStart, atPattern, atAction, atVariables, atActions, atPatterns, actionSize}
 use Rattle.task_record.specs.Numbers.{byte, variableCount, actionCount, patternCount, sizeOf, outcomeCount}
-use Rattle.task_record.specs.Scan.{firstFrom, allBelow}
-use Rattle.task_record.specs.Window.{rowFits, nineFit, columnFits, Sixteen, Tops, usedBlocks}
+use Rattle.task_record.specs.Scan.{firstFrom}
+use Rattle.task_record.specs.Window.{rowFits, Sixteen, usedBlocks}
 use Rattle.task_record.specs.Record.{cellOk, headOk, sizeOk, stateCellOk, assignmentOk, countOk}
 use Rattle.planning.proofs.Test.{by-test}
 use Rattle.task_record.proofs.Tests.{same-test, both-right}
-use Rattle.task_record.proofs.Scanning.{first-same, first-all, first-suc, first-stops, first-none, all-at}
+use Rattle.task_record.proofs.Scanning.{first-same, first-all, first-suc, first-stops}
 use Rattle.task_record.proofs.Offsets.{size-at, goal-at, start-at, pattern-at, count-at, block-at}
 use Rattle.task_record.proofs.Windows.{row-cell, size-window, assignment-window, unused-assignment-window, state-window, pattern-window, unused-pattern-window}
 
@@ -23,9 +23,18 @@ abbrev pub Bytes : List ℕ → Type 0
 Bytes c = (k : ℕ) → getD c k 0 < 256
 
 module _ (r : List ℕ) (bytes : Bytes r) where
-  pub head-right : atSizes ≤ firstFrom (cellOk r) 0 atSizes → patternCount r ≤ 8
-  unfolding cellOk headOk
-  head-right h = leb-true (patternCount r) 8 (first-all (cellOk r) 0 atSizes h atPatterns (omega arith))
+  module _ (right : atSizes ≤ firstFrom (cellOk r) 0 atSizes) where
+    pub head-right : patternCount r ≤ 8
+    unfolding cellOk headOk
+    head-right = leb-true (patternCount r) 8 (first-all (cellOk r) 0 atSizes right atPatterns (omega arith))
+
+    pub head-actions : actionCount r ≤ 64
+    unfolding cellOk headOk
+    head-actions = leb-true (actionCount r) 64 (first-all (cellOk r) 0 atSizes right atActions (omega arith))
+
+    pub head-variables : variableCount r ≤ 16
+    unfolding cellOk headOk
+    head-variables = leb-true (variableCount r) 16 (both-right (leb 1 (variableCount r)) _ (first-all (cellOk r) 0 atSizes right atVariables (omega arith)))
 
   pub sizes-scan : (shift top : List ℕ) → Sixteen (λ v. cond (ltb v (variableCount r)) 254 0) shift → Sixteen (λ v. cond (ltb v (variableCount r)) 14 0) top
       → firstFrom (rowFits r shift top atSizes) atSizes 16 ≡ firstFrom (cellOk r) atSizes 16
@@ -115,7 +124,7 @@ module _ (r : List ℕ) (bytes : Bytes r) where
       pub action-goes-on : firstFrom (cellOk r) (atAction m) actionSize ≡ firstFrom (cellOk r) (atAction m + 1) 144
       action-goes-on = first-suc (cellOk r) (atAction m) 144 (count-right ∙ le-leb (usedBlocks r m) 9 few)
 
-      block-cell : (i : ℕ) → i < 144 → cellOk r (atAction m + 1 + i) ≡ assignmentOk r (ltb (i / 16) (usedBlocks r m)) (i % 16) (byte r (atAction m + 1 + i))
+      pub block-cell : (i : ℕ) → i < 144 → cellOk r (atAction m + 1 + i) ≡ assignmentOk r (ltb (i / 16) (usedBlocks r m)) (i % 16) (byte r (atAction m + 1 + i))
       block-cell i l = block-at r m i l ∙ rw (used-block (i / 16) few)
 
       pub used-scan : (shift top : List ℕ) → firstFrom (cellOk r) atSizes 16 ≡ atGoal → Sixteen (λ v. 1) shift → Sixteen (sizeOf r) top
@@ -136,29 +145,3 @@ module _ (r : List ℕ) (bytes : Bytes r) where
           row-cell _ _ r shift top a i s t
           ∙ unused-assignment-window (getD r (a + i) 0) (bytes (a + i)) r ((16 * usedBlocks r m + i) % 16)
           ∙ sym (rw e (block-cell (16 * usedBlocks r m + i) (omega arith) ∙ rw (le-ltb ((16 * usedBlocks r m + i) / 16) (usedBlocks r m) (omega arith)))))
-
-      -- Nine blocks whose columns all fit are passed whole.
-      pub nine-blocks-fit : (tops : List ℕ) → firstFrom (cellOk r) atSizes 16 ≡ atGoal → Tops (sizeOf r) tops
-          → allBelow (columnFits r (atAction m + 1) tops (16 * (9 - usedBlocks r m))) 16 ≡ true → firstFrom (cellOk r) (atAction m) actionSize ≡ atAction m + actionSize
-      unfolding nineFit columnFits
-      nine-blocks-fit tops right t h =
-          let all : (i : ℕ) → i < 144 → cellOk r (atAction m + 1 + i) ≡ true =
-          (λ i l.
-          let x = getD r (atAction m + 1 + i) 0 in
-          let k = 16 * (9 - usedBlocks r m) + i in
-          let f = all-at (nineFit r (atAction m + 1) tops (16 * (9 - usedBlocks r m)) (i % 16)) 9 (i / 16)
-          (all-at (columnFits r (atAction m + 1) tops (16 * (9 - usedBlocks r m))) 16 (i % 16) h (omega arith)) (omega arith) in
-          let p : atAction m + 1 + 16 * (i / 16) + i % 16 ≡ atAction m + 1 + i = omega arith in
-          let q : 16 * (9 - usedBlocks r m) + 16 * (i / 16) + i % 16 ≡ k = omega arith in
-          by-test (ltb (i / 16) (usedBlocks r m))
-          (λ w.
-          let u = ltb-true (i / 16) (usedBlocks r m) w in
-          let e : k % 16 ≡ i % 16 = omega arith in
-          let d : getD tops k 0 ≡ sizeOf r (i % 16) = rw e at (t .used k (omega arith)) in
-          block-cell i l ∙ rw w (sym (assignment-window x (bytes (atAction m + 1 + i)) r (i % 16) (size-right right (i % 16) (omega arith))) ∙ rw (p, q, d) at f))
-          (λ w.
-          let u = ltb-false (i / 16) (usedBlocks r m) w in
-          let d : getD tops k 0 ≡ 0 = t .unused k (omega arith) in
-          block-cell i l ∙ rw w (sym (unused-assignment-window x (bytes (atAction m + 1 + i)) r (i % 16)) ∙ rw (p, q, d) at f))) in
-          let e : atAction m + 1 + 144 ≡ atAction m + actionSize = omega arith in
-          action-goes-on ∙ first-none (cellOk r) (atAction m + 1) 144 all ∙ e

@@ -70,6 +70,10 @@ module _ (ok : ℕ → Bool) (k n m t x : ℕ) (all : n + m ≡ t) (first : x �
   pub found-second : (y : ℕ) → k + n ≤ x → y ≡ firstFrom ok (k + n) m → y ≡ firstFrom ok k t
   found-second y h second = second ∙ sym (rw all at (first-past ok k n m (omega arith)))
 
+-- Two scans in a row that find nothing.
+pub first-on : (ok : ℕ → Bool) (k n m : ℕ) → firstFrom ok k n ≡ k + n → firstFrom ok (k + n) m ≡ k + n + m → firstFrom ok k (n + m) ≡ k + n + m
+first-on ok k n m first second = first-past ok k n m (omega arith) ∙ second
+
 -- What a scan that found nothing says of each number.
 pub first-all : (ok : ℕ → Bool) (k n : ℕ) → k + n ≤ firstFrom ok k n → (i : ℕ) → i < n → ok (k + i) ≡ true
 unfolding firstFrom
@@ -164,13 +168,3 @@ all-from-first ok (suc n) =
 pub gathered-next : (ok : ℕ → Bool) (i bad b : ℕ) → eqb b 0 ≡ ok i → eqb bad 0 ≡ allBelow ok i → eqb (bitOr bad b) 0 ≡ allBelow ok (i + 1)
 unfolding allBelow
 gathered-next ok i bad b e h = rw (add-one, or-none, e, h)
-
--- The same of a test that is itself gathered: so many of its parts are tried.
-module _ (ok : ℕ → Bool) (part : ℕ → ℕ → Bool) (m i : ℕ) (whole : ok i ≡ allBelow (part i) m) where
-  pub part-next : (j bad b : ℕ) → eqb b 0 ≡ part i j → eqb bad 0 ≡ (allBelow ok i && allBelow (part i) j) → eqb (bitOr bad b) 0 ≡ (allBelow ok i && allBelow (part i) (j + 1))
-  unfolding allBelow
-  part-next j bad b e h = rw (add-one, or-none, e, h) (and-assoc (allBelow ok i) (allBelow (part i) j) (part i j))
-
-  pub parts-done : (j bad : ℕ) → j ≡ m → eqb bad 0 ≡ (allBelow ok i && allBelow (part i) j) → eqb bad 0 ≡ allBelow ok (i + 1)
-  unfolding allBelow
-  parts-done j bad e h = h ∙ rw (add-one, e, whole)

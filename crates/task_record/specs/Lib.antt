@@ -1,5 +1,5 @@
 -- The definitions that the contracts cite: where each cell stands, what it may hold, what the checks answer, the task that a record holds.
--- Scan, Window, Parts and Cells are the code's own.
+-- Scan, Window, Parts, Columns and Cells are the code's own.
 pub mod Layout
 pub mod Numbers
 pub mod Scan
@@ -8,4 +8,5 @@ pub mod State
 pub mod TaskOf
 pub mod Window
 pub mod Parts
+pub mod Columns
 pub mod Cells

@@ -2,14 +2,14 @@
 ghost use mathlib.Core.Path.{_≡_};
 ghost use mathlib.Core.Bool.{cond};
 ghost use Prim.Native.Nat.{_+_, _-_, _*_, _≤_, _<_};
-ghost use lib.ListN.{length, getD, replicate};
+ghost use lib.ListN.{length, getD};
 ghost use lib.Dec.{eqb, ltb};
 ghost use Rattle.task_record.specs.Scan.{firstFrom, allBelow};
-ghost use Rattle.task_record.specs.Window.{fits, blockFits, rowFits, columnFits, Sixteen, Tops};
+ghost use Rattle.task_record.specs.Window.{fits, blockFits, rowFits, Sixteen};
 use crate::cells::wide;
 
 // 0 where x fits the window, else what it is too high: faults can then be gathered by `|`, and the difference is one vector instruction.
-fn misfit(x: u8, shift: u8, top: u8) -> u8
+pub(crate) fn misfit(x: u8, shift: u8, top: u8) -> u8
     ensures { λ r. ⌜ eqb r 0 ≡ fits x shift top ⌝ }
 {
     let moved = std::num::wrapping_add_u8(x, shift);
@@ -56,40 +56,6 @@ pub(crate) fn rows(c: &[u8], shift: [u8; 16], top: [u8; 16], a: usize, blocks: u
         }
     }
     a + 16 * blocks
-}
-
-// Whether the nine blocks from offset `a` on fit the assignments whose tops stand from offset `t` of `tops` on. Column by column, so that
-// the nine cells of a column are tried together, sixteen columns at once.
-pub(crate) fn nine_fit(c: &[u8], a: usize, tops: &[u8], t: usize) -> bool
-    requires { ⌜ (a + 144 ≤ length (now c)) × (t + 144 ≤ length (now tops)) ⌝ }
-    ensures { λ r. ⌜ r ≡ allBelow (columnFits (now (c .entry)) a (now (tops .entry)) t) 16 ⌝ }
-{
-    let mut bad = 0u8;
-    for i in 0..16usize {
-        for j in 0..9usize {
-            bad = bad | misfit(c[a + 16 * j + i], 1, tops[t + 16 * j + i]);
-        }
-    }
-    bad == 0
-}
-
-fn no_tops() -> [u8; 288]
-    ensures { λ r. ⌜ r ≡ replicate 288 0 ⌝ }
-{
-    [0; 288]
-}
-
-// The tops of nine used blocks, then those of nine unused ones: nine blocks of which the first `n` are used start at block 9 - n.
-pub(crate) fn tops_of(sizes: [u8; 16]) -> [u8; 288]
-    ensures { λ r. ⌜ Tops (λ v. getD sizes v 0) r ⌝ }
-{
-    let mut r = no_tops();
-    for j in 0..9usize {
-        for v in 0..16usize {
-            r[16 * j + v] = sizes[v];
-        }
-    }
-    r
 }
 
 // The same in each place.

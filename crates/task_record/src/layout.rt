@@ -1,4 +1,5 @@
-// The record's layout in code: the offsets of specs/Layout.antt, for this crate and for the reader, which writes a record. Assumes nothing.
+// The record's layout in code: the offsets of specs/Layout.antt, for this crate, for the reader, which writes a record, and for the patterns,
+// which read sizes and outcomes where they stand. Assumes nothing.
 pub const RECORD_SIZE: usize = 9464;
 
 pub const AT_VARIABLES: usize = 0;

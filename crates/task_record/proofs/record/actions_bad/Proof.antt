@@ -1,11 +1,9 @@
 -- `actions_bad`: what is left of the scan is the whole scan, an action at a time. Assumes nothing.
 use mathlib.Core.Path.{_≡_, sym, _∙_}
-use Prim.Native.Nat.{_+_, _-_, _*_, _%_, _≤_}
+use Prim.Native.Nat.{_+_, _-_, _*_, _≤_}
 use native.Mathlib.Omega.{arith}
 use Rattle.task_record.specs.Layout.{recordSize, atAction, actionSize}
-use Rattle.task_record.specs.Numbers.{sizeOf}
 use Rattle.task_record.specs.Scan.{firstFrom}
-use Rattle.task_record.specs.Window.{Tops}
 use Rattle.task_record.specs.Record.{cellOk}
 use Rattle.task_record.proofs.Scanning.{found-first, first-past, first-none-left}
 use borrow.Author.Needs.{needs}
@@ -13,55 +11,36 @@ use Rattle.task_record.proofs.record.actions_bad.Statement.{statement}
 use Rattle.task_record.proofs.record.actions_bad.Tie as tie
 
 abbrev Inv-loop : tie.InvT-loop
-Inv-loop rec sizes tops m₀ m = (m ≤ 64) × (firstFrom (cellOk rec) (atAction 0) (recordSize - atAction 0) ≡ firstFrom (cellOk rec) (atAction m) (actionSize * (64 - m))) × (Tops (sizeOf rec) tops)
+Inv-loop rec sizes m₀ m = (m ≤ 64) × (firstFrom (cellOk rec) (atAction 0) (recordSize - atAction 0) ≡ firstFrom (cellOk rec) (atAction m) (actionSize * (64 - m)))
 
 abbrev μ-loop : tie.MeasureT-loop
-μ-loop rec sizes tops m₀ m = 64 - m
-
-loop-holds : tie.Need-loop-holds Inv-loop μ-loop
-loop-holds c =
-    let pre = c .before .before .pre in
-    let tops-of = c .tops-of in
-    let t = tops-of .ensures in let z = pre .read in
-    (omega arith, search needs, record { whole = t .whole; used = λ k h. t .used k h ∙ z .cell (k % 16) (omega arith); unused = t .unused })
-
-slice-aggregate-action-end : tie.Need-slice-aggregate-action-end Inv-loop μ-loop
-slice-aggregate-action-end c =
-    let loop = c .before .before .loop in
-    let t = loop .inv .2 .whole in search needs
-
-action-end-requires : tie.Need-action-end-requires Inv-loop μ-loop
-action-end-requires c κs =
-    let pre = c .before .before .before .before .before .pre in
-    let loop = c .before .before .loop in
-    let loop-test = c .before .loop-test in
-    let t = loop-test .taken in (pre, loop .inv .2, omega arith)
+μ-loop rec sizes m₀ m = 64 - m
 
 returns : tie.Need-returns Inv-loop μ-loop
 returns c =
-    let args = c .before .before .before .before .before .before .before .args in
-    let loop = c .before .before .before .before .loop in
-    let loop-test = c .before .before .before .loop-test in
-    let action-end = c .before .action-end in
+    let args = c .before .before .before .before .before .args in
+    let loop = c .before .before .before .loop in
+    let loop-test = c .before .before .loop-test in
+    let action-bad = c .before .action-bad in
     let l = loop in let t = loop-test .taken in
-    found-first (cellOk (args .rec .now)) (atAction (l .m)) actionSize (actionSize * (64 - (l .m + 1))) (actionSize * (64 - l .m)) (action-end .result) (omega arith)
-    (action-end .ensures) (omega arith)
+    found-first (cellOk (args .rec .now)) (atAction (l .m)) actionSize (actionSize * (64 - (l .m + 1))) (actionSize * (64 - l .m)) (action-bad .result) (omega arith)
+    (action-bad .ensures) (omega arith)
     ∙ sym (l .inv .1)
 
 loop-again : tie.Need-loop-again Inv-loop μ-loop
 loop-again c =
-    let args = c .before .before .before .before .before .before .before .args in
-    let loop = c .before .before .before .before .loop in
-    let loop-test = c .before .before .before .loop-test in
-    let action-end = c .before .action-end in
-    let l = loop in let t = loop-test .taken in let r = args .rec .now in let a = action-end .ensures in
+    let args = c .before .before .before .before .before .args in
+    let loop = c .before .before .before .loop in
+    let loop-test = c .before .before .loop-test in
+    let action-bad = c .before .action-bad in
+    let l = loop in let t = loop-test .taken in let r = args .rec .now in let a = action-bad .ensures in
     let e : actionSize + actionSize * (64 - (l .m + 1)) ≡ actionSize * (64 - l .m) = omega arith in
     let f : atAction (l .m) + actionSize ≡ atAction (l .m + 1) = omega arith in
-    (omega arith, l .inv .1 ∙ rw (e, f) at (first-past (cellOk r) (atAction (l .m)) actionSize (actionSize * (64 - (l .m + 1))) (omega arith)), l .inv .2)
+    (omega arith, l .inv .1 ∙ rw (e, f) at (first-past (cellOk r) (atAction (l .m)) actionSize (actionSize * (64 - (l .m + 1))) (omega arith)))
 
 returns-2 : tie.Need-returns-2 Inv-loop μ-loop
 returns-2 c =
-    let args = c .before .before .before .before .args in
+    let args = c .before .before .before .args in
     let loop = c .before .loop in
     let loop-test = c .loop-test in
     let l = loop in let t = loop-test .left in
@@ -74,10 +53,8 @@ actions-bad-spec =
     (tie.spec
     Inv-loop
     μ-loop
+    (λ c. search needs)
     (λ c κs. search needs)
-    loop-holds
-    slice-aggregate-action-end
-    action-end-requires
     (λ c. search needs)
     (λ c. search needs)
     (λ c. search needs)
