@@ -20,7 +20,7 @@ digit-small true = omega arith
 digit-small false = omega arith
 
 -- The set of what is in one of two sets.
-set-or : (f g : ℕ → Bool) (k n : ℕ) → bitOr (setFrom f k n) (setFrom g k n) ≡ setFrom (λ p. f p || g p) k n
+pub set-or : (f g : ℕ → Bool) (k n : ℕ) → bitOr (setFrom f k n) (setFrom g k n) ≡ setFrom (λ p. f p || g p) k n
 unfolding setFrom
 set-or f g k zero = refl
 set-or f g k (suc n) = or-block 1 (setFrom f (k + 1) n) (setFrom g (k + 1) n) (cond (f k) 1 0) (cond (g k) 1 0) (digit-small (f k)) (digit-small (g k))
@@ -62,10 +62,6 @@ module _ (f : ℕ → Bool) (k n : ℕ) (l : k < n) where
 pub set-empty : (f : ℕ → Bool) (n : ℕ) → setFrom f n (n - n) ≡ 0
 unfolding setFrom
 set-empty f n = let e : n - n ≡ zero = omega arith in rw e
-
--- A set and the pattern before its first.
-pub set-before : (f : ℕ → Bool) (k n : ℕ) → 0 < k → k ≤ n → setFrom f (k - 1) (n - (k - 1)) ≡ setFrom f k (n - k) * 2 + cond (f (k - 1)) 1 0
-set-before f k n h l = let e : k - 1 + 1 ≡ k = omega arith in rw e at (set-step f (k - 1) n (omega arith))
 
 -- A variable that an outcome names brings in the patterns that it is in; one that it does not name brings none.
 pub set-named : (f : ℕ → Bool) (y n : ℕ) → cond (eqb y 255) 0 (setFrom f 0 n) ≡ setFrom (λ p. f p && not (eqb y 255)) 0 n

@@ -5,6 +5,8 @@ pub mod Room
 pub mod Summing
 pub mod Runs
 pub mod Reading
+pub mod Touched
+pub mod LoneSets
 pub mod Sizes
 pub mod Refusals
 pub mod Built

@@ -5,7 +5,7 @@ ghost use Rattle.patterns.specs.Estimate.{judgeEstimate, estimateCheck};
 use crate::space::TableCheck;
 use crate::space::judge_tables;
 use crate::verdict::Additivity;
-use crate::verdict::scan;
+use crate::verdict::decide;
 use task_record::record::RecordCheck;
 use task_record::record::check_record;
 
@@ -21,7 +21,7 @@ pub(crate) fn judge_estimate(rec: &[u8], lent: usize) -> EstimateCheck
 {
     match judge_tables(rec, lent) {
         TableCheck::Refused(number, second) => EstimateCheck::Refused(number, second),
-        TableCheck::Fits(_) => match scan(rec) {
+        TableCheck::Fits(_) => match decide(rec) {
             Additivity::Additive => EstimateCheck::Ready,
             Additivity::Conflict(m, _, _) => EstimateCheck::Refused(9, m),
             Additivity::Refused(number, second) => EstimateCheck::Refused(number, second),

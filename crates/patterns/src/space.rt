@@ -1,7 +1,7 @@
 // Whether lent tables can hold the tables of a task's patterns: the refusals 7 and 8, the same for every entry that tests them.
 ghost use mathlib.Core.Path.{_≡_};
 ghost use Prim.Native.Nat.{_<_};
-ghost use lib.ListN.{length};
+ghost use lib.ListN.{replicate};
 ghost use Rattle.task_record.specs.Record.{Sound};
 ghost use Rattle.task_record.specs.TaskOf.{taskOf, patternsOf};
 ghost use Rattle.patterns.specs.Space.{allSizes, judgeTables, tableCheck};
@@ -11,6 +11,7 @@ use task_record::cells::pattern_cells;
 use task_record::cells::pattern_count;
 use task_record::cells::size_of;
 use task_record::cells::variable_count;
+use task_record::layout::AT_SIZES;
 use task_record::record::RecordCheck;
 use task_record::record::check_record;
 
@@ -21,7 +22,7 @@ pub enum TableCheck {
 }
 
 pub(crate) fn sixteen_zeros() -> [u8; 16]
-    ensures { λ r. ⌜ length r ≡ 16 ⌝ }
+    ensures { λ r. ⌜ r ≡ replicate 16 0 ⌝ }
 {
     [0; 16]
 }
@@ -61,9 +62,8 @@ pub(crate) fn judge_tables(rec: &[u8], lent: usize) -> TableCheck
     requires { ⌜ Sound (now rec) ⌝ }
     ensures { λ r. ⌜ r ≡ judgeTables (taskOf (now (rec .entry)) .sizes) (patternsOf (now (rec .entry))) lent ⌝ }
 {
-    let all = sizes_of(rec);
-    let variables = wide(variable_count(rec));
-    judge_room(rec, &all[..variables], lent)
+    let end = AT_SIZES + wide(variable_count(rec));
+    judge_room(rec, &rec[AT_SIZES..end], lent)
 }
 
 // Whether tables of `lent` entries can hold the tables of the task.

@@ -19,10 +19,10 @@ use crate::estimate::EstimateCheck;
 use crate::estimate::judge_estimate;
 use crate::places::place_of;
 use crate::places::wide;
-use crate::space::sizes_of;
 use task_record::cells::pattern_cells;
 use task_record::cells::pattern_count;
 use task_record::cells::variable_count;
+use task_record::layout::AT_SIZES;
 use task_record::record::StateCheck;
 use task_record::record::check_state;
 
@@ -63,9 +63,9 @@ fn read_value(rec: &[u8], state: &[u8], tables: &[u16]) -> StateValue
     requires { ⌜ (stateCheck (now rec) (now state) ≡ Good) × (judgeEstimate (now rec) (length (now tables)) ≡ Ready) ⌝ }
     ensures { λ r. ⌜ r ≡ valueOf (readValue (now (rec .entry)) (now (state .entry)) (now (tables .entry))) ⌝ }
 {
-    let all = sizes_of(rec);
     let variables = wide(variable_count(rec));
-    sum_entries(rec, &all[..variables], &state[..variables], tables)
+    let end = AT_SIZES + variables;
+    sum_entries(rec, &rec[AT_SIZES..end], &state[..variables], tables)
 }
 
 fn judge_value(rec: &[u8], state: &[u8], tables: &[u16]) -> StateValue

@@ -15,8 +15,8 @@ enum-known-number c = search needs
 enum-told : tie.Need-enum-told
 enum-told c = search needs
 
-scan-requires : tie.Need-scan-requires
-scan-requires c κs = search needs
+decide-requires : tie.Need-decide-requires
+decide-requires c κs = search needs
 
 enum-told-2 : tie.Need-enum-told-2
 enum-told-2 c = search needs
@@ -32,15 +32,15 @@ returns c = sym (tables-refuse (c .before .before .before .before .before .args 
 
 returns-2 : tie.Need-returns-2
 unfolding afterVerdict
-returns-2 c = sym (verdict-decides (c .before .before .before .before .before .before .before .args .rec .now) (c .before .before .before .before .before .before .before .args .lent) (sym (c .before .before .before .before .before .judge-tables .ensures) ∙ c .before .before .before .enum-told .given .1) (sym (c .before .before .scan .ensures) ∙ c .enum-told2 .given .1))
+returns-2 c = sym (verdict-decides (c .before .before .before .before .before .before .before .args .rec .now) (c .before .before .before .before .before .before .before .args .lent) (sym (c .before .before .before .before .before .judge-tables .ensures) ∙ c .before .before .before .enum-told .given .1) (sym (c .before .before .decide .ensures) ∙ c .enum-told2 .given .1))
 
 returns-3 : tie.Need-returns-3
 unfolding afterVerdict
-returns-3 c = sym (verdict-decides (c .before .before .before .before .before .before .before .before .args .rec .now) (c .before .before .before .before .before .before .before .before .args .lent) (sym (c .before .before .before .before .before .before .judge-tables .ensures) ∙ c .before .before .before .before .enum-told .given .1) (sym (c .before .before .before .scan .ensures) ∙ c .before .m .given .1))
+returns-3 c = sym (verdict-decides (c .before .before .before .before .before .before .before .before .args .rec .now) (c .before .before .before .before .before .before .before .before .args .lent) (sym (c .before .before .before .before .before .before .judge-tables .ensures) ∙ c .before .before .before .before .enum-told .given .1) (sym (c .before .before .before .decide .ensures) ∙ c .before .m .given .1))
 
 returns-4 : tie.Need-returns-4
 unfolding afterVerdict
-returns-4 c = sym (verdict-decides (c .before .before .before .before .before .before .before .before .args .rec .now) (c .before .before .before .before .before .before .before .before .args .lent) (sym (c .before .before .before .before .before .before .judge-tables .ensures) ∙ c .before .before .before .before .enum-told .given .1) (sym (c .before .before .before .scan .ensures) ∙ c .before .number2 .given .1))
+returns-4 c = sym (verdict-decides (c .before .before .before .before .before .before .before .before .args .rec .now) (c .before .before .before .before .before .before .before .before .args .lent) (sym (c .before .before .before .before .before .before .judge-tables .ensures) ∙ c .before .before .before .before .enum-told .given .1) (sym (c .before .before .before .decide .ensures) ∙ c .before .number2 .given .1))
 
 pub judge-estimate-spec : {M : Type 1} → statement M
 judge-estimate-spec =
@@ -49,7 +49,7 @@ judge-estimate-spec =
     judge-tables-requires
     enum-known-number
     enum-told
-    scan-requires
+    decide-requires
     enum-told-2
     enum-known-m
     enum-known-number-2

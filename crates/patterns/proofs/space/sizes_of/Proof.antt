@@ -1,10 +1,10 @@
 -- `sizes_of`: the sizes passed are right. Assumes nothing.
 use Rattle.patterns.proofs.space.sizes_of.Statement.{statement}
 use Rattle.patterns.proofs.space.sizes_of.Tie as tie
-use mathlib.Core.Path.{_≡_}
+use mathlib.Core.Path.{_≡_, ap, _∙_}
 use Prim.Native.Nat.{ℕ, _-_, _≤_, _<_}
 use native.Mathlib.Omega.{arith}
-use lib.ListN.{length, getD, length-set}
+use lib.ListN.{length, getD, length-set, length-replicate}
 use borrow.Author.Needs.{needs}
 use Rattle.task_record.specs.Numbers.{sizeOf}
 use Rattle.task_record.proofs.Sixteens.{filled-next}
@@ -20,7 +20,7 @@ sixteen-zeros-requires : tie.Need-sixteen-zeros-requires Inv-loop μ-loop
 sixteen-zeros-requires c κs = search needs
 
 loop-holds : tie.Need-loop-holds Inv-loop μ-loop
-loop-holds c = (omega arith, c .sixteen-zeros .ensures, λ k h. absurd (omega arith))
+loop-holds c = (omega arith, ap length (c .sixteen-zeros .ensures) ∙ length-replicate {A = ℕ} 16 0, λ k h. absurd (omega arith))
 
 wide-requires : tie.Need-wide-requires Inv-loop μ-loop
 wide-requires c κs = search needs
