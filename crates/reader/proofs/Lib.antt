@@ -23,4 +23,9 @@ pub mod WrittenLines
 pub mod WrittenStores
 pub mod WrittenOrder
 pub mod Complete
+pub mod Answers
+pub mod QuickNumbers
+pub mod QuickLists
+pub mod QuickLines
+pub mod QuickOrder
 pub mod Sample

@@ -1,14 +1,14 @@
 -- Runs of stores, one store after the other, and the blank record as the stores that make it.
 -- Assumes nothing.
 use mathlib.Core.Path.{_≡_, refl, ap, _∙_}
-use mathlib.Core.List.{List, [], _∷_, _++_}
+use mathlib.Core.List.{List, [], _∷_, _++_, append-nil}
 use Prim.Native.Nat.{ℕ, suc, _+_, _-_, _≤_, _<_}
 use native.Mathlib.Decide.{decLe}
 use native.Mathlib.Nat.{lt-of-not-le}
 use native.Mathlib.Omega.{arith}
-use lib.ListN.{length, drop, getD, set, replicate, drop-of-length-le}
+use lib.ListN.{length, drop, getD, set, replicate, drop-of-length-le, length-replicate}
 use lib.Seq.{sets, sets-eq, set-out}
-use Rattle.task_record.specs.Layout.{atGoal, atPattern, atAction}
+use Rattle.task_record.specs.Layout.{recordSize, atGoal, atPattern, atAction}
 use Rattle.reader.specs.Grammar.{unusedAction, unusedActions, blank}
 use Rattle.reader.specs.Stores.{allUnnamed, clearActions}
 use Rattle.task_record.proofs.Rest.{drop-step}
@@ -44,6 +44,12 @@ pub sets-front : (out vs : List ℕ) (n : ℕ) → length vs ≡ n → n ≤ len
 sets-front out vs n e h =
     let f : 0 + length vs ≡ n = omega arith in
     sets-eq vs out 0 (omega arith) ∙ ap (λ (k : ℕ). vs ++ drop k out) f
+
+-- every cell of a record stored over
+pub fill-whole : (r : List ℕ) → length r ≡ recordSize → sets r 0 (replicate recordSize 255) ≡ allUnnamed
+unfolding allUnnamed
+fill-whole r e = sets-front r (replicate recordSize 255) recordSize (length-replicate {A = ℕ} recordSize 255) (omega arith) ∙
+    ap (λ (t : List ℕ). replicate recordSize 255 ++ t) (drop-of-length-le r {i = recordSize} (omega arith)) ∙ append-nil (replicate recordSize 255)
 
 -- one action fewer is left to clear
 pub clear-step : (m : ℕ) (r : List ℕ) → 0 < m → clearActions m r ≡ clearActions (m - 1) (set r (atAction (m - 1)) 0)

@@ -6,3 +6,4 @@ pub mod Lists
 pub mod Grammar
 pub mod Stores
 pub mod Written
+pub mod Quick

@@ -7,14 +7,6 @@ use crate::places::at_pattern;
 use crate::store::fill;
 use crate::store::put;
 use task_record::layout::AT_GOAL;
-use task_record::layout::RECORD_SIZE;
-use task_record::layout::UNNAMED;
-
-fn unnamed_record() -> [u8; RECORD_SIZE]
-    ensures { λ r. ⌜ r ≡ allUnnamed ⌝ }
-{
-    [UNNAMED; RECORD_SIZE]
-}
 
 // The outcome numbers of the first n actions are 0.
 fn clear_actions(r: &mut [u8], n: u8)
@@ -27,13 +19,12 @@ fn clear_actions(r: &mut [u8], n: u8)
     }
 }
 
-// A record with nothing used.
-pub(crate) fn blank_record() -> [u8; RECORD_SIZE]
-    ensures { λ r. ⌜ r ≡ blank ⌝ }
+// A record with nothing used, made in place of one in which every cell is unnamed.
+pub(crate) fn clear_record(r: &mut [u8])
+    requires { ⌜ now r ≡ allUnnamed ⌝ }
+    ensures { λ _. ⌜ now (r .exit) ≡ blank ⌝ }
 {
-    let mut r = unnamed_record();
-    fill(&mut r, 0, AT_GOAL, 0);
-    fill(&mut r, at_pattern(0), at_action(0) - at_pattern(0), 0);
-    clear_actions(&mut r, 64);
-    r
+    fill(r, 0, AT_GOAL, 0);
+    fill(r, at_pattern(0), at_action(0) - at_pattern(0), 0);
+    clear_actions(r, 64);
 }

@@ -127,7 +127,7 @@ fn number_line(
 }
 
 // The line with the budget.
-fn budget_line(rec: &mut [u8], due: Due, line: &[u8], key: &[u8]) -> Taken
+pub(crate) fn budget_line(rec: &mut [u8], due: Due, line: &[u8], key: &[u8]) -> Taken
     ensures { λ r. ⌜ budgetLine (now (rec .entry)) due (now (line .entry)) (now (key .entry)) ≡ told r (now (rec .exit)) ⌝ }
 {
     if has_key(line, key) {

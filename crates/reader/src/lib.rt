@@ -6,5 +6,8 @@ mod lists;
 mod order;
 mod pieces;
 mod places;
+mod quick_items;
+mod quick_lines;
+mod quick_text;
 mod store;
 pub mod text;

@@ -154,7 +154,7 @@ pub(crate) fn unnamed_of(kind: Kind) -> u8
     }
 }
 
-fn is_values(kind: Kind) -> bool
+pub(crate) fn is_values(kind: Kind) -> bool
     ensures { λ r. ⌜ r ≡ isValues kind ⌝ }
 {
     match kind {
