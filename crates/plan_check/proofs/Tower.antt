@@ -1,35 +1,28 @@
 -- Laws of the system that a sound record stands for: what the code reads from sixteen cells is what the task says of the values.
 -- Assumes nothing.
-use mathlib.Core.Path.{_≡_, sym, ap, _∙_}
-use mathlib.Core.List.{List, [], _∷_, map}
-use Prim.Native.Nat.{ℕ, suc, _+_, _<_, _≤_}
-use native.Mathlib.Nat.{zero-add}
-use native.Mathlib.Numerals.{add-one}
+use mathlib.Core.Path.{_≡_, sym, ap}
+use mathlib.Core.List.{List, map}
+use Prim.Native.Nat.{ℕ, suc, _<_, _≤_}
 use native.Mathlib.Omega.{arith}
-use lib.ListN.{length, take, drop, getD, length-map}
-use lib.Seq.{drop-cons}
+use lib.ListN.{length, take, drop, length-map}
 use Rattle.planning.specs.Finite.{Some, tabulate}
 use Rattle.planning.specs.Task.{meets, apply, permits, system}
-use Rattle.planning.proofs.Finite.{length-tabulate, getD-tabulate, getD-map}
+use Rattle.planning.proofs.Finite.{length-tabulate}
 use Rattle.planning.proofs.Task.{task-filled}
 use Rattle.task_record.specs.Layout.{atGoal, atPrecondition, atOutcome}
 use Rattle.task_record.specs.Numbers.{actionCount, outcomeCount}
 use Rattle.task_record.specs.Record.{Sound}
 use Rattle.task_record.specs.TaskOf.{cellsAt, actionOf, taskOf}
 use Rattle.task_record.proofs.SoundTask.{actions-right, sound-well-formed}
-use Rattle.task_record.proofs.States.{action-of-task, actions-of-task, goal-of-values, precondition-of-values, outcome-of-values}
-use Rattle.plan_check.specs.declared.walk.Walk.{Walk}
-use Rattle.plan_check.specs.declared.walk.Walk.the-variants as walk
-use Rattle.plan_check.specs.Walk.{branchesAt, successorsFrom}
+use Rattle.task_record.proofs.States.{action-of-task, actions-of-task, goal-of-values, precondition-of-values}
 use Rattle.plan_check.specs.Tower.{tower, valuesOf}
-use Rattle.plan_check.proofs.Steps.{branches-end}
 
 pub tower-actions : (r : List ℕ) → tower r .actions ≡ actionCount r
 unfolding tower system
 tower-actions r = actions-of-task r
 
 -- The successors, one for each outcome, in order.
-tower-successors : (r : List ℕ) (m : ℕ) (s : List ℕ) → m < tower r .actions →
+pub tower-successors : (r : List ℕ) (m : ℕ) (s : List ℕ) → m < tower r .actions →
     tower r .successors m s ≡ map (λ o. apply o s) (tabulate (λ k. cellsAt r (atOutcome m k)) 0 (outcomeCount r m))
 unfolding tower system actionOf
 tower-successors r m s l = let k : m < actionCount r = omega (arith, tower-actions r) in rw (action-of-task r m k)
@@ -56,25 +49,3 @@ module _ (r : List ℕ) (sound : Sound r) where
   pub tower-enabled : (s : List ℕ) (m : ℕ) → m < tower r .actions → meets (take 16 (drop (atPrecondition m) r)) s ≡ tower r .enabled m (valuesOf r s)
   unfolding tower system permits actionOf valuesOf
   tower-enabled s m l = let k : m < actionCount r = omega (arith, tower-actions r) in rw (action-of-task r m k) (sym (precondition-of-values r sound s m k))
-
-  -- The state after outcome k is the first of the successors from number k on.
-  successor-at : (s : List ℕ) (m k : ℕ) → k < outcomeCount r m →
-      getD (map (λ o. apply o (valuesOf r s)) (tabulate (λ k. cellsAt r (atOutcome m k)) 0 (outcomeCount r m))) k [] ≡
-      valuesOf r (apply (take 16 (drop (atOutcome m k) r)) s)
-  unfolding valuesOf
-  successor-at s m k j = let n = length-tabulate (λ k. cellsAt r (atOutcome m k)) 0 (outcomeCount r m) in
-      getD-map (λ o. apply o (valuesOf r s)) (tabulate (λ k. cellsAt r (atOutcome m k)) 0 (outcomeCount r m)) k [] [] (omega arith)
-      ∙ ap (λ o. apply o (valuesOf r s)) (getD-tabulate (λ k. cellsAt r (atOutcome m k)) 0 (outcomeCount r m) k [] j)
-      ∙ rw (zero-add k) (outcome-of-values r s m k)
-
-  pub tower-successor : (s : List ℕ) (m k : ℕ) → m < tower r .actions → k < outcomeCount r m → successorsFrom (tower r) m (valuesOf r s) k ≡
-      valuesOf r (apply (take 16 (drop (atOutcome m k) r)) s) ∷ successorsFrom (tower r) m (valuesOf r s) (k + 1)
-  unfolding successorsFrom
-  tower-successor s m k l j = let n = tower-outcomes m (valuesOf r s) l in
-      rw (add-one k) (drop-cons (tower r .successors m (valuesOf r s)) k [] (omega arith)
-      ∙ ap (λ x. x ∷ drop (suc k) (tower r .successors m (valuesOf r s))) (ap (λ xs. getD xs k []) (tower-successors r m (valuesOf r s) l) ∙ successor-at s m k j))
-
-  -- After the last outcome no branch is left.
-  pub tower-branches-end : (one : List ℕ → ℕ → Walk) (s : List ℕ) (m k worst at : ℕ) → m < tower r .actions → k ≡ outcomeCount r m →
-      branchesAt one (successorsFrom (tower r) m s k) worst at ≡ walk.Ends worst at
-  tower-branches-end one s m k worst at l e = branches-end (tower r) one m s k worst at (omega (arith, tower-outcomes m s l))

@@ -1,7 +1,10 @@
 -- What the check of a plan answers, on the bytes of record, state and plan: document 01, "Plan check" and "Where a call can say no", lines
 -- 5, 6, 10 and 12 to 17. Assumes nothing.
+use mathlib.Core.Bool.{cond}
 use mathlib.Core.List.{List}
 use Prim.Native.Nat.{ℕ}
+use lib.Dec.{ltb}
+use lib.ListN.{length}
 use Rattle.planning.specs.PlanCheck.{Checked, passed, refused, checkPlan, mostMoves}
 use Rattle.task_record.specs.State.{stateCheck}
 use Rattle.task_record.specs.declared.record.StateCheck.{StateCheck}
@@ -14,6 +17,10 @@ use Rattle.plan_check.specs.Tower.{tower, valuesOf}
 unfoldable pub answerOf : Checked → PlanCheck
 answerOf (passed cost length) = answer.Passed cost length
 answerOf (refused number at) = answer.Refused number at
+
+-- Where nothing is pending: 16 "bytes after the plan", or the plan passes.
+unfoldable pub endOf : List ℕ → ℕ → ℕ → Checked
+endOf plan end cost = cond (ltb end (length plan)) (refused 16 end) (passed cost end)
 
 -- "A call tests top to bottom the lines that concern it": 5, 6 and 10 before the plan is read.
 unfoldable pub afterState : StateCheck → (Unit {0} → PlanCheck) → PlanCheck
