@@ -19,7 +19,7 @@ use Rattle.planning.proofs.Finite.{all-at, any-in}
 use Rattle.planning.proofs.Pattern.{project-apply, action-masked, unaffected-outcome}
 use Rattle.tables.specs.Packed.{packBy, picking, low, naming, leaving, setting, outcomeCount, keepMask, compiled}
 use Rattle.tables.specs.Packable.{cellsFit, PackableOutcome, Packable}
-use Rattle.tables.specs.Steps.{weigh, weightsFrom, isGoal, permitted, after, touches}
+use Rattle.tables.specs.Steps.{weigh, weightsFrom, isGoal, permitted, after}
 use Rattle.tables.proofs.Packing.{mask-test, mask-change, pack-keep, low-digit, naming-digit, setting-digit, leaving-digit}
 use Rattle.tables.proofs.Compiled.{goal-mask-is, goal-value-is, pre-mask-is, pre-value-is, outcome-count-is, keep-mask-is, set-value-is}
 use Rattle.tables.proofs.Simulating.{packable-action}
@@ -33,7 +33,7 @@ mask-cell-beyond : (b : Bool) (y : ℕ) → T (eqb y 255) → T (eqb (cond b y 2
 mask-cell-beyond true y t = t
 mask-cell-beyond false y t = tt
 
-mask-cells-fit : (p zs o : List ℕ) → T (cellsFit zs o) → T (cellsFit zs (mask p o))
+pub mask-cells-fit : (p zs o : List ℕ) → T (cellsFit zs o) → T (cellsFit zs (mask p o))
 unfolding cellsFit keep
 mask-cells-fit p zs [] t = tt
 mask-cells-fit [] [] (y ∷ o) t = mask-cells-fit [] [] o (and-r (eqb y 255) _ t)
@@ -113,11 +113,9 @@ module _ (t : Task) (k : Packable t) (p : List ℕ) (q : Action → ℕ) where
         o .1,
       )
 
-      -- An action that does not touch the pattern leaves abstract states as they are.
-      pub untouched : (s : List ℕ) → AbstractState t p s → touches (compiled t) (packBy picking p) m ≡ false → apply (mask p (getD (actionAt t m .outcomes) i [])) s ≡ s
-      unfolding touches
-      untouched s o e = let a = getD (actionAt t m .outcomes) i [] in
-          let h : eqb (bitAnd (packBy leaving a) (packBy picking p)) (packBy picking p) ≡ true = by-test (eqb (bitAnd (packBy leaving a) (packBy picking p)) (packBy picking p)) (λ u. u)
-          (λ u. absurd (false-not-T e (any-in 0 (outcomeCount (compiled t) m) (λ j. not (eqb (bitAnd (keepMask (compiled t) m j) (packBy picking p)) (packBy picking p))) i (omega arith) (omega (arith, outcome-count-is t (k .actions-few) m l)) (rw (keep-mask-is t (k .actions-few) m l (packable-action t k m l .outcomes-few) i b, u) tt)))) in
-          let n : T (not (affects p a)) = rw (kept-unaffected p a (eqb-true _ _ h)) tt in
+      -- An outcome that keeps the digits of the pattern leaves abstract states as they are.
+      pub idle-outcome : (s : List ℕ) → AbstractState t p s → bitAnd (keepMask (compiled t) m i) (packBy picking p) ≡ packBy picking p → apply (mask p (getD (actionAt t m .outcomes) i [])) s ≡ s
+      idle-outcome s o e = let a = getD (actionAt t m .outcomes) i [] in
+          let h : bitAnd (packBy leaving a) (packBy picking p) ≡ packBy picking p = rw (keep-mask-is t (k .actions-few) m l (packable-action t k m l .outcomes-few) i b) at e in
+          let n : T (not (affects p a)) = rw (kept-unaffected p a h) tt in
           (let f = unaffected-outcome p a s n in let g = project-apply p a s in rw (o .1) at (sym g ∙ f))

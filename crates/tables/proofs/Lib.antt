@@ -1,12 +1,18 @@
 -- The laws about the definitions of specs/. First verdict, room and value, then packed states and the build of one table.
 pub mod Packing
+pub mod Squeezing
 pub mod Compiled
 pub mod CompiledRecord
 pub mod SoundPacked
 pub mod Simulating
 pub mod Abstracted
+pub mod SetWords
+pub mod SetsFilled
+pub mod ApplyingSets
 pub mod Settled
+pub mod Certified
 pub mod Sweeping
+pub mod Certifying
 pub mod Spacing
 pub mod Building
 pub mod CompiledAction

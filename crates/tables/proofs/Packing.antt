@@ -57,7 +57,7 @@ cell-cases : {C : Type 0} (y z x : ℕ) → z ≤ 16 → T (eqb y 255 || ltb y z
 cell-cases y z x b t u f g = by-test (eqb y 255) f (λ e. let h : y < z = ltb→lt y z (rw e at t) in let k : x < z = ltb→lt x z u in g e (omega arith) (omega arith))
 
 -- Beyond the last variable nothing is named or set.
-beyond-naming : (c : List ℕ) → T (cellsFit [] c) → (packBy naming c ≡ 0) × (packBy setting c ≡ 0)
+pub beyond-naming : (c : List ℕ) → T (cellsFit [] c) → (packBy naming c ≡ 0) × (packBy setting c ≡ 0)
 unfolding packBy cellsFit
 beyond-naming [] h = (refl, refl)
 beyond-naming (y ∷ c) h = let e = T-true (eqb y 255) (and-l (eqb y 255) _ h) in let k = beyond-naming c (and-r (eqb y 255) _ h) in

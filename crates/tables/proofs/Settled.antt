@@ -5,8 +5,9 @@ use mathlib.Core.Bool.{Bool, true, false, not, cond, _&&_}
 use mathlib.Core.List.{List, [], _∷_, map}
 use Prim.Native.Nat.{ℕ, zero, suc, _+_, _-_, _≤_, _<_, max}
 use native.Mathlib.Omega.{arith}
-use native.Mathlib.Decide.{ℕ-discrete}
+use native.Mathlib.Decide.{ℕ-discrete, decLe}
 use native.Mathlib.Nat.{zero-add}
+use lib.Bits.{bitAnd}
 use lib.Dec.{T, eqb, ltb, leb, leb→le, le→leb, ltb→lt, lt→ltb}
 use lib.ListN.{length, getD, set, length-set, length-map, List·getD-map}
 use lib.Seq.{ext-getD, getD-set-same, getD-set-other}
@@ -16,19 +17,19 @@ use Rattle.planning.specs.System.{System, applies}
 use Rattle.planning.specs.Task.{Action, Task, apply, actionAt, system, fitsSizes, WellFormed}
 use Rattle.planning.specs.Pattern.{mask, maskAction, abstraction, AbstractState}
 use Rattle.planning.specs.Table.{index, stateCount, stateAt, entryAt, weightedTable, table, entryOf, costOf}
-use Rattle.planning.proofs.Test.{T-true, false-not-T, bool-iff, and-in, and-l, and-r, by-test}
-use Rattle.planning.proofs.Finite.{all-imp, all-at, all-map, every-imp, getD-tabulate, map-map}
+use Rattle.planning.proofs.Test.{T-true, not-T-false, false-not-T, bool-iff, and-in, and-l, and-r, by-test}
+use Rattle.planning.proofs.Finite.{all-imp, all-at, every-imp, any-out, getD-tabulate, map-map}
 use Rattle.planning.proofs.Extended.{mono?, ext∞, zero-le∞}
 use Rattle.planning.proofs.System.{solvable, solves-act, solves-out, bellman-le, cost-solvable}
 use Rattle.planning.proofs.Pattern.{mask-fits, mask-stays-abstract, action-masked, abstraction-actions, abstraction-well-formed, abstraction-invariant}
 use Rattle.planning.proofs.Table.{index-below, state-at-index, state-at-abstract, table-length, table-entry, EntriesBelow}
 use Rattle.planning.proofs.Build.{NotBelow, lowered, built-at-goal, lowered-not-below}
 use Rattle.planning.proofs.Task.{apply-keeps-sizes, action-well-formed, task-filled}
-use Rattle.tables.specs.Packed.{packBy, picking, low, actionWeight, outcomeCount, compiled}
+use Rattle.tables.specs.Packed.{packBy, picking, low, actionWeight, outcomeCount, keepMask, compiled}
 use Rattle.tables.specs.Packable.{Packable}
-use Rattle.tables.specs.Steps.{weigh, Space, isGoal, touches, worst, raised, outcomeEntry, offer, offerAt, permittedAt, Steps, none, more, Stable, started}
+use Rattle.tables.specs.Steps.{weigh, Space, isGoal, idles, worst, raised, outcomeEntry, offer, offerAt, permittedAt, Steps, none, more, Stable, started}
 use Rattle.tables.proofs.Compiled.{outcome-count-is, action-weight-is}
-use Rattle.tables.proofs.Abstracted.{goal-is, permitted-is, after-is, untouched}
+use Rattle.tables.proofs.Abstracted.{goal-is, permitted-is, after-is, idle-outcome}
 
 -- The space stands for the abstraction of t by p.
 pub record Stands (t : Task) (p : List ℕ) (x : Space) : Type 0 where
@@ -51,7 +52,7 @@ worst-le f h (y ∷ xs) x j d e = max-le (f j) (worst f (suc j) (length xs)) d �
     (worst-le f h xs x (suc j) d (λ o l. let z : j + suc o ≡ suc j + o = omega arith in rw z at (e (suc o) (omega arith))))
 
 -- An entry as a cost: below 65,535 the number itself.
-cost-le : (e d : ℕ) → d < 65535 → (costOf e ≤? d) ≡ leb e d
+pub cost-le : (e d : ℕ) → d < 65535 → (costOf e ≤? d) ≡ leb e d
 unfolding costOf
 cost-le e d l = by-test (eqb e 65535)
     (λ h. rw h (bool-iff false (leb e d) (λ u. absurd u) (λ u. let k = leb→le e d u in let z = borrow.Author.Tests.eqb-true e 65535 h in absurd (omega arith))))
@@ -62,13 +63,13 @@ unfolding entryOf costOf
 entry-of-cost e = by-test (eqb e 65535) (λ h. rw h (sym (borrow.Author.Tests.eqb-true e 65535 h))) (λ h. rw h)
 
 -- What has a finite cost is that number.
-finite-cost : (e d : ℕ) → T (costOf e ≤? d) → (e ≡ 65535 → ⊥) × (e ≤ d)
+pub finite-cost : (e d : ℕ) → T (costOf e ≤? d) → (e ≡ 65535 → ⊥) × (e ≤ d)
 unfolding costOf
 finite-cost e d u = by-test (eqb e 65535)
     (λ h. absurd (rw h at u))
     (λ h. (λ z. absurd (false-not-T h (rw z tt)), leb→le e d (rw h at u)))
 
-raised-finite : (w v : ℕ) → (raised w v ≡ 65535 → ⊥) → (raised w v ≡ w + v) × (w + v < 65535)
+pub raised-finite : (w v : ℕ) → (raised w v ≡ 65535 → ⊥) → (raised w v ≡ w + v) × (w + v < 65535)
 unfolding raised
 raised-finite w v n = by-test (ltb (w + v) 65535)
     (λ h. (rw h, ltb→lt (w + v) 65535 (rw h tt)))
@@ -78,14 +79,10 @@ raised-within : (w v : ℕ) → w + v < 65535 → raised w v ≡ w + v
 unfolding raised
 raised-within w v l = rw (T-true (ltb (w + v) 65535) (lt→ltb (w + v) 65535 l))
 
--- Where every element is s, what holds of every element of some holds of s.
-every-same : {A : Type 0} (h : A → Bool) (s : A) (xs : List A) → Some (λ x. Unit {0}) xs → All (λ x. x ≡ s) xs → T (every h xs) → T (h s)
-every-same h s [] n e u = absurd n
-every-same h s (x ∷ xs) n e u = subst (λ y. T (h y)) (e .0) (and-l (h x) (every h xs) u)
-
-all-by-place : {A : Type 0} (P : A → Type 0) (xs : List A) (d : A) → ((i : ℕ) → i < length xs → P (getD xs i d)) → All P xs
-all-by-place P [] d h = tt
-all-by-place P (x ∷ xs) d h = (h 0 (omega arith), all-by-place P xs d (λ i l. h (suc i) (omega arith)))
+every-at : {A : Type 0} (h : A → Bool) (xs : List A) (d : A) (i : ℕ) → i < length xs → T (every h xs) → T (h (getD xs i d))
+every-at h [] d i l u = absurd (omega arith)
+every-at h (x ∷ xs) d zero l u = and-l (h x) (every h xs) u
+every-at h (x ∷ xs) d (suc i) l u = every-at h xs d i (omega arith) (and-r (h x) (every h xs) u)
 
 -- Steps keep the length and only lower.
 pub steps-length : {x : Space} {t u : List ℕ} → Steps x t u → length u ≡ length t
@@ -115,33 +112,33 @@ inside (x ∷ l) zero d e h = refl
 inside (x ∷ l) (suc i) d e h = inside l i d e (omega arith)
 
 module _ (t : Task) (w : WellFormed t) (k : Packable t) (p : List ℕ) (x : Space) (r : Stands t p x) where
-  abbrev weightOf : Action → ℕ
+  abbrev pub weightOf : Action → ℕ
   weightOf a = a .weight
 
-  abbrev abstracted : System (List ℕ)
+  abbrev pub abstracted : System (List ℕ)
   abstracted = system (abstraction p weightOf t)
 
-  abbrev stateOf : ℕ → List ℕ
+  abbrev pub stateOf : ℕ → List ℕ
   stateOf i = stateAt (t .sizes) p i
 
-  abbrev states : ℕ
+  abbrev pub states : ℕ
   states = stateCount (t .sizes) p
 
-  abbrev costs : List ℕ → List ℕ → ℕ∞
+  abbrev pub costs : List ℕ → List ℕ → ℕ∞
   costs e = entryAt (t .sizes) p (map costOf e)
 
-  positive : All (λ a. 1 ≤ weightOf a) (t .actions)
+  pub positive : All (λ a. 1 ≤ weightOf a) (t .actions)
   positive = all-imp (λ a h. h .weight-positive) (t .actions) (w .actions-well-formed)
 
-  cost-at : (e : List ℕ) (s : List ℕ) → costs e s ≡ costOf (getD e (index (t .sizes) p s) 65535)
+  pub cost-at : (e : List ℕ) (s : List ℕ) → costs e s ≡ costOf (getD e (index (t .sizes) p s) 65535)
   unfolding entryAt costOf
   cost-at e s = List·getD-map costOf e (index (t .sizes) p s) 65535
 
-  goal-at : (i : ℕ) → i < states → isGoal (x .task) (x .mask) (getD (x .states) i 0) ≡ abstracted .goal (stateOf i)
+  pub goal-at : (i : ℕ) → i < states → isGoal (x .task) (x .mask) (getD (x .states) i 0) ≡ abstracted .goal (stateOf i)
   goal-at i l = rw (r .task-is, r .mask-is, r .states-are i l) (goal-is t k p weightOf (stateOf i) (state-at-abstract t w p i .0))
 
   module _ (m i : ℕ) (l : m < length (t .actions)) (b : i < states) where
-    permitted-at : permittedAt x m i ≡ abstracted .enabled m (stateOf i)
+    pub permitted-at : permittedAt x m i ≡ abstracted .enabled m (stateOf i)
     unfolding permittedAt
     permitted-at = rw (r .task-is, r .mask-is, r .states-are i b) (permitted-is t k p weightOf m l (stateOf i) (state-at-abstract t w p i .0))
 
@@ -168,7 +165,7 @@ module _ (t : Task) (w : WellFormed t) (k : Packable t) (p : List ℕ) (x : Spac
     said-weight = rw (r .task-is) (action-weight-is t (k .actions-few) m l) ∙ sym weight-at
 
     -- The largest entry among the outcomes, in the abstraction.
-    abbrev largestEntry : List ℕ → ℕ
+    abbrev pub largestEntry : List ℕ → ℕ
     largestEntry e = worst (outcomeEntry (x .task) (x .mask) (x .weights) e m (getD (x .states) i 0)) 0 (outcomeCount (x .task) m)
 
     entry-after : (e : List ℕ) (d : ℕ) → d < 65535 → (o : ℕ) → o < length (actionAt t m .outcomes) →
@@ -178,11 +175,11 @@ module _ (t : Task) (w : WellFormed t) (k : Packable t) (p : List ℕ) (x : Spac
         rw (zero-add o, r .task-is, r .mask-is, r .states-are i b, after-is t k p weightOf m l o b₁ (stateOf i) (state-at-abstract t w p i), r .weights-are y (outcome-abstract o b₁), cost-at e y)
         (sym (cost-le (getD e (index (t .sizes) p y) 65535) d h))
 
-    largest-entry-le : (e : List ℕ) (d : ℕ) → d < 65535 → leb (largestEntry e) d ≡ every (λ y. costs e y ≤? d) (abstracted .successors m (stateOf i))
+    pub largest-entry-le : (e : List ℕ) (d : ℕ) → d < 65535 → leb (largestEntry e) d ≡ every (λ y. costs e y ≤? d) (abstracted .successors m (stateOf i))
     largest-entry-le e d h = rw count-at (worst-le _ (λ o. costs e (apply (mask p o) (stateOf i)) ≤? d) (actionAt t m .outcomes) [] 0 d (entry-after e d h))
         ∙ sym (every-map (λ y. costs e y ≤? d) (λ o. apply (mask p o) (stateOf i)) (actionAt t m .outcomes)) ∙ ap (every (λ y. costs e y ≤? d)) (sym successors-at)
 
-    offer-at : (e : List ℕ) → offerAt x e m i ≡ raised (abstracted .weight m) (largestEntry e)
+    pub offer-at : (e : List ℕ) → offerAt x e m i ≡ raised (abstracted .weight m) (largestEntry e)
     unfolding offerAt offer
     offer-at e = rw said-weight
 
@@ -194,10 +191,10 @@ module _ (t : Task) (w : WellFormed t) (k : Packable t) (p : List ℕ) (x : Spac
   unfolding costOf
   above-not-below e h i l = let z : getD (map costOf e) i inf ≡ costOf (getD e i 65535) = List·getD-map costOf e i 65535 in rw z (h i l)
 
-  action-bound : (m : ℕ) → m < x .actions → m < length (t .actions)
+  pub action-bound : (m : ℕ) → m < x .actions → m < length (t .actions)
   action-bound m l = rw (r .actions-are) at l
 
-  abstract-bound : (m : ℕ) → m < length (t .actions) → m < abstracted .actions
+  pub abstract-bound : (m : ℕ) → m < length (t .actions) → m < abstracted .actions
   unfolding system
   abstract-bound m l = rw (abstraction-actions p weightOf t) l
 
@@ -241,43 +238,62 @@ module _ (t : Task) (w : WellFormed t) (k : Packable t) (p : List ℕ) (x : Spac
       (λ g. rw (g, built-at-goal t p weightOf w positive i l (rw g tt)) (zero-le∞ (fin 0)))
       (λ g. rw g (λ d u. absurd u)))
 
-  -- What is stable is at most every cost below 65,535.
-  module _ (e : List ℕ) (n : length e ≡ states) (s : Steps x (started (x .task) (x .mask) (x .states) states) e) (stable : Stable x e) where
-    goal-zero : (i : ℕ) → i < states → T (abstracted .goal (stateOf i)) → getD e i 0 ≡ 0
-    goal-zero i l g = let z : getD (started (x .task) (x .mask) (x .states) states) i 0 ≡ 0 = started-at i l 0 ∙ rw (T-true (abstracted .goal (stateOf i)) g) in omega (arith, steps-lower s i)
+  -- An action that may leave the state as it is has the state among its successors.
+  idle-at : (m i : ℕ) (l : m < length (t .actions)) → i < states → (h : List ℕ → Bool) → T (every h (abstracted .successors m (stateOf i))) → (o : ℕ) → o < outcomeCount (x .task) m → bitAnd (keepMask (x .task) m o) (x .mask) ≡ x .mask → T (h (stateOf i))
+  idle-at m i l b h u o v q =
+      let within : o < length (actionAt t m .outcomes) = omega (arith, count-at m i l b) in
+      let all : T (every (λ o. h (apply (mask p o) (stateOf i))) (actionAt t m .outcomes)) = rw (← every-map h (λ o. apply (mask p o) (stateOf i)) (actionAt t m .outcomes), ← successors-at m i l b) u in
+      subst (λ y. T (h y)) (idle-outcome t k p weightOf m l o within (stateOf i) (state-at-abstract t w p i) (rw (r .task-is, r .mask-is) at q))
+      (every-at (λ o. h (apply (mask p o) (stateOf i))) (actionAt t m .outcomes) [] o within all)
 
-    same-state : (m i : ℕ) (l : m < length (t .actions)) → i < states → touches (x .task) (x .mask) m ≡ false → All (λ y. y ≡ stateOf i) (abstracted .successors m (stateOf i))
-    same-state m i l b h = rw (successors-at m i l b) (all-map (λ y. y ≡ stateOf i) (λ o. apply (mask p o) (stateOf i)) (actionAt t m .outcomes)
-        (all-by-place (λ o. apply (mask p o) (stateOf i) ≡ stateOf i) (actionAt t m .outcomes) []
-        (λ o q. untouched t k p weightOf m l o q (stateOf i) (state-at-abstract t w p i) (rw (r .task-is, r .mask-is) at h))))
+  idle-again : (m i : ℕ) (l : m < length (t .actions)) → i < states → idles (x .task) (x .mask) m ≡ true → (h : List ℕ → Bool) → T (every h (abstracted .successors m (stateOf i))) → T (h (stateOf i))
+  unfolding idles
+  idle-again m i l b q h u =
+      let a = any-out 0 (outcomeCount (x .task) m) (λ o. eqb (bitAnd (keepMask (x .task) m o) (x .mask)) (x .mask)) (rw q tt) in
+      idle-at m i l b h u (a .0) (omega (arith, a .1)) (borrow.Author.Tests.eqb-true (bitAnd (keepMask (x .task) m (a .0)) (x .mask)) (x .mask) (T-true (eqb (bitAnd (keepMask (x .task) m (a .0)) (x .mask)) (x .mask)) (a .2)))
 
+  -- Entries that are 0 at goals, of which no action says less, and that are not below the costs. What no action says less of is at most
+  -- every cost below 65,535; entries of at most 1 need no test, since every action adds at least 1.
+  module _ (e : List ℕ) (n : length e ≡ states) (above : Above e)
+      (goal-zero : (i : ℕ) → i < states → T (abstracted .goal (stateOf i)) → getD e i 0 ≡ 0)
+      (stable : (m i : ℕ) → m < x .actions → i < length e → isGoal (x .task) (x .mask) (getD (x .states) i 0) ≡ false → 2 ≤ getD e i 0 → idles (x .task) (x .mask) m ≡ false → permittedAt x m i ≡ true → getD e i 0 ≤ offerAt x e m i) where
     entry-of-state : (y : List ℕ) (d : ℕ) → d < 65535 → AbstractState t p y → getD e (index (t .sizes) p y) 0 ≤ d → T (costs e y ≤? d)
     entry-of-state y d h o q = let b : index (t .sizes) p y < length e = rw n (index-below (t .sizes) p y (o .0)) in
         rw (cost-at e y, cost-le (getD e (index (t .sizes) p y) 65535) d h) (le→leb _ d (rw (inside e (index (t .sizes) p y) 65535 0 b) q))
+
+    -- What an action says is at least the entry, if it is so of the entries after it.
+    said-below : (m i d : ℕ) (l : m < length (t .actions)) (b : i < states) → d < 65535 → abstracted .weight m ≤ d → T (applies abstracted m (stateOf i)) → idles (x .task) (x .mask) m ≡ false →
+        T (every (λ y. costs e y ≤? (d - abstracted .weight m)) (abstracted .successors m (stateOf i))) → getD e i 0 ≤ d
+    unfolding applies
+    said-below m i d l b h v c q bounded = either (decLe 2 (getD e i 0))
+      where
+        T-false-not : (u : Bool) → T u → not u ≡ false
+        T-false-not true h = refl
+        T-false-not false h = absurd h
+
+        either : Dec (2 ≤ getD e i 0) → getD e i 0 ≤ d
+        either (no z) = omega (arith, abstraction-invariant t w p weightOf positive .weight-positive m (abstract-bound m l))
+        either (yes z) = let rest = d - abstracted .weight m in
+            let most : largestEntry m i l b e ≤ rest = leb→le _ rest (rw (largest-entry-le m i l b e rest (omega arith)) bounded) in
+            let said = offer-at m i l b e ∙ raised-within (abstracted .weight m) (largestEntry m i l b e) (omega arith) in
+            let g : isGoal (x .task) (x .mask) (getD (x .states) i 0) ≡ false = goal-at i b ∙ not-T-false _ (λ u. false-not-T (T-false-not (abstracted .goal (stateOf i)) u) (and-r (abstracted .enabled m (stateOf i)) _ c)) in
+            omega (arith, said, stable m i (rw (r .actions-are) l) (rw n b) g z q (permitted-at m i l b ∙ T-true _ (and-l (abstracted .enabled m (stateOf i)) _ c)))
 
     stable-below : (f d i : ℕ) → d < 65535 → i < states → T (solvable abstracted f d (stateOf i)) → getD e i 0 ≤ d
     unfolding solvable applies
     stable-below zero d i h b u = absurd u
     stable-below (suc f) d i h b u = solves-out abstracted (solvable abstracted f) d (stateOf i) u
         (λ g. omega (arith, goal-zero i b g))
-        (λ m l₁ c v a. let l = bound-abstract m l₁ in let rest = d - abstracted .weight m in by-test (touches (x .task) (x .mask) m)
-        (λ q. let bounded : T (every (λ y. costs e y ≤? rest) (abstracted .successors m (stateOf i))) = every-imp (solvable abstracted f rest) (λ y. costs e y ≤? rest) (abstracted .successors m (stateOf i))
+        (λ m l₁ c v a. let l = bound-abstract m l₁ in let rest = d - abstracted .weight m in by-test (idles (x .task) (x .mask) m)
+        (λ q. omega (arith, stable-below f rest i (omega arith) b (idle-again m i l b q (solvable abstracted f rest) a)))
+        (λ q. said-below m i d l b h v c q (every-imp (solvable abstracted f rest) (λ y. costs e y ≤? rest) (abstracted .successors m (stateOf i))
         (all-imp (λ y o z. entry-of-state y rest (omega arith) o (stable-below f rest (index (t .sizes) p y) (omega arith) (index-below (t .sizes) p y (o .0)) (rw (state-at-index (t .sizes) p y (o .0), o .1) z)))
-        (abstracted .successors m (stateOf i)) (abstraction-invariant t w p weightOf positive .closed m (stateOf i) l₁ (state-at-abstract t w p i) c)) a in
-        let most : largestEntry m i l b e ≤ rest = leb→le _ rest (rw (largest-entry-le m i l b e rest (omega arith)) bounded) in
-        let said = offer-at m i l b e ∙ raised-within (abstracted .weight m) (largestEntry m i l b e) (omega arith) in
-        omega (arith, said, stable .low m i (rw (r .actions-are) l) (rw n b) q (permitted-at m i l b ∙ T-true _ (and-l (abstracted .enabled m (stateOf i)) _ c))))
-        (λ q. let again : T (solvable abstracted f rest (stateOf i)) = every-same (solvable abstracted f rest) (stateOf i) (abstracted .successors m (stateOf i))
-        (task-filled (abstraction p weightOf t) (abstraction-well-formed t w p weightOf positive) m (stateOf i) (rw (abstraction-actions p weightOf t) l)) (same-state m i l b q) a in
-        omega (arith, stable-below f rest i (omega arith) b again)))
+        (abstracted .successors m (stateOf i)) (abstraction-invariant t w p weightOf positive .closed m (stateOf i) l₁ (state-at-abstract t w p i) c)) a)))
 
     costs-equal : EntriesBelow 65535 (table t p) → (i : ℕ) → i < states → costOf (getD e i 65535) ≡ getD (weightedTable t p weightOf) i inf
     unfolding table _≤∞_
-    costs-equal small i b = ext∞ _ _ (λ d. bool-iff _ _ (steps-above s (length-started) started-above i b d) (from d (getD (weightedTable t p weightOf) i inf) refl))
+    costs-equal small i b = ext∞ _ _ (λ d. bool-iff _ _ (above i b d) (from d (getD (weightedTable t p weightOf) i inf) refl))
       where
-        length-started : length (started (x .task) (x .mask) (x .states) states) ≡ states
-        length-started = sym (steps-length s) ∙ n
-
         from : (d : ℕ) (v : ℕ∞) → getD (weightedTable t p weightOf) i inf ≡ v → T (v ≤? d) → T (costOf (getD e i 65535) ≤? d)
         from d inf q u = absurd u
         from d (fin c) q u = let h : c < 65535 = small i c q in
@@ -285,7 +301,14 @@ module _ (t : Task) (w : WellFormed t) (k : Packable t) (p : List ℕ) (x : Spac
             mono? (costOf (getD e i 65535)) c d (leb→le c d u) (rw (cost-le (getD e i 65535) c h) (le→leb _ c (rw (inside e i 65535 0 (rw n b)) (stable-below (suc c) c i h b solved))))
 
     -- So the entries are the table.
-    pub settled-is-table : EntriesBelow 65535 (table t p) → e ≡ map entryOf (table t p)
+    pub entries-are-table : EntriesBelow 65535 (table t p) → e ≡ map entryOf (table t p)
     unfolding table entryOf
-    settled-is-table small = ext-getD 65535 e (map entryOf (weightedTable t p weightOf)) (n ∙ sym (length-map (weightedTable t p weightOf) entryOf ∙ table-length t p weightOf))
+    entries-are-table small = ext-getD 65535 e (map entryOf (weightedTable t p weightOf)) (n ∙ sym (length-map (weightedTable t p weightOf) entryOf ∙ table-length t p weightOf))
         (λ i l. sym (entry-of-cost (getD e i 65535)) ∙ ap entryOf (costs-equal small i (rw n at l)) ∙ sym (List·getD-map entryOf (weightedTable t p weightOf) i inf))
+
+  module _ (e : List ℕ) (n : length e ≡ states) (s : Steps x (started (x .task) (x .mask) (x .states) states) e) (stable : Stable x e) where
+    goal-zero : (i : ℕ) → i < states → T (abstracted .goal (stateOf i)) → getD e i 0 ≡ 0
+    goal-zero i l g = let z : getD (started (x .task) (x .mask) (x .states) states) i 0 ≡ 0 = started-at i l 0 ∙ rw (T-true (abstracted .goal (stateOf i)) g) in omega (arith, steps-lower s i)
+
+    pub settled-is-table : EntriesBelow 65535 (table t p) → e ≡ map entryOf (table t p)
+    settled-is-table = entries-are-table e n (steps-above s (sym (steps-length s) ∙ n) started-above) goal-zero (λ m i l b g z. stable .low m i l b)

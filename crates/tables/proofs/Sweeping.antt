@@ -1,6 +1,6 @@
 -- Laws for the loops of a sweep: one turn and the end of each. Assumes nothing.
 use mathlib.Core.Path.{_≡_, refl, sym, ap, _∙_}
-use mathlib.Core.Bool.{Bool, true, false, not, cond}
+use mathlib.Core.Bool.{Bool, true, false, cond}
 use mathlib.Core.List.{List, [], _∷_}
 use Prim.Native.Nat.{ℕ, zero, suc, _+_, _*_, _-_, _/_, _%_, _^_, _≤_, _<_, max}
 use native.Mathlib.Nat.{pow-suc}
@@ -16,7 +16,7 @@ use Rattle.planning.specs.Finite.{anyFrom}
 use Rattle.planning.proofs.Test.{T-true, and-l, and-r, by-test}
 use Rattle.planning.proofs.Finite.{length-tabulate, getD-tabulate}
 use Rattle.tables.specs.Packed.{outcomeCount, keepMask}
-use Rattle.tables.specs.Steps.{weigh, Space, isGoal, permitted, touches, worst, raised, Below, offer, offerAt, permittedAt, Steps, none, more, started, total, lowers, relaxed, RowSwept, RowPassed, Swept, Settled, Tried}
+use Rattle.tables.specs.Steps.{weigh, Space, isGoal, permitted, idles, worst, raised, Below, offer, offerAt, permittedAt, Steps, none, more, started, total, lowers, relaxed, RowSwept, RowPassed, Swept, Settled, Tried}
 use Rattle.tables.proofs.Settled.{then, steps-length}
 
 -- The index of a word, digit by digit.
@@ -55,22 +55,22 @@ digits-left g rest l h = let e : 4 - g ≡ suc (4 - (g + 1)) = omega arith in le
 pub digits-over : (g rest : ℕ) → 4 ≤ g → rest < 65536 ^ (4 - g) → rest ≡ 0
 digits-over g rest l h = let e : 4 - g ≡ 0 = omega arith in let k : rest < 1 = rw e at h in omega arith
 
--- The outcomes of an action, one by one: does it name a variable of the pattern?
-abbrev pub Touching : List ℕ → ℕ → ℕ → ℕ → ℕ → Type 0
-Touching a k m n o = touches a k m ≡ anyFrom o (n - o) (λ j. not (eqb (bitAnd (keepMask a m j) k) k))
+-- The outcomes of an action, one by one: is there one that keeps the pattern's digits?
+abbrev pub Idling : List ℕ → ℕ → ℕ → ℕ → ℕ → Type 0
+Idling a k m n o = idles a k m ≡ anyFrom o (n - o) (λ j. eqb (bitAnd (keepMask a m j) k) k)
 
-pub touching-start : (a : List ℕ) (k m : ℕ) → Touching a k m (outcomeCount a m) 0
-unfolding touches
-touching-start a k m = let e : outcomeCount a m - 0 ≡ outcomeCount a m = omega arith in rw e
+pub idling-start : (a : List ℕ) (k m : ℕ) → Idling a k m (outcomeCount a m) 0
+unfolding idles
+idling-start a k m = let e : outcomeCount a m - 0 ≡ outcomeCount a m = omega arith in rw e
 
-pub touching-hit : (a : List ℕ) (k m n o : ℕ) → o < n → (bitAnd (keepMask a m o) k ≡ k → ⊥) → Touching a k m n o → true ≡ touches a k m
-touching-hit a k m n o l h v = let e : n - o ≡ suc (n - (o + 1)) = omega arith in sym (v ∙ rw (e, ne-eqb (bitAnd (keepMask a m o) k) k h))
+pub idling-hit : (a : List ℕ) (k m n o : ℕ) → o < n → bitAnd (keepMask a m o) k ≡ k → Idling a k m n o → true ≡ idles a k m
+idling-hit a k m n o l h v = let e : n - o ≡ suc (n - (o + 1)) = omega arith in sym (v ∙ rw (e, eq-eqb (bitAnd (keepMask a m o) k) k h))
 
-pub touching-miss : (a : List ℕ) (k m n o : ℕ) → o < n → bitAnd (keepMask a m o) k ≡ k → Touching a k m n o → Touching a k m n (o + 1)
-touching-miss a k m n o l h v = let e : n - o ≡ suc (n - (o + 1)) = omega arith in let f : o + 1 ≡ suc o = add-one o in v ∙ rw (e, eq-eqb (bitAnd (keepMask a m o) k) k h, f)
+pub idling-miss : (a : List ℕ) (k m n o : ℕ) → o < n → (bitAnd (keepMask a m o) k ≡ k → ⊥) → Idling a k m n o → Idling a k m n (o + 1)
+idling-miss a k m n o l h v = let e : n - o ≡ suc (n - (o + 1)) = omega arith in let f : o + 1 ≡ suc o = add-one o in v ∙ rw (e, ne-eqb (bitAnd (keepMask a m o) k) k h, f)
 
-pub touching-end : (a : List ℕ) (k m n o : ℕ) → n ≤ o → Touching a k m n o → false ≡ touches a k m
-touching-end a k m n o l v = let e : n - o ≡ 0 = omega arith in sym (v ∙ rw e)
+pub idling-end : (a : List ℕ) (k m n o : ℕ) → n ≤ o → Idling a k m n o → false ≡ idles a k m
+idling-end a k m n o l v = let e : n - o ≡ 0 = omega arith in sym (v ∙ rw e)
 
 -- The largest of some numbers, one by one.
 worst-step : (f : ℕ → ℕ) (o n : ℕ) → o < n → worst f o (n - o) ≡ max (f o) (worst f (o + 1) (n - (o + 1)))
@@ -100,7 +100,7 @@ below-same limit x v e = record { exact = λ l. e; enough = λ l. rw e at l }
 pub below-not : (limit x v : ℕ) → limit ≤ v → limit ≤ x → Below limit x v
 below-not limit x v h k = record { exact = λ l. absurd (omega arith); enough = λ l. k }
 
-raised-high : (limit w v : ℕ) → limit ≤ 65535 → limit ≤ v → limit ≤ raised w v
+pub raised-high : (limit w v : ℕ) → limit ≤ 65535 → limit ≤ v → limit ≤ raised w v
 unfolding raised
 raised-high limit w v b h = by-test (ltb (w + v) 65535) (λ e. rw e (omega arith)) (λ e. rw e b)
 
@@ -137,7 +137,7 @@ total-set [] i v l = absurd (omega arith)
 total-set (x ∷ t) zero v l = omega arith
 total-set (x ∷ t) (suc i) v l = let h = total-set t i v (omega arith) in omega arith
 
-false-true : {A : Type 0} → false ≡ true → A
+pub false-true : {A : Type 0} → false ≡ true → A
 false-true e = let z : _≡_ {A = ℕ} 0 1 = cc in absurd (omega arith)
 
 -- A pass with action m that has come to entry i.
@@ -203,9 +203,9 @@ row-end {x} {m} {t₀} {t} v l = record {
   less = v .less;
 }
 
--- An action that does not touch the pattern is passed over.
-pub passed-over : (x : Space) (m : ℕ) (t : List ℕ) → touches (x .task) (x .mask) m ≡ false → RowPassed x m t t false
-passed-over x m t e = record { steps = none; still = λ q. (refl, λ i b h. false-true (sym e ∙ h)); less = λ q. false-true q }
+-- An action that may leave every state as it is is passed over.
+pub passed-over : (x : Space) (m : ℕ) (t : List ℕ) → idles (x .task) (x .mask) m ≡ true → RowPassed x m t t false
+passed-over x m t e = record { steps = none; still = λ q. (refl, λ i b h. false-true (sym h ∙ e)); less = λ q. false-true q }
 
 pub passed-through : {x : Space} {m : ℕ} {t new : List ℕ} {changed : Bool} → RowSwept x m t new changed → RowPassed x m t new changed
 passed-through r = record { steps = r .steps; still = λ e. (r .still e .0, λ i b h. r .still e .1 i b); less = r .less }
@@ -215,7 +215,7 @@ pub record Pass (x : Space) (t₀ t : List ℕ) (changed : Bool) (m : ℕ) : Typ
   pub at : m ≤ x .actions
   pub long : length t ≡ length t₀
   pub steps : Steps x t₀ t
-  pub same : changed ≡ false → (t ≡ t₀) × ((j i : ℕ) → j < m → i < length t → touches (x .task) (x .mask) j ≡ true → permittedAt x j i ≡ true → getD t i 0 ≤ offerAt x t j i)
+  pub same : changed ≡ false → (t ≡ t₀) × ((j i : ℕ) → j < m → i < length t → idles (x .task) (x .mask) j ≡ false → permittedAt x j i ≡ true → getD t i 0 ≤ offerAt x t j i)
   pub less : changed ≡ true → total t < total t₀
   pub most : total t ≤ total t₀
 
@@ -224,9 +224,9 @@ pass-start x t = record { at = omega arith; long = refl; steps = none; same = λ
 
 module _ {x : Space} {t₀ t : List ℕ} {changed : Bool} {m : ℕ} (v : Pass x t₀ t changed m) (l : m < x .actions) where
   abbrev Lows : List ℕ → ℕ → Type 0
-  Lows e j = (i : ℕ) → i < length e → touches (x .task) (x .mask) j ≡ true → permittedAt x j i ≡ true → getD e i 0 ≤ offerAt x e j i
+  Lows e j = (i : ℕ) → i < length e → idles (x .task) (x .mask) j ≡ false → permittedAt x j i ≡ true → getD e i 0 ≤ offerAt x e j i
 
-  lows-more : ((j i : ℕ) → j < m → i < length t → touches (x .task) (x .mask) j ≡ true → permittedAt x j i ≡ true → getD t i 0 ≤ offerAt x t j i) → Lows t m → (j : ℕ) → Dec (j < m) → j < m + 1 → Lows t j
+  lows-more : ((j i : ℕ) → j < m → i < length t → idles (x .task) (x .mask) j ≡ false → permittedAt x j i ≡ true → getD t i 0 ≤ offerAt x t j i) → Lows t m → (j : ℕ) → Dec (j < m) → j < m + 1 → Lows t j
   lows-more f g j (yes p) u = λ i. f j i p
   lows-more f g j (no p) u = let e : j ≡ m = omega arith in rw e g
 

@@ -1,7 +1,7 @@
 -- The build of one pattern's table over packed words: entries fall one by one, each to what an action says of it, and when no action says
 -- less of any the build is over. The order of the steps is free. Assumes nothing.
 use mathlib.Core.Path.{_≡_}
-use mathlib.Core.Bool.{Bool, true, false, not, cond, _&&_}
+use mathlib.Core.Bool.{Bool, true, false, cond, _&&_}
 use mathlib.Core.List.{List, [], _∷_}
 use Prim.Native.Nat.{ℕ, zero, suc, _+_, _*_, _-_, _/_, _%_, _≤_, _<_, max}
 use lib.Bits.{bitAnd, bitOr}
@@ -44,9 +44,9 @@ permitted a k m s = eqb (bitAnd s (bitAnd (preMask a m) k)) (bitAnd (preValue a 
 unfoldable pub after : List ℕ → ℕ → ℕ → ℕ → ℕ → ℕ
 after a k m o s = bitAnd (bitOr (bitAnd s (keepMask a m o)) (setValue a m o)) k
 
--- An outcome of action m names a variable of the pattern.
-unfoldable pub touches : List ℕ → ℕ → ℕ → Bool
-touches a k m = anyFrom 0 (outcomeCount a m) (λ o. not (eqb (bitAnd (keepMask a m o) k) k))
+-- An outcome of action m names no variable of the pattern, so that it leads from each abstract state to itself.
+unfoldable pub idles : List ℕ → ℕ → ℕ → Bool
+idles a k m = anyFrom 0 (outcomeCount a m) (λ o. eqb (bitAnd (keepMask a m o) k) k)
 
 -- The largest of f o, f (o + 1), ..., n of them; a sum that reaches 65,535 counts as infinite.
 unfoldable pub worst : (ℕ → ℕ) → ℕ → ℕ → ℕ
@@ -79,9 +79,9 @@ pub data Steps (x : Space) : List ℕ → List ℕ → Type 0 where
   none : {t : List ℕ} → Steps x t t
   more : {t u : List ℕ} (m i : ℕ) → m < x .actions → i < length u → permittedAt x m i ≡ true → offerAt x u m i < getD u i 0 → Steps x t u → Steps x t (set u i (offerAt x u m i))
 
--- No action that touches the pattern says less of an entry.
+-- No action says less of an entry, those aside that may leave the state as it is.
 pub record Stable (x : Space) (t : List ℕ) : Type 0 where
-  pub low : (m i : ℕ) → m < x .actions → i < length t → touches (x .task) (x .mask) m ≡ true → permittedAt x m i ≡ true → getD t i 0 ≤ offerAt x t m i
+  pub low : (m i : ℕ) → m < x .actions → i < length t → idles (x .task) (x .mask) m ≡ false → permittedAt x m i ≡ true → getD t i 0 ≤ offerAt x t m i
 
 -- The entries before the first step: 0 at goals, infinite elsewhere.
 unfoldable pub started : List ℕ → ℕ → List ℕ → ℕ → List ℕ
@@ -109,10 +109,10 @@ pub record RowSwept (x : Space) (m : ℕ) (t new : List ℕ) (changed : Bool) : 
   pub still : changed ≡ false → (new ≡ t) × ((i : ℕ) → i < length t → permittedAt x m i ≡ true → getD t i 0 ≤ offerAt x t m i)
   pub less : changed ≡ true → total new < total t
 
--- The same where an action that does not touch the pattern is passed over.
+-- The same where an action that may leave every state as it is is passed over.
 pub record RowPassed (x : Space) (m : ℕ) (t new : List ℕ) (changed : Bool) : Type 0 where
   pub steps : Steps x t new
-  pub still : changed ≡ false → (new ≡ t) × ((i : ℕ) → i < length t → touches (x .task) (x .mask) m ≡ true → permittedAt x m i ≡ true → getD t i 0 ≤ offerAt x t m i)
+  pub still : changed ≡ false → (new ≡ t) × ((i : ℕ) → i < length t → idles (x .task) (x .mask) m ≡ false → permittedAt x m i ≡ true → getD t i 0 ≤ offerAt x t m i)
   pub less : changed ≡ true → total new < total t
 
 pub record Swept (x : Space) (t new : List ℕ) (changed : Bool) : Type 0 where

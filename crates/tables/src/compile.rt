@@ -6,11 +6,12 @@ ghost use Rattle.task_record.specs.Numbers.{outcomeCount};
 ghost use Rattle.task_record.specs.TaskOf.{actionOf};
 ghost use Rattle.tables.specs.Packed.{packBy, digitBy};
 ghost use Rattle.tables.specs.Compiling.{outcomeWord, ActionCompiled};
-use crate::packed::LEAVING;
 use crate::packed::NAMING;
 use crate::packed::SETTING;
 use crate::packed::pack;
 use crate::ranking::wide;
+use crate::words::Words;
+use crate::words::words_of;
 use task_record::cells::outcome_cells;
 use task_record::cells::outcome_count;
 use task_record::cells::precondition_cells;
@@ -25,25 +26,23 @@ pub(crate) fn put(task: &mut [u64], at: usize, x: u64)
     task[at] = x;
 }
 
-// A word of outcome k, 0 where there is none.
-fn outcome_word(rule: u8, rec: &[u8], m: u8, k: u8) -> u64
-    ensures { λ r. ⌜ r ≡ outcomeWord rule (now (rec .entry)) m k ⌝ }
+// The two words of outcome k, 0 where there is none.
+fn outcome_words(rec: &[u8], m: u8, k: u8) -> Words
+    ensures { λ r. ⌜ (r .keep ≡ outcomeWord 1 (now (rec .entry)) m k) × (r .value ≡ outcomeWord 2 (now (rec .entry)) m k) ⌝ }
 {
     if k < outcome_count(rec, m) {
-        return pack(rule, outcome_cells(rec, m, k));
+        return words_of(outcome_cells(rec, m, k));
     }
-    0
+    Words { keep: 0, value: 0 }
 }
 
-// The two words of outcome k.
 fn put_outcome(rec: &[u8], m: u8, k: u8, task: &mut [u64], at: usize)
     requires { ⌜ (at + 1 < length (now task)) × (at < 2000) ⌝ }
     ensures { λ _. ⌜ now (task .exit) ≡ set (set (now (task .entry)) at (outcomeWord 1 (now (rec .entry)) m k)) (at + 1) (outcomeWord 2 (now (rec .entry)) m k) ⌝ }
 {
-    let keep = outcome_word(LEAVING, rec, m, k);
-    let value = outcome_word(SETTING, rec, m, k);
-    put(task, at, keep);
-    put(task, at + 1, value);
+    let words = outcome_words(rec, m, k);
+    put(task, at, words.keep);
+    put(task, at + 1, words.value);
 }
 
 // The four words before the outcomes.

@@ -1,11 +1,20 @@
-// Tables of a task's patterns: the additivity verdict (`verdict`), room for the tables (`space`, `estimate`), the value of a state (`value`),
-// packed states, the compiled task and the table of one pattern (`packed`, `compile_record`, `build`), all tables of a record
-// (`record_tables`).
+// Tables of a task's patterns: packed states (`packed`, `words`), the compiled task (`compile`, `compile_record`), the actions that apply in a state as
+// a set (`applying`), the abstract states of a pattern (`ranking`), a candidate for its table from the goals backwards (`worklist`, and what that
+// needs: `places`, `offsets`, `edges`, `incoming`, `visits`), the test of a candidate (`certify`), passes that need none (`sweep`), the table of one
+// pattern (`build`), all tables of a record (`record_tables`).
+pub mod applying;
 mod build;
+mod certify;
 mod compile;
 mod compile_record;
+mod edges;
+mod incoming;
+mod offsets;
 pub mod packed;
+mod places;
 mod ranking;
 pub mod record_tables;
 mod sweep;
+mod visits;
+mod words;
 mod worklist;

@@ -78,8 +78,8 @@ fn build_checked(rec: &[u8], tables: &mut [u16])
     build_all(rec, &task, tables);
 }
 
-// The tables of the task's patterns, one after the other; entries after the last stay. Needs less than 320 KiB of stack: 296 KiB for a table of
-// more than 64 states, which a smaller one does not clear, and 10 KiB for the compiled task.
+// The tables of the task's patterns, one after the other; entries after the last stay. Needs less than 430 KiB of stack, most of it for the worklist
+// of a table of 4,096 states, which a smaller one does not clear, and 10 KiB for the compiled task.
 pub fn build_tables(rec: &[u8], tables: &mut [u16]) -> TableBuild
     ensures { λ r. ⌜ (r ≡ tableBuild (now (rec .entry)) (length (now (tables .entry)))) × (now (tables .exit) ≡ tablesBuilt (now (rec .entry)) (now (tables .entry))) ⌝ }
 {
@@ -93,7 +93,7 @@ pub fn build_tables(rec: &[u8], tables: &mut [u16]) -> TableBuild
 }
 
 // What a search needs before it starts: patterns that are additive, their tables, and the compiled task. The record is checked once for all
-// of it. Needs less than 310 KiB of stack.
+// of it. Needs less than 420 KiB of stack.
 pub fn prepare(rec: &[u8], tables: &mut [u16], task: &mut [u64; 1282]) -> EstimateCheck
     ensures { λ r. ⌜ (r ≡ estimateCheck (now (rec .entry)) (length (now (tables .entry)))) × (now (tables .exit) ≡ tablesPrepared (now (rec .entry)) (now (tables .entry))) × (now (task .exit) ≡ wordsPrepared (now (rec .entry)) (length (now (tables .entry))) (now (task .entry))) ⌝ }
 {

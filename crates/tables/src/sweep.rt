@@ -5,9 +5,9 @@ ghost use Prim.Native.Nat.{ℕ, _+_, _*_, _/_, _%_, _≤_, _<_};
 ghost use lib.Dec.{eqb};
 ghost use lib.ListN.{length, getD};
 ghost use Rattle.tables.specs.Packed.{outcomeCount};
-ghost use Rattle.tables.specs.Steps.{weigh, space, isGoal, permitted, after, touches, worst, raised, outcomeEntry, Below, offer, lowers, relaxed, started, Readable, RowSwept, RowPassed, Swept, Settled};
+ghost use Rattle.tables.specs.Steps.{weigh, space, isGoal, permitted, after, idles, worst, raised, outcomeEntry, Below, offer, lowers, relaxed, started, Readable, RowSwept, RowPassed, Swept, Settled};
 
-fn wide(x: u16) -> usize
+pub(crate) fn wide(x: u16) -> usize
     ensures { λ r. ⌜ (r ≡ x) × (r < 65536) ⌝ }
 {
     x as usize
@@ -24,7 +24,7 @@ pub(crate) fn entry_at(entries: &[u16], j: usize) -> u16
 }
 
 // A digit times a weight.
-fn times(x: u64, w: u16) -> usize
+pub(crate) fn times(x: u64, w: u16) -> usize
     requires { ⌜ x < 16 ⌝ }
     ensures { λ r. ⌜ (r ≡ x * w) × (r ≤ 983025) ⌝ }
 {
@@ -65,14 +65,14 @@ pub(crate) fn at_goal(task: &[u64; 1282], mask: u64, s: u64) -> bool
     s & (task[1280] & mask) == task[1281] & mask
 }
 
-fn permits(task: &[u64; 1282], mask: u64, m: usize, s: u64) -> bool
+pub(crate) fn permits(task: &[u64; 1282], mask: u64, m: usize, s: u64) -> bool
     requires { ⌜ m < 64 ⌝ }
     ensures { λ r. ⌜ r ≡ permitted (now (task .entry)) mask m s ⌝ }
 {
     s & (task[20 * m] & mask) == task[20 * m + 1] & mask
 }
 
-fn state_after(task: &[u64; 1282], mask: u64, m: usize, o: usize, s: u64) -> u64
+pub(crate) fn state_after(task: &[u64; 1282], mask: u64, m: usize, o: usize, s: u64) -> u64
     requires { ⌜ (m < 64) × (o < 8) ⌝ }
     ensures { λ r. ⌜ r ≡ after (now (task .entry)) mask m o s ⌝ }
 {
@@ -109,7 +109,7 @@ fn worst_entry(
 }
 
 // A sum that reaches 65,535 counts as infinite.
-fn raise(w: u64, v: u16) -> u16
+pub(crate) fn raise(w: u64, v: u16) -> u16
     ensures { λ r. ⌜ r ≡ raised w v ⌝ }
 {
     if w >= 65535 {
@@ -191,15 +191,16 @@ fn sweep_action(
     changed
 }
 
-// Whether an outcome names a variable of the pattern. Where none does, an action leads from each abstract state to itself.
-fn touches_pattern(task: &[u64; 1282], mask: u64, m: usize) -> bool
+// Whether an outcome names no variable of the pattern. It leads from each abstract state to itself, so the action never says less of an
+// entry.
+pub(crate) fn may_idle(task: &[u64; 1282], mask: u64, m: usize) -> bool
     requires { ⌜ (m < 64) × (outcomeCount (now task) m ≤ 8) ⌝ }
-    ensures { λ r. ⌜ r ≡ touches (now (task .entry)) mask m ⌝ }
+    ensures { λ r. ⌜ r ≡ idles (now (task .entry)) mask m ⌝ }
 {
     let n = task[20 * m + 2] as usize;
     let mut o = 0usize;
     while o < n {
-        if task[20 * m + 4 + 2 * o] & mask != mask {
+        if task[20 * m + 4 + 2 * o] & mask == mask {
             return true;
         }
         o += 1;
@@ -207,7 +208,7 @@ fn touches_pattern(task: &[u64; 1282], mask: u64, m: usize) -> bool
     false
 }
 
-// The same, where an action that does not touch the pattern is passed over.
+// The same, where an action that may leave every state as it is is passed over.
 fn pass_action(
     task: &[u64; 1282],
     mask: u64,
@@ -220,7 +221,7 @@ fn pass_action(
     requires { ⌜ (Readable (now task) actions) × (m < actions) × (length (now entries) ≤ length (now states)) ⌝ }
     ensures { λ r. ⌜ RowPassed (space (now (task .entry)) mask (now (weights .entry)) (now (states .entry)) actions) m (now (entries .entry)) (now (entries .exit)) r ⌝ }
 {
-    if !touches_pattern(task, mask, m) {
+    if may_idle(task, mask, m) {
         return false;
     }
     sweep_action(task, mask, weights, states, actions, entries, m)

@@ -1,398 +1,631 @@
-// From the goals backwards: which entry is tried with which action, and when. A state is settled when its entry is finite, and an action is
-// tried at a state when the last of its outcomes there is. Nothing of the order is in a contract: entries only fall by allowed steps,
-// and the passes that follow make sure that none is left.
+// From the goals backwards: candidate entries for a pattern's table. No contract says that they are right; whoever asks for them makes sure of that. The
+// arrays are of three sizes, since clearing them is most of what a small table costs.
 ghost use mathlib.Core.Path.{_≡_};
 ghost use Prim.Native.Nat.{_+_, _*_, _≤_, _<_};
 ghost use lib.ListN.{length};
-ghost use Rattle.tables.specs.Steps.{space, Readable, Tried};
-use crate::sweep::entry_at;
-use crate::sweep::index_of;
-use crate::sweep::try_action;
+use crate::edges::make_edges;
+use crate::incoming::fill_sets;
+use crate::offsets::lists_end;
+use crate::offsets::lists_of;
+use crate::offsets::lower_list;
+use crate::offsets::upper_list;
+use crate::places::columns_of;
+use crate::places::place_at;
+use crate::places::place_of;
+use crate::places::product;
+use crate::places::word_at;
+use crate::visits::visit_face;
+use crate::visits::visit_others;
+use crate::visits::visit_simple;
 
-fn put(queue: &mut [u16], at: usize, x: u16)
-    ensures { λ _. ⌜ length (now (queue .exit)) ≡ length (now (queue .entry)) ⌝ }
+// Where the sets of a state's lower and upper part stand in a row.
+fn lower_set(place: u32) -> usize
+    ensures { λ r. ⌜ (64 ≤ r) × (r < 128) ⌝ }
 {
-    if at < queue.len() {
-        queue[at] = x;
-    }
+    64 + (place / 65536 % 64) as usize
 }
 
-// One outcome fewer is unsettled: whether none is left.
-fn count_down(counts: &mut [u8], at: usize) -> bool
-    ensures { λ _. ⌜ length (now (counts .exit)) ≡ length (now (counts .entry)) ⌝ }
+fn upper_set(place: u32) -> usize
+    ensures { λ r. ⌜ r ≤ 65535 ⌝ }
 {
-    if at >= counts.len() {
-        return true;
-    }
-    let x = counts[at];
-    if x <= 1 {
-        return true;
-    }
-    counts[at] = x - 1;
-    false
+    128 + (place / 4194304) as usize
 }
 
-fn bump(tail: usize) -> usize {
-    if tail < 4096 {
-        return tail + 1;
-    }
-    tail
-}
-
-fn outcomes_of(task: &[u64; 1282], m: usize) -> usize
-    requires { ⌜ m < 64 ⌝ }
-{
-    task[20 * m + 2] as usize
-}
-
-fn word_at(states: &[u64], i: u16) -> u64 {
-    let k = i as usize;
-    if k < states.len() {
-        return states[k];
-    }
-    0
-}
-
-// The word with the next values of the free digits, the first again after the last.
-fn next_word(s: u64, free: u64, tops: u64) -> u64 {
-    if free == 0 {
-        return s;
-    }
-    let mut r = s;
-    let mut field = 15u64;
-    let mut v = 0usize;
-    while v < 16 {
-        if free & field != 0 {
-            if r & field < tops & field {
-                return std::num::wrapping_add_u64(r, field & 1229782938247303441);
-            }
-            r = r ^ (r & field);
-        }
-        field = field << 4;
-        v += 1;
-    }
-    r
-}
-
-// Action m has one outcome fewer unsettled at the state of word s.
-fn visit(
-    task: &[u64; 1282],
-    mask: u64,
-    weights: &[u16; 16],
-    states: &[u64],
-    actions: usize,
+// The edges of a set; `simple` are those that lead from one state each.
+fn visit_set(
+    edges: &[u64],
+    offsets: &[u32],
     entries: &mut [u16],
-    queue: &mut [u16],
-    counts: &mut [u8],
-    m: usize,
-    s: u64,
+    queue: &mut [u32],
+    counters: &mut [u8],
+    set: u64,
+    simple: u64,
+    first: usize,
+    place: u32,
     tail: usize,
 ) -> usize
-    requires { ⌜ (Readable (now task) actions) × (m < actions) × (length (now entries) ≤ length (now states)) × (length (now entries) ≤ 4096) ⌝ }
-    ensures { λ _. ⌜ Tried (space (now (task .entry)) mask (now (weights .entry)) (now (states .entry)) actions) (now (entries .entry)) (now (entries .exit)) (now (queue .entry)) (now (queue .exit)) (now (counts .entry)) (now (counts .exit)) ⌝ }
+    requires { ⌜ (first ≤ 448) × (4 * first + 256 ≤ length (now edges)) ⌝ }
+    ensures { λ _. ⌜ (length (now (entries .exit)) ≡ length (now (entries .entry))) × (length (now (queue .exit)) ≡ length (now (queue .entry))) × (length (now (counters .exit)) ≡ length (now (counters .entry))) ⌝ }
 {
-    let i = index_of(weights, s);
-    if i >= entries.len() {
-        return tail;
-    }
-    if entries[i] != 65535 {
-        return tail;
-    }
-    if !count_down(counts, 4096 * m + i) {
-        return tail;
-    }
-    if !try_action(task, mask, weights, entries, m, i, states[i]) {
-        return tail;
-    }
-    put(queue, tail, (i % 65536) as u16);
-    bump(tail)
-}
-
-// The same at every state that differs from the first only in the free digits.
-fn visit_all(
-    task: &[u64; 1282],
-    mask: u64,
-    weights: &[u16; 16],
-    states: &[u64],
-    actions: usize,
-    entries: &mut [u16],
-    queue: &mut [u16],
-    counts: &mut [u8],
-    m: usize,
-    first: u64,
-    free: u64,
-    tops: u64,
-    tail: usize,
-) -> usize
-    requires { ⌜ (Readable (now task) actions) × (m < actions) × (length (now entries) ≤ length (now states)) × (length (now entries) ≤ 4096) ⌝ }
-    ensures { λ _. ⌜ Tried (space (now (task .entry)) mask (now (weights .entry)) (now (states .entry)) actions) (now (entries .entry)) (now (entries .exit)) (now (queue .entry)) (now (queue .exit)) (now (counts .entry)) (now (counts .exit)) ⌝ }
-{
-    let mut end = tail;
-    let mut s = first;
-    let mut c = 0usize;
-    while c < 4096 {
-        end = visit(
-            task,
-            mask,
-            weights,
-            states,
-            actions,
-            entries,
-            queue,
-            counts,
-            m,
-            s,
-            end,
-        );
-        s = next_word(s, free, tops);
-        if s == first {
-            return end;
-        }
-        c += 1;
-    }
-    end
-}
-
-// Outcome o of action m at every state from which it leads to word j: there the digits that it names have any value that the precondition
-// allows, and the others are those of j. An outcome that names no variable of the pattern leads from each state to itself.
-fn visit_before(
-    task: &[u64; 1282],
-    mask: u64,
-    weights: &[u16; 16],
-    states: &[u64],
-    actions: usize,
-    entries: &mut [u16],
-    queue: &mut [u16],
-    counts: &mut [u8],
-    m: usize,
-    j: u64,
-    o: usize,
-    tops: u64,
-    tail: usize,
-) -> usize
-    requires { ⌜ (Readable (now task) actions) × (m < actions) × (o < 8) × (length (now entries) ≤ length (now states)) × (length (now entries) ≤ 4096) ⌝ }
-    ensures { λ _. ⌜ Tried (space (now (task .entry)) mask (now (weights .entry)) (now (states .entry)) actions) (now (entries .entry)) (now (entries .exit)) (now (queue .entry)) (now (queue .exit)) (now (counts .entry)) (now (counts .exit)) ⌝ }
-{
-    let keep = task[20 * m + 4 + 2 * o] & mask;
-    let named = mask ^ keep;
-    if named == 0 {
-        return tail;
-    }
-    let value = task[20 * m + 5 + 2 * o] & mask;
-    let need = task[20 * m] & mask;
-    let needed = task[20 * m + 1] & mask;
-    if j & (named | need) != value | (needed & keep) {
-        return tail;
-    }
-    let free = named ^ (named & need);
-    visit_all(
-        task,
-        mask,
-        weights,
-        states,
-        actions,
+    let one = set & simple;
+    let end = visit_simple(edges, entries, queue, counters, one, first, place, tail);
+    let others = set ^ one;
+    visit_others(
+        edges,
+        offsets,
         entries,
         queue,
-        counts,
-        m,
-        (j & keep) | (needed & named),
-        free,
-        tops,
-        tail,
+        counters,
+        others,
+        first,
+        place,
+        end,
     )
 }
 
-// Every outcome of action m that leads to word j.
-fn spread_action(
-    task: &[u64; 1282],
-    mask: u64,
-    weights: &[u16; 16],
-    states: &[u64],
-    actions: usize,
+// The edges that lead to the state at a place.
+fn visit_before(
+    edges: &[u64],
+    offsets: &[u32],
+    sets: &[u64],
     entries: &mut [u16],
-    queue: &mut [u16],
-    counts: &mut [u8],
-    m: usize,
-    j: u64,
-    tops: u64,
+    queue: &mut [u32],
+    counters: &mut [u8],
+    stride: usize,
+    words: usize,
+    place: u32,
     tail: usize,
 ) -> usize
-    requires { ⌜ (Readable (now task) actions) × (m < actions) × (length (now entries) ≤ length (now states)) × (length (now entries) ≤ 4096) ⌝ }
-    ensures { λ _. ⌜ Tried (space (now (task .entry)) mask (now (weights .entry)) (now (states .entry)) actions) (now (entries .entry)) (now (entries .exit)) (now (queue .entry)) (now (queue .exit)) (now (counts .entry)) (now (counts .exit)) ⌝ }
+    requires { ⌜ (words ≤ 8) × (256 * words ≤ length (now edges)) × (stride ≤ 4096) ⌝ }
+    ensures { λ _. ⌜ (length (now (entries .exit)) ≡ length (now (entries .entry))) × (length (now (queue .exit)) ≡ length (now (queue .entry))) × (length (now (counters .exit)) ≡ length (now (counters .entry))) ⌝ }
 {
     let mut end = tail;
-    let mut o = 0usize;
-    while o < 8 {
-        if o >= outcomes_of(task, m) {
-            return end;
-        }
-        end = visit_before(
-            task,
-            mask,
-            weights,
-            states,
-            actions,
+    let mut row = 0usize;
+    let mut w = 0usize;
+    while w < words {
+        let lower = word_at(sets, row + lower_set(place));
+        let set = lower & word_at(sets, row + upper_set(place));
+        let simple = word_at(sets, row);
+        end = visit_set(
+            edges,
+            offsets,
             entries,
             queue,
-            counts,
-            m,
-            j,
-            o,
-            tops,
+            counters,
+            set,
+            simple,
+            64 * w,
+            place,
             end,
         );
-        o += 1;
+        row += stride;
+        w += 1;
     }
     end
 }
 
-// Every action with an outcome that leads to word j.
-fn spread(
-    task: &[u64; 1282],
-    mask: u64,
-    weights: &[u16; 16],
-    states: &[u64],
-    actions: usize,
+// The same where there are at most 64 edges.
+fn visit_few(
+    edges: &[u64],
+    offsets: &[u32],
+    sets: &[u64],
     entries: &mut [u16],
-    queue: &mut [u16],
-    counts: &mut [u8],
-    j: u64,
-    tops: u64,
+    queue: &mut [u32],
+    counters: &mut [u8],
+    place: u32,
     tail: usize,
 ) -> usize
-    requires { ⌜ (Readable (now task) actions) × (length (now entries) ≤ length (now states)) × (length (now entries) ≤ 4096) ⌝ }
-    ensures { λ _. ⌜ Tried (space (now (task .entry)) mask (now (weights .entry)) (now (states .entry)) actions) (now (entries .entry)) (now (entries .exit)) (now (queue .entry)) (now (queue .exit)) (now (counts .entry)) (now (counts .exit)) ⌝ }
+    requires { ⌜ (256 ≤ length (now edges)) × (128 ≤ length (now sets)) ⌝ }
+    ensures { λ _. ⌜ (length (now (entries .exit)) ≡ length (now (entries .entry))) × (length (now (queue .exit)) ≡ length (now (queue .entry))) × (length (now (counters .exit)) ≡ length (now (counters .entry))) ⌝ }
 {
-    let mut end = tail;
-    let mut m = 0usize;
-    while m < actions {
-        end = spread_action(
-            task,
-            mask,
-            weights,
-            states,
-            actions,
-            entries,
-            queue,
-            counts,
-            m,
-            j,
-            tops,
-            end,
-        );
-        m += 1;
+    let set = sets[lower_set(place)] & word_at(sets, upper_set(place));
+    let simple = set & sets[0];
+    let end = visit_simple(edges, entries, queue, counters, simple, 0, place, tail);
+    if set == simple {
+        return end;
     }
-    end
+    visit_others(
+        edges,
+        offsets,
+        entries,
+        queue,
+        counters,
+        set ^ simple,
+        0,
+        place,
+        end,
+    )
 }
 
-// From the settled states in the queue on, until it is empty or was full.
-pub(crate) fn settle_backwards(
-    task: &[u64; 1282],
-    mask: u64,
-    weights: &[u16; 16],
-    states: &[u64],
-    actions: usize,
+// From the settled states in the queue on, until it is empty or every state is settled. At most 64 edges.
+fn settle_few(
+    edges: &[u64],
+    offsets: &[u32],
+    sets: &[u64],
     entries: &mut [u16],
-    queue: &mut [u16],
-    counts: &mut [u8],
-    tops: u64,
-    tail: usize,
+    queue: &mut [u32],
+    counters: &mut [u8],
+    goals: usize,
 )
-    requires { ⌜ (Readable (now task) actions) × (length (now entries) ≤ length (now states)) × (length (now entries) ≤ 4096) ⌝ }
-    ensures { λ _. ⌜ Tried (space (now (task .entry)) mask (now (weights .entry)) (now (states .entry)) actions) (now (entries .entry)) (now (entries .exit)) (now (queue .entry)) (now (queue .exit)) (now (counts .entry)) (now (counts .exit)) ⌝ }
+    requires { ⌜ (256 ≤ length (now edges)) × (128 ≤ length (now sets)) ⌝ }
+    ensures { λ _. ⌜ (length (now (entries .exit)) ≡ length (now (entries .entry))) × (length (now (queue .exit)) ≡ length (now (queue .entry))) × (length (now (counters .exit)) ≡ length (now (counters .entry))) ⌝ }
 {
-    let mut end = tail;
+    let states = entries.len();
+    let mut end = goals;
     let mut head = 0usize;
     while head < 4096 {
-        if head >= end {
+        if head >= end || end >= states {
             return;
         }
-        let j = word_at(states, entry_at(queue, head));
-        end = spread(
-            task,
-            mask,
-            weights,
-            states,
-            actions,
+        let place = place_at(queue, head);
+        end = visit_few(edges, offsets, sets, entries, queue, counters, place, end);
+        head += 1;
+    }
+}
+
+// The same for any number of edges, by rows.
+fn settle_many(
+    edges: &[u64],
+    offsets: &[u32],
+    sets: &[u64],
+    entries: &mut [u16],
+    queue: &mut [u32],
+    counters: &mut [u8],
+    stride: usize,
+    words: usize,
+    goals: usize,
+)
+    requires { ⌜ (words ≤ 8) × (256 * words ≤ length (now edges)) × (stride ≤ 4096) ⌝ }
+    ensures { λ _. ⌜ (length (now (entries .exit)) ≡ length (now (entries .entry))) × (length (now (queue .exit)) ≡ length (now (queue .entry))) × (length (now (counters .exit)) ≡ length (now (counters .entry))) ⌝ }
+{
+    let states = entries.len();
+    let mut end = goals;
+    let mut head = 0usize;
+    while head < 4096 {
+        if head >= end || end >= states {
+            return;
+        }
+        let place = place_at(queue, head);
+        end = visit_before(
+            edges,
+            offsets,
+            sets,
             entries,
             queue,
-            counts,
-            j,
-            tops,
+            counters,
+            stride,
+            words,
+            place,
             end,
         );
         head += 1;
     }
 }
 
-// State i is settled if its entry is 0.
-fn push(queue: &mut [u16], tail: usize, i: usize, entry: u16) -> usize
-    ensures { λ _. ⌜ length (now (queue .exit)) ≡ length (now (queue .entry)) ⌝ }
+// The same for any number of edges, if there is room for them.
+fn settle(
+    edges: &[u64],
+    offsets: &[u32],
+    sets: &[u64],
+    entries: &mut [u16],
+    queue: &mut [u32],
+    counters: &mut [u8],
+    stride: usize,
+    words: usize,
+    goals: usize,
+)
+    requires { ⌜ (words ≤ 8) × (stride ≤ 4096) ⌝ }
+    ensures { λ _. ⌜ (length (now (entries .exit)) ≡ length (now (entries .entry))) × (length (now (queue .exit)) ≡ length (now (queue .entry))) × (length (now (counters .exit)) ≡ length (now (counters .entry))) ⌝ }
 {
-    if entry != 0 {
-        return tail;
+    if 256 * words > edges.len() {
+        return;
     }
-    put(queue, tail, (i % 65536) as u16);
-    bump(tail)
+    if words != 1 || sets.len() < 128 {
+        settle_many(
+            edges,
+            offsets,
+            sets,
+            entries,
+            queue,
+            counters,
+            stride,
+            words,
+            goals,
+        );
+        return;
+    }
+    settle_few(edges, offsets, sets, entries, queue, counters, goals);
 }
 
-// The goals, and how many.
-pub(crate) fn push_goals(entries: &[u16], queue: &mut [u16]) -> usize
-    ensures { λ _. ⌜ length (now (queue .exit)) ≡ length (now (queue .entry)) ⌝ }
+// With room for 4,096 counters.
+fn settle_4k(
+    edges: &[u64],
+    offsets: &[u32],
+    sets: &[u64],
+    entries: &mut [u16],
+    queue: &mut [u32],
+    stride: usize,
+    words: usize,
+    goals: usize,
+)
+    requires { ⌜ (words ≤ 8) × (stride ≤ 4096) ⌝ }
+    ensures { λ _. ⌜ (length (now (entries .exit)) ≡ length (now (entries .entry))) × (length (now (queue .exit)) ≡ length (now (queue .entry))) ⌝ }
 {
-    let mut tail = 0usize;
+    let mut counters = [0u8; 4096];
+    settle(
+        edges,
+        offsets,
+        sets,
+        entries,
+        queue,
+        &mut counters,
+        stride,
+        words,
+        goals,
+    );
+}
+
+// With room for 65,536 counters.
+fn settle_64k(
+    edges: &[u64],
+    offsets: &[u32],
+    sets: &[u64],
+    entries: &mut [u16],
+    queue: &mut [u32],
+    stride: usize,
+    words: usize,
+    goals: usize,
+)
+    requires { ⌜ (words ≤ 8) × (stride ≤ 4096) ⌝ }
+    ensures { λ _. ⌜ (length (now (entries .exit)) ≡ length (now (entries .entry))) × (length (now (queue .exit)) ≡ length (now (queue .entry))) ⌝ }
+{
+    let mut counters = [0u8; 65536];
+    settle(
+        edges,
+        offsets,
+        sets,
+        entries,
+        queue,
+        &mut counters,
+        stride,
+        words,
+        goals,
+    );
+}
+
+// With room for the counters of 64 actions at 4,096 states.
+fn settle_all(
+    edges: &[u64],
+    offsets: &[u32],
+    sets: &[u64],
+    entries: &mut [u16],
+    queue: &mut [u32],
+    stride: usize,
+    words: usize,
+    goals: usize,
+)
+    requires { ⌜ (words ≤ 8) × (stride ≤ 4096) ⌝ }
+    ensures { λ _. ⌜ (length (now (entries .exit)) ≡ length (now (entries .entry))) × (length (now (queue .exit)) ≡ length (now (queue .entry))) ⌝ }
+{
+    let mut counters = [0u8; 262144];
+    settle(
+        edges,
+        offsets,
+        sets,
+        entries,
+        queue,
+        &mut counters,
+        stride,
+        words,
+        goals,
+    );
+}
+
+// With room for the counters of so many actions.
+fn settle_counted(
+    edges: &[u64],
+    offsets: &[u32],
+    sets: &[u64],
+    entries: &mut [u16],
+    queue: &mut [u32],
+    stride: usize,
+    words: usize,
+    goals: usize,
+    counted: usize,
+)
+    requires { ⌜ (words ≤ 8) × (stride ≤ 4096) × (counted ≤ 64) × (length (now entries) ≤ 4096) ⌝ }
+    ensures { λ _. ⌜ (length (now (entries .exit)) ≡ length (now (entries .entry))) × (length (now (queue .exit)) ≡ length (now (queue .entry))) ⌝ }
+{
+    let counters = product(entries.len(), counted);
+    if counters <= 4096 {
+        settle_4k(edges, offsets, sets, entries, queue, stride, words, goals);
+    } else if counters < 65535 {
+        settle_64k(edges, offsets, sets, entries, queue, stride, words, goals);
+    } else {
+        settle_all(edges, offsets, sets, entries, queue, stride, words, goals);
+    }
+}
+
+// The goals: their entries are 0, and they are the first in the queue. Answers how many.
+fn settle_goals(
+    task: &[u64; 1282],
+    mask: u64,
+    columns: &[u64; 18],
+    offsets: &[u32],
+    entries: &mut [u16],
+    queue: &mut [u32],
+    lists: u64,
+) -> usize
+    ensures { λ _. ⌜ (length (now (entries .exit)) ≡ length (now (entries .entry))) × (length (now (queue .exit)) ≡ length (now (queue .entry))) ⌝ }
+{
+    let place = (place_of(columns, task[1281], task[1280] & mask) % 4294967296) as u32;
+    let lower = lower_list(offsets, lists);
+    let upper = upper_list(offsets, lists);
+    visit_face(offsets, entries, queue, lower, upper, place, 0, 0)
+}
+
+// From the goals on, with the edges that are made.
+fn settle_from(
+    task: &[u64; 1282],
+    mask: u64,
+    columns: &[u64; 18],
+    entries: &mut [u16],
+    edges: &[u64],
+    offsets: &[u32],
+    queue: &mut [u32],
+    sets: &mut [u64],
+    count: usize,
+    counted: usize,
+    stride: usize,
+    lists: u64,
+)
+    requires { ⌜ (count ≤ 512) × (counted ≤ 64) × (length (now entries) ≤ 4096) × (stride ≤ 4096) ⌝ }
+    ensures { λ _. ⌜ (length (now (entries .exit)) ≡ length (now (entries .entry))) × (length (now (queue .exit)) ≡ length (now (queue .entry))) × (length (now (sets .exit)) ≡ length (now (sets .entry))) ⌝ }
+{
+    fill_sets(edges, count, mask, columns, sets, stride);
+    let goals = settle_goals(task, mask, columns, offsets, entries, queue, lists);
+    let words = (count + 63) / 64;
+    settle_counted(
+        edges,
+        offsets,
+        sets,
+        entries,
+        queue,
+        stride,
+        words,
+        goals,
+        counted,
+    );
+}
+
+// Whether the arrays have room for so many edges, for the lists that are made, and for so many words of sets.
+fn has_room(edges: &[u64], count: usize, offsets: &[u32], sets: &[u64], words: usize) -> bool
+    requires { ⌜ count ≤ 512 ⌝ }
+{
+    4 * count <= edges.len() && lists_end(offsets) <= offsets.len() && words <= sets.len()
+}
+
+// The same, if there is room; answers whether there is.
+fn settle_made(
+    task: &[u64; 1282],
+    mask: u64,
+    columns: &[u64; 18],
+    entries: &mut [u16],
+    edges: &[u64],
+    offsets: &[u32],
+    queue: &mut [u32],
+    sets: &mut [u64],
+    count: usize,
+    counted: usize,
+    lists: u64,
+) -> bool
+    requires { ⌜ (count ≤ 512) × (counted ≤ 64) × (length (now entries) ≤ 4096) ⌝ }
+    ensures { λ _. ⌜ (length (now (entries .exit)) ≡ length (now (entries .entry))) × (length (now (queue .exit)) ≡ length (now (queue .entry))) × (length (now (sets .exit)) ≡ length (now (sets .entry))) ⌝ }
+{
+    let stride = 128 + (columns[17] / 64 % 1024) as usize;
+    let words = product(stride, (count + 63) / 64);
+    if !has_room(edges, count, offsets, sets, words) {
+        return false;
+    }
+    settle_from(
+        task,
+        mask,
+        columns,
+        entries,
+        edges,
+        offsets,
+        queue,
+        sets,
+        count,
+        counted,
+        stride,
+        lists,
+    );
+    true
+}
+
+// With the arrays that are lent; answers whether they have room.
+fn settle_with(
+    task: &[u64; 1282],
+    mask: u64,
+    columns: &[u64; 18],
+    actions: usize,
+    entries: &mut [u16],
+    edges: &mut [u64],
+    offsets: &mut [u32],
+    queue: &mut [u32],
+    sets: &mut [u64],
+) -> bool
+    requires { ⌜ (actions ≤ 64) × (length (now entries) ≤ 4096) ⌝ }
+    ensures { λ _. ⌜ (length (now (entries .exit)) ≡ length (now (entries .entry))) × (length (now (queue .exit)) ≡ length (now (queue .entry))) × (length (now (edges .exit)) ≡ length (now (edges .entry))) × (length (now (offsets .exit)) ≡ length (now (offsets .entry))) × (length (now (sets .exit)) ≡ length (now (sets .entry))) ⌝ }
+{
+    let states = entries.len();
+    lists_of(offsets, columns, 0);
+    let made = make_edges(task, mask, actions, states, edges, offsets, columns);
+    let lists = lists_of(offsets, columns, mask ^ (mask & task[1280]));
+    settle_made(
+        task,
+        mask,
+        columns,
+        entries,
+        edges,
+        offsets,
+        queue,
+        sets,
+        made.edges,
+        made.counted,
+        lists,
+    )
+}
+
+// At most 512 states, 64 edges and few lists.
+fn candidate_small(
+    task: &[u64; 1282],
+    mask: u64,
+    columns: &[u64; 18],
+    actions: usize,
+    entries: &mut [u16],
+) -> bool
+    requires { ⌜ (actions ≤ 64) × (length (now entries) ≤ 4096) ⌝ }
+    ensures { λ _. ⌜ length (now (entries .exit)) ≡ length (now (entries .entry)) ⌝ }
+{
+    let mut edges = [0u64; 256];
+    let mut offsets = [0u32; 1024];
+    let mut queue = [0u32; 512];
+    let mut sets = [0u64; 256];
+    settle_with(
+        task,
+        mask,
+        columns,
+        actions,
+        entries,
+        &mut edges,
+        &mut offsets,
+        &mut queue,
+        &mut sets,
+    )
+}
+
+// At most 64 edges and few lists.
+fn candidate_middle(
+    task: &[u64; 1282],
+    mask: u64,
+    columns: &[u64; 18],
+    actions: usize,
+    entries: &mut [u16],
+) -> bool
+    requires { ⌜ (actions ≤ 64) × (length (now entries) ≤ 4096) ⌝ }
+    ensures { λ _. ⌜ length (now (entries .exit)) ≡ length (now (entries .entry)) ⌝ }
+{
+    let mut edges = [0u64; 256];
+    let mut offsets = [0u32; 1024];
+    let mut queue = [0u32; 4096];
+    let mut sets = [0u64; 1024];
+    settle_with(
+        task,
+        mask,
+        columns,
+        actions,
+        entries,
+        &mut edges,
+        &mut offsets,
+        &mut queue,
+        &mut sets,
+    )
+}
+
+// Any pattern.
+fn candidate_large(
+    task: &[u64; 1282],
+    mask: u64,
+    columns: &[u64; 18],
+    actions: usize,
+    entries: &mut [u16],
+) -> bool
+    requires { ⌜ (actions ≤ 64) × (length (now entries) ≤ 4096) ⌝ }
+    ensures { λ _. ⌜ length (now (entries .exit)) ≡ length (now (entries .entry)) ⌝ }
+{
+    let mut edges = [0u64; 2048];
+    let mut offsets = [0u32; 7424];
+    let mut queue = [0u32; 4096];
+    let mut sets = [0u64; 7680];
+    settle_with(
+        task,
+        mask,
+        columns,
+        actions,
+        entries,
+        &mut edges,
+        &mut offsets,
+        &mut queue,
+        &mut sets,
+    )
+}
+
+fn fill(entries: &mut [u16], x: u16)
+    ensures { λ _. ⌜ length (now (entries .exit)) ≡ length (now (entries .entry)) ⌝ }
+{
     let mut i = 0usize;
     while i < entries.len() {
-        tail = push(queue, tail, i, entries[i]);
-        i += 1;
-    }
-    tail
-}
-
-fn least(a: usize, b: usize) -> usize
-    ensures { λ r. ⌜ r ≤ b ⌝ }
-{
-    if a < b {
-        return a;
-    }
-    b
-}
-
-fn fill(counts: &mut [u8], from: usize, to: usize, x: u8)
-    ensures { λ _. ⌜ length (now (counts .exit)) ≡ length (now (counts .entry)) ⌝ }
-{
-    let end = least(to, counts.len());
-    let mut i = from;
-    while i < end {
-        counts[i] = x;
+        entries[i] = x;
         i += 1;
     }
 }
 
-// Where the counts of action m end: it needs none if it has one outcome.
-fn counts_end(from: usize, n: usize, outcomes: usize) -> usize
-    requires { ⌜ (from ≤ 262144) × (n ≤ 4096) ⌝ }
+// With little memory, if that will do.
+fn candidate_light(
+    task: &[u64; 1282],
+    mask: u64,
+    columns: &[u64; 18],
+    actions: usize,
+    entries: &mut [u16],
+) -> bool
+    requires { ⌜ (actions ≤ 64) × (length (now entries) ≤ 4096) ⌝ }
+    ensures { λ _. ⌜ length (now (entries .exit)) ≡ length (now (entries .entry)) ⌝ }
 {
-    if outcomes <= 1 {
-        return from;
+    if entries.len() <= 512 {
+        return candidate_small(task, mask, columns, actions, entries);
     }
-    from + n
+    candidate_middle(task, mask, columns, actions, entries)
 }
 
-// The number of outcomes of every action, at every state.
-pub(crate) fn fill_counts(task: &[u64; 1282], actions: usize, n: usize, counts: &mut [u8])
-    requires { ⌜ (actions ≤ 64) × (n ≤ 4096) ⌝ }
-    ensures { λ _. ⌜ length (now (counts .exit)) ≡ length (now (counts .entry)) ⌝ }
+// From infinite entries on.
+fn candidate_from(
+    task: &[u64; 1282],
+    mask: u64,
+    columns: &[u64; 18],
+    actions: usize,
+    entries: &mut [u16],
+)
+    requires { ⌜ actions ≤ 64 ⌝ }
+    ensures { λ _. ⌜ length (now (entries .exit)) ≡ length (now (entries .entry)) ⌝ }
 {
-    let mut m = 0usize;
-    while m < actions {
-        let outcomes = outcomes_of(task, m);
-        fill(
-            counts,
-            4096 * m,
-            counts_end(4096 * m, n, outcomes),
-            (outcomes % 256) as u8,
-        );
-        m += 1;
+    if entries.len() > 4096 {
+        return;
     }
+    if candidate_light(task, mask, columns, actions, entries) {
+        return;
+    }
+    candidate_large(task, mask, columns, actions, entries);
+}
+
+// Candidate entries for the table of a pattern: 0 at goals, infinite where no plan leads to one. Without a goal in the pattern every state is one.
+pub(crate) fn candidate(
+    task: &[u64; 1282],
+    mask: u64,
+    weights: &[u16; 16],
+    sizes: [u8; 16],
+    actions: usize,
+    entries: &mut [u16],
+)
+    requires { ⌜ actions ≤ 64 ⌝ }
+    ensures { λ _. ⌜ length (now (entries .exit)) ≡ length (now (entries .entry)) ⌝ }
+{
+    if task[1280] & mask == 0 {
+        fill(entries, 0);
+        return;
+    }
+    fill(entries, 65535);
+    let columns = columns_of(mask, weights, &sizes);
+    candidate_from(task, mask, &columns, actions, entries);
 }

@@ -1,8 +1,9 @@
-use borrow.Author.Needs.{needs}
+-- `tables::build::build_small` meets its contract. Assumes nothing.
 use Rattle.tables.proofs.build.build_small.Statement.{statement}
 use Rattle.tables.proofs.build.build_small.Tie as tie
+use borrow.Author.Needs.{needs}
 use Rattle.tables.specs.Packed.{digitBy}
-use Rattle.tables.proofs.Building.{parts-build}
+use Rattle.tables.proofs.Building.{parts-settled}
 
 slice-aggregate-fill-states : tie.Need-slice-aggregate-fill-states
 slice-aggregate-fill-states c = search needs
@@ -36,9 +37,8 @@ same-length c = search needs
 
 returns : tie.Need-returns
 unfolding digitBy
-returns c = let a = c .before .before .before .before .before .before .before .before .before .before .before .before .before .before .before .before .before .before .args in
-    parts-build (a .task .now) (a .actions) (a .n) (c .before .before .before .before .before .before .before .before .before .before .before .pack .result) (a .sizes) (a .t5) (c .before .before .before .before .before .before .before .before .before .before .before .before .before .weights-of .result) _ _ _ (c .before .before .before .before .before .before .before .before .before .before .before .pack .ensures) (c .before .before .before .before .before .before .before .before .before .before .before .before .before .weights-of .ensures)
-    (c .before .before .before .before .before .before .before .before .before .before .before .before .before .before .before .fill-states .ensures) (rw (c .before .before .before .before .before .before .before .before .before .before .before .before .before .before .before .before .before .before .pre .2) at (c .before .before .before .before .before .before .before .before .start .ensures)) (c .before .before .settle .ensures)
+returns c = let a = c .before .before .before .before .before .before .before .before .before .before .before .before .before .before .before .before .before .before in
+    parts-settled (a .args .task .now) (a .args .actions) (a .args .n) (c .before .before .before .before .before .before .before .before .before .before .before .pack .result) (a .args .sizes) (a .args .t5) (c .before .before .before .before .before .before .before .before .before .before .before .before .before .weights-of .result) _ _ (c .before .before .before .before .before .before .before .before .before .before .before .pack .ensures) (c .before .before .before .before .before .before .before .before .before .before .before .before .before .weights-of .ensures) (c .before .before .before .before .before .before .before .before .before .before .before .before .before .before .before .fill-states .ensures) _ (rw (a .pre .2) at (c .before .before .before .before .before .before .before .before .start .ensures)) (c .before .before .settle .ensures)
 
 pub build-small-spec : {M : Type 1} → statement M
 build-small-spec =

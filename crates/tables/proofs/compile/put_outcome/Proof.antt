@@ -1,39 +1,20 @@
--- `tables::compile::put_outcome` meets its contract. Assumes nothing.
+-- `put_outcome`: two words are stored. Assumes nothing.
 use borrow.Author.Needs.{needs}
 use Rattle.tables.proofs.compile.put_outcome.Statement.{statement}
 use Rattle.tables.proofs.compile.put_outcome.Tie as tie
 use mathlib.Core.Path.{_∙_}
 
-outcome-word-requires : tie.Need-outcome-word-requires
-outcome-word-requires c κs = search needs
-
-outcome-word-requires-2 : tie.Need-outcome-word-requires-2
-outcome-word-requires-2 c κs = search needs
-
-put-requires : tie.Need-put-requires
-put-requires c κs = search needs
-
-add-put : tie.Need-add-put
-add-put c = search needs
-
-put-requires-2 : tie.Need-put-requires-2
-put-requires-2 c κs = search needs
-
-same-length : tie.Need-same-length
-same-length c = search needs
-
 returns : tie.Need-returns
-returns c = let first = c .before .before .before .before .before .before in
-    c .before .before .put2 .ensures ∙ rw (first .put .ensures, first .before .before .before .outcome-word .ensures, first .before .before .outcome-word2 .ensures)
+returns c = let first = c .before .before .before .before .before .before in let words = first .before .before .outcome-words .ensures in
+    c .before .before .put2 .ensures ∙ rw (first .put .ensures, words .0, words .1)
 
 pub put-outcome-spec : {M : Type 1} → statement M
 put-outcome-spec =
     tie.close
     (tie.spec
-    outcome-word-requires
-    outcome-word-requires-2
-    put-requires
-    add-put
-    put-requires-2
-    same-length
+    (λ c κs. search needs)
+    (λ c κs. search needs)
+    (λ c. search needs)
+    (λ c κs. search needs)
+    (λ c. search needs)
     returns)

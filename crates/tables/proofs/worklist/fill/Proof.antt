@@ -1,25 +1,25 @@
 -- `tables::worklist::fill` meets its contract. Assumes nothing.
 use Rattle.tables.proofs.worklist.fill.Statement.{statement}
 use Rattle.tables.proofs.worklist.fill.Tie as tie
-use mathlib.Core.Path.{_≡_}
-use Prim.Native.Nat.{_-_, _≤_}
+use Prim.Native.Nat.{_≤_, _-_}
 use borrow.Author.Needs.{needs}
-use lib.ListN.{length, length-set}
+use lib.ListN.{length}
+use mathlib.Core.Path.{_≡_}
 
 abbrev Inv-loop : tie.InvT-loop
-Inv-loop counts₀ from to x end i₀ counts i = (end ≤ length counts) × (length counts ≡ length counts₀)
+Inv-loop entries₀ x i₀ entries i = (i ≤ length entries₀) × (length entries ≡ length entries₀)
 
 abbrev μ-loop : tie.MeasureT-loop
-μ-loop counts₀ from to x end i₀ counts i = end - i
-
-least-requires : tie.Need-least-requires Inv-loop μ-loop
-least-requires c κs = search needs
+μ-loop entries₀ x i₀ entries i = length entries₀ - i
 
 loop-holds : tie.Need-loop-holds Inv-loop μ-loop
 loop-holds c = search needs
 
-slice-write-counts : tie.Need-slice-write-counts Inv-loop μ-loop
-slice-write-counts c = search needs
+mul-entries : tie.Need-mul-entries Inv-loop μ-loop
+mul-entries c = search needs
+
+slice-write-entries : tie.Need-slice-write-entries Inv-loop μ-loop
+slice-write-entries c = search needs
 
 add-i : tie.Need-add-i Inv-loop μ-loop
 add-i c = search needs
@@ -28,7 +28,7 @@ loop-less : tie.Need-loop-less Inv-loop μ-loop
 loop-less c = search needs
 
 loop-again : tie.Need-loop-again Inv-loop μ-loop
-loop-again c = let v = c .before .loop .inv in (simp length-set (v .0), simp length-set (v .1))
+loop-again c = search needs
 
 same-length : tie.Need-same-length Inv-loop μ-loop
 same-length c = search needs
@@ -42,9 +42,9 @@ fill-spec =
     (tie.spec
     Inv-loop
     μ-loop
-    least-requires
     loop-holds
-    slice-write-counts
+    mul-entries
+    slice-write-entries
     add-i
     loop-less
     loop-again

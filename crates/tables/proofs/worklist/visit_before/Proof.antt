@@ -1,114 +1,92 @@
 -- `tables::worklist::visit_before` meets its contract. Assumes nothing.
-use borrow.Author.Needs.{needs}
 use Rattle.tables.proofs.worklist.visit_before.Statement.{statement}
 use Rattle.tables.proofs.worklist.visit_before.Tie as tie
-use Rattle.tables.proofs.Sweeping.{tried-none}
+use Prim.Native.Nat.{_≤_, _*_, _-_}
+use borrow.Author.Needs.{needs}
+use lib.ListN.{length}
+use mathlib.Core.Path.{_≡_}
 
-mul-keep : tie.Need-mul-keep
-mul-keep c = search needs
+abbrev Inv-loop : tie.InvT-loop
+Inv-loop edges offsets sets entries₀ queue₀ counters₀ stride words place tail end₀ row₀ w₀ entries queue counters end row w = (w ≤ words) × (row ≤ 4096 * w) × (length entries ≡ length entries₀) × (length queue ≡ length queue₀) × (length counters ≡ length counters₀)
 
-add-keep : tie.Need-add-keep
-add-keep c = search needs
+abbrev μ-loop : tie.MeasureT-loop
+μ-loop edges offsets sets entries₀ queue₀ counters₀ stride words place tail end₀ row₀ w₀ entries queue counters end row w = words - w
 
-mul-keep-2 : tie.Need-mul-keep-2
-mul-keep-2 c = search needs
+loop-holds : tie.Need-loop-holds Inv-loop μ-loop
+loop-holds c = search needs
 
-add-keep-2 : tie.Need-add-keep-2
-add-keep-2 c = search needs
+lower-set-requires : tie.Need-lower-set-requires Inv-loop μ-loop
+lower-set-requires c κs = search needs
 
-mul-keep-3 : tie.Need-mul-keep-3
-mul-keep-3 c = search needs
+add-word-at : tie.Need-add-word-at Inv-loop μ-loop
+add-word-at c = search needs
 
-element-copy-out-keep : tie.Need-element-copy-out-keep
-element-copy-out-keep c = search needs
+word-at-requires : tie.Need-word-at-requires Inv-loop μ-loop
+word-at-requires c κs = search needs
 
-returns : tie.Need-returns
-returns c = tried-none _ _ _ _
+upper-set-requires : tie.Need-upper-set-requires Inv-loop μ-loop
+upper-set-requires c κs = search needs
 
-mul-value : tie.Need-mul-value
-mul-value c = search needs
+add-word-at-2 : tie.Need-add-word-at-2 Inv-loop μ-loop
+add-word-at-2 c = search needs
 
-add-value : tie.Need-add-value
-add-value c = search needs
+word-at-requires-2 : tie.Need-word-at-requires-2 Inv-loop μ-loop
+word-at-requires-2 c κs = search needs
 
-mul-value-2 : tie.Need-mul-value-2
-mul-value-2 c = search needs
+word-at-requires-3 : tie.Need-word-at-requires-3 Inv-loop μ-loop
+word-at-requires-3 c κs = search needs
 
-add-value-2 : tie.Need-add-value-2
-add-value-2 c = search needs
+mul-visit-set : tie.Need-mul-visit-set Inv-loop μ-loop
+mul-visit-set c = search needs
 
-mul-value-3 : tie.Need-mul-value-3
-mul-value-3 c = search needs
+visit-set-requires : tie.Need-visit-set-requires Inv-loop μ-loop
+visit-set-requires c κs = search needs
 
-element-copy-out-value : tie.Need-element-copy-out-value
-element-copy-out-value c = search needs
+add-row : tie.Need-add-row Inv-loop μ-loop
+add-row c = search needs
 
-mul-need : tie.Need-mul-need
-mul-need c = search needs
+add-w : tie.Need-add-w Inv-loop μ-loop
+add-w c = search needs
 
-mul-need-2 : tie.Need-mul-need-2
-mul-need-2 c = search needs
+loop-less : tie.Need-loop-less Inv-loop μ-loop
+loop-less c = search needs
 
-element-copy-out-need : tie.Need-element-copy-out-need
-element-copy-out-need c = search needs
+loop-again : tie.Need-loop-again Inv-loop μ-loop
+loop-again c = search needs
 
-mul-needed : tie.Need-mul-needed
-mul-needed c = search needs
-
-add-needed : tie.Need-add-needed
-add-needed c = search needs
-
-mul-needed-2 : tie.Need-mul-needed-2
-mul-needed-2 c = search needs
-
-element-copy-out-needed : tie.Need-element-copy-out-needed
-element-copy-out-needed c = search needs
-
-returns-2 : tie.Need-returns-2
-returns-2 c = tried-none _ _ _ _
-
-visit-all-requires : tie.Need-visit-all-requires
-visit-all-requires c κs = search needs
-
-same-length : tie.Need-same-length
+same-length : tie.Need-same-length Inv-loop μ-loop
 same-length c = search needs
 
-same-length-2 : tie.Need-same-length-2
+same-length-2 : tie.Need-same-length-2 Inv-loop μ-loop
 same-length-2 c = search needs
 
-same-length-3 : tie.Need-same-length-3
+same-length-3 : tie.Need-same-length-3 Inv-loop μ-loop
 same-length-3 c = search needs
 
-returns-3 : tie.Need-returns-3
-returns-3 c = search needs
+returns : tie.Need-returns Inv-loop μ-loop
+returns c = search needs
 
 pub visit-before-spec : {M : Type 1} → statement M
 visit-before-spec =
     tie.close
     (tie.spec
-    mul-keep
-    add-keep
-    mul-keep-2
-    add-keep-2
-    mul-keep-3
-    element-copy-out-keep
-    returns
-    mul-value
-    add-value
-    mul-value-2
-    add-value-2
-    mul-value-3
-    element-copy-out-value
-    mul-need
-    mul-need-2
-    element-copy-out-need
-    mul-needed
-    add-needed
-    mul-needed-2
-    element-copy-out-needed
-    returns-2
-    visit-all-requires
+    Inv-loop
+    μ-loop
+    loop-holds
+    lower-set-requires
+    add-word-at
+    word-at-requires
+    upper-set-requires
+    add-word-at-2
+    word-at-requires-2
+    word-at-requires-3
+    mul-visit-set
+    visit-set-requires
+    add-row
+    add-w
+    loop-less
+    loop-again
     same-length
     same-length-2
     same-length-3
-    returns-3)
+    returns)

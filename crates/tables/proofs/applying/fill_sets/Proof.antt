@@ -1,0 +1,41 @@
+-- `tables::applying::fill_sets` meets its contract. Assumes nothing.
+use borrow.Author.Needs.{needs}
+use Rattle.tables.proofs.applying.fill_sets.Statement.{statement}
+use Rattle.tables.proofs.applying.fill_sets.Tie as tie
+use borrow.Author.Needs.{needs}
+use mathlib.Core.Path.{refl}
+use native.Mathlib.Omega.{arith}
+use Rattle.tables.proofs.SetsFilled.{sets-filled, zeros}
+
+returns : tie.Need-returns
+returns c = λ h. absurd (omega arith)
+
+spread-of-requires : tie.Need-spread-of-requires
+spread-of-requires c κs = search needs
+
+mul-enter-all : tie.Need-mul-enter-all
+mul-enter-all c = search needs
+
+slice-aggregate-enter-all : tie.Need-slice-aggregate-enter-all
+slice-aggregate-enter-all c = search needs
+
+enter-all-requires : tie.Need-enter-all-requires
+enter-all-requires c κs = (refl, omega arith, omega (arith, c .before .spread-of .ensures .1), zeros 272)
+
+fill-rows-requires : tie.Need-fill-rows-requires
+fill-rows-requires c κs = search needs
+
+returns-2 : tie.Need-returns-2
+returns-2 c = λ h. rw (← c .before .before .before .before .before .before .spread-of .ensures .0) (sets-filled _ _ _ _ _ _ (c .before .before .before .before .enter-all .ensures) (c .fill-rows .ensures))
+
+pub fill-sets-spec : {M : Type 1} → statement M
+fill-sets-spec =
+    tie.close
+    (tie.spec
+    returns
+    spread-of-requires
+    mul-enter-all
+    slice-aggregate-enter-all
+    enter-all-requires
+    fill-rows-requires
+    returns-2)
