@@ -15,7 +15,6 @@ use Rattle.planning.specs.Table.{estimate, Small}
 use Rattle.planning.specs.Task.{system, State}
 use Rattle.planning.proofs.Answer.{found-is-optimal, over-means-above-limit, spent-means-at-least, none-means-no-plan, found-passes}
 use Rattle.planning.proofs.Estimate.{estimate-admissible}
-use Rattle.planning.proofs.Verdict.{verdict-additive}
 use Rattle.task_record.specs.Numbers.{limitOf, budgetOf}
 use Rattle.task_record.specs.Record.{Sound}
 use Rattle.task_record.specs.State.{stateCheck}
@@ -31,12 +30,12 @@ use Rattle.patterns.specs.declared.estimate.EstimateCheck.the-variants as of-es
 use Rattle.patterns.specs.declared.value.StateValue.the-variants as of-value
 use Rattle.tables.proofs.BuiltTables.{prepared-as-built, value-after-build, finite-after-build, infinite-after-build}
 use Rattle.patterns.proofs.Reading.{actions-length}
-use Rattle.patterns.proofs.Refusals.{checked-ready, ready-means}
+use Rattle.patterns.proofs.Refusals.{checked-ready}
 use Rattle.search.specs.Answer.{bufferOf}
 use Rattle.search.specs.Entry.{taskAnswer, searchOf, searchAnswer, planAfter}
 use Rattle.search.specs.declared.entry.SearchAnswer.the-variants as outcome
 use Rattle.search.proofs.Answered.{is-found, is-over, is-spent, is-none, answered-means, answer-found, answer-over, answer-spent, answer-none, buffer-found}
-use Rattle.search.proofs.Prepared.{search-ready, plan-ready, ready-when, fits-when}
+use Rattle.search.proofs.Prepared.{search-ready, plan-ready, ready-additive, ready-when, fits-when}
 use Rattle.search.proofs.RecordSearch.{limit-right}
 
 -- The value call on tables that a build left, whatever they were lent with.
@@ -80,9 +79,6 @@ module _ (r tabs buffer : List ℕ) where
   ready-sound : estimateCheck r (length tabs) ≡ of-estimate.Ready → Sound r
   ready-sound h = checked-ready r (length tabs) h .0
 
-  ready-additive : estimateCheck r (length tabs) ≡ of-estimate.Ready → Additive (taskOf r) (patternsOf r)
-  ready-additive h = verdict-additive (taskOf r) (patternsOf r) .0 (ready-means r (length tabs) (checked-ready r (length tabs) h .1) .1)
-
   -- "Let a task be sound and its patterns additive, as document 01 defines both. Its .. answers are then the ones defined there": where
   -- the patterns are small enough and the lent tables have room (7 and 8), the search's answer and its buffer; its tables are as built.
   pub answers-as-defined : Sound r → Additive (taskOf r) (patternsOf r) → Small (taskOf r) (patternsOf r) →
@@ -113,9 +109,9 @@ module _ (r tabs buffer : List ℕ) where
       let a = answered-means r (length tabs) (length buffer) (is-found d c k) h in
       let sound = ready-sound (a .0) in
       let b = answer-found (length buffer) (taskAnswer r) d c k (a .1) in
-      let o = found-is-optimal (taskOf r) (sound-well-formed r sound) (patternsOf r) (ready-additive (a .0)) (budgetOf r) (limitOf r) (startOf r)
+      let o = found-is-optimal (taskOf r) (sound-well-formed r sound) (patternsOf r) (ready-additive r (length tabs) (a .0)) (budgetOf r) (limitOf r) (startOf r)
       (sound-start r sound) (b .0) d c (b .1 .0) in
-      let f = found-passes (taskOf r) (sound-well-formed r sound) (patternsOf r) (ready-additive (a .0)) (budgetOf r) (limitOf r) (startOf r)
+      let f = found-passes (taskOf r) (sound-well-formed r sound) (patternsOf r) (ready-additive r (length tabs) (a .0)) (budgetOf r) (limitOf r) (startOf r)
       (sound-start r sound) mostMoves (limit-right r sound)
       (let n = actions-length r in let m = actions-right r sound in omega arith) (b .0) d c (b .1 .0) in
       record {
@@ -133,7 +129,7 @@ module _ (r tabs buffer : List ℕ) where
       Strong (system (taskOf r)) q (startOf r) → limitOf r < cost (system (taskOf r)) q
   unfolding taskAnswer
   over-above-limit c h = let a = answered-means r (length tabs) (length buffer) (is-over c) h in
-      over-means-above-limit (taskOf r) (sound-well-formed r (ready-sound (a .0))) (patternsOf r) (ready-additive (a .0)) (budgetOf r) (limitOf r)
+      over-means-above-limit (taskOf r) (sound-well-formed r (ready-sound (a .0))) (patternsOf r) (ready-additive r (length tabs) (a .0)) (budgetOf r) (limitOf r)
       (startOf r) (sound-start r (ready-sound (a .0))) c
       (answer-over (length buffer) (taskAnswer r) c (a .1))
 
@@ -142,7 +138,7 @@ module _ (r tabs buffer : List ℕ) where
       ((q : Plan) → Strong (system (taskOf r)) q (startOf r) → d ≤ cost (system (taskOf r)) q) × (c ≡ budgetOf r)
   unfolding taskAnswer
   spent-at-least-round d c h = let a = answered-means r (length tabs) (length buffer) (is-spent d c) h in
-      spent-means-at-least (taskOf r) (sound-well-formed r (ready-sound (a .0))) (patternsOf r) (ready-additive (a .0)) (budgetOf r) (limitOf r)
+      spent-means-at-least (taskOf r) (sound-well-formed r (ready-sound (a .0))) (patternsOf r) (ready-additive r (length tabs) (a .0)) (budgetOf r) (limitOf r)
       (startOf r) (sound-start r (ready-sound (a .0))) d c
       (answer-spent (length buffer) (taskAnswer r) d c (a .1))
 
@@ -150,6 +146,6 @@ module _ (r tabs buffer : List ℕ) where
   pub none-no-plan : searchAnswer r (length tabs) (length buffer) ≡ outcome.None → (q : Plan) → Strong (system (taskOf r)) q (startOf r) → ⊥
   unfolding taskAnswer
   none-no-plan h = let a = answered-means r (length tabs) (length buffer) is-none h in
-      none-means-no-plan (taskOf r) (sound-well-formed r (ready-sound (a .0))) (patternsOf r) (ready-additive (a .0)) (budgetOf r) (limitOf r)
+      none-means-no-plan (taskOf r) (sound-well-formed r (ready-sound (a .0))) (patternsOf r) (ready-additive r (length tabs) (a .0)) (budgetOf r) (limitOf r)
       (startOf r) (sound-start r (ready-sound (a .0)))
       (answer-none (length buffer) (taskAnswer r) (a .1))

@@ -63,6 +63,12 @@ module _ {A : Type 0} (j k l m : Unit {0} → A) where
   chosen-expand false false true false e = (refl, refl, refl, refl)
   chosen-expand false false false d e = let z : _≡_ {A = ℕ} 0 1 = cc in absurd (omega arith)
 
+opens-within : (a b c d : Bool) → opens a b c d ≡ Opening.Expand → c ≡ true
+opens-within a b true d e = refl
+opens-within true b false d e = let z : _≡_ {A = ℕ} 0 1 = cc in absurd (omega arith)
+opens-within false true false d e = let z : _≡_ {A = ℕ} 0 1 = cc in absurd (omega arith)
+opens-within false false false d e = let z : _≡_ {A = ℕ} 0 1 = cc in absurd (omega arith)
+
 pub cut-either-way : (near : Bool) → Opening.Cut ≡ cond near Opening.Cut Opening.Cut
 cut-either-way true = refl
 cut-either-way false = refl
@@ -106,6 +112,11 @@ module _ (Y : System ℕ) (I : Invariant Y (λ s. Unit {0})) (h : ℕ → ℕ∞
   expand-facts e l = let k = chosen-expand {A = ℕ} (λ u. 0) (λ u. 0) (λ u. 0) (λ u. 0) (eqb c budget) (Y .goal s) (h s ≤? d) (eqb d 0) e in
       let n = eqb-false c budget (k .1) in let z = eqb-false d 0 (k .3) in
       (below-when-not c budget l n, k .2, below-when-not 0 d (omega arith) (λ q. z (sym q)))
+
+  -- Its value is within the depth.
+  pub expand-within : openingOf Y h budget d s c ≡ Opening.Expand → (h s ≤? d) ≡ true
+  unfolding openingOf
+  expand-within e = opens-within (eqb c budget) (Y .goal s) (h s ≤? d) (eqb d 0) e
 
   -- An opening other than `Spent` is made below the budget.
   pub opened-below : {o : Opening} → openingOf Y h budget d s c ≡ o → (o ≡ Opening.Spent → ⊥) → c ≤ budget → c < budget

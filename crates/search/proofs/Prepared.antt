@@ -18,7 +18,7 @@ use Rattle.tables.specs.RecordTables.{builtOver, whereReady, tablesPrepared, wo
 use Rattle.patterns.specs.declared.space.TableCheck.the-variants as of-tables
 use Rattle.patterns.specs.declared.estimate.EstimateCheck.the-variants as of-estimate
 use Rattle.tables.proofs.BuiltTables.{ready-buildable}
-use Rattle.patterns.proofs.Refusals.{verdict-decides}
+use Rattle.patterns.proofs.Refusals.{verdict-decides, checked-ready, ready-means}
 use Rattle.patterns.proofs.Room.{small-fits}
 use Rattle.search.specs.Answer.{bufferOf}
 use Rattle.search.specs.Entry.{HoldsTables, taskAnswer, searchOf, afterEstimate, searchAnswer, bufferAfter, planAfter}
@@ -43,6 +43,10 @@ module _ (r : List ℕ) (lent : ℕ) where
     unfolding planAfter bufferAfter
     plan-ready plan = rw h
 
+-- What is prepared has additive patterns.
+pub ready-additive : (r : List ℕ) (lent : ℕ) → estimateCheck r lent ≡ of-estimate.Ready → Additive (taskOf r) (patternsOf r)
+ready-additive r lent h = verdict-additive (taskOf r) (patternsOf r) .0 (ready-means r lent (checked-ready r lent h .1) .1)
+
 -- Prepared tables and words.
 module _ (r tabs : List ℕ) (h : estimateCheck r (length tabs) ≡ of-estimate.Ready) where
   pub prepared-tables : tablesPrepared r tabs ≡ tables (taskOf r) (patternsOf r) ++ drop (entriesNeeded (taskOf r .sizes) (patternsOf r)) tabs
@@ -57,8 +61,9 @@ module _ (r tabs : List ℕ) (h : estimateCheck r (length tabs) ≡ of-estimate.
   prepared-holds e = record { rest = drop (entriesNeeded (taskOf r .sizes) (patternsOf r)) tabs; built = e ∙ prepared-tables }
 
   pub prepared : (words : List ℕ) {new task : List ℕ} → new ≡ tablesPrepared r tabs → task ≡ wordsPrepared r (length tabs) words →
-      Sound r × Small (taskOf r) (patternsOf r) × (task ≡ compiled (taskOf r)) × HoldsTables r new
-  prepared words e f = let k = ready-buildable r (length tabs) h in (k .sound, k .small, f ∙ prepared-words words, prepared-holds e)
+      Sound r × Small (taskOf r) (patternsOf r) × Additive (taskOf r) (patternsOf r) × (task ≡ compiled (taskOf r)) × HoldsTables r new
+  prepared words e f = let k = ready-buildable r (length tabs) h in
+      (k .sound, k .small, ready-additive r (length tabs) h, f ∙ prepared-words words, prepared-holds e)
 
 -- Nothing is refused of a sound record with additive patterns that are small enough and have room.
 pub ready-when : (r : List ℕ) (lent : ℕ) → Sound r → Additive (taskOf r) (patternsOf r) → Small (taskOf r) (patternsOf r) →

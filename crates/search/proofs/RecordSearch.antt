@@ -2,7 +2,7 @@
 -- holds. Assumes nothing.
 use mathlib.Core.Path.{_≡_, refl, sym, ap, _∙_}
 use mathlib.Core.List.{List, [], _∷_}
-use Prim.Native.Nat.{ℕ, zero, suc, _+_, _≤_, _<_}
+use Prim.Native.Nat.{ℕ, zero, suc, _+_, _*_, _/_, _≤_, _<_}
 use native.Mathlib.Omega.{arith}
 use native.Mathlib.Decide.{decLt, ℕ-discrete}
 use borrow.Author.Tests.{leb-true}
@@ -27,11 +27,13 @@ use Rattle.tables.specs.Packed.{packBy, low, cellsOf, packedSystem, compiled}
 use Rattle.patterns.proofs.Built.{unit-weights}
 use Rattle.tables.proofs.Packing.{cells-pack}
 use Rattle.patterns.proofs.Reading.{patterns-length, actions-length}
+use Rattle.tables.specs.Sets.{spread, SetsOf}
+use Rattle.tables.proofs.ApplyingSets.{applying-enabled, spread-wide}
 use Rattle.tables.proofs.Simulating.{PackedState, packed-state, packed-simulates}
 use Rattle.tables.proofs.SoundPacked.{sound-packable, compiled-weight, compiled-outcomes-few}
 use Rattle.search.specs.Value.{packedValue}
 use Rattle.search.specs.Rows.{RowsOf}
-use Rattle.search.specs.Examination.{Ready}
+use Rattle.search.specs.Examination.{Ready, Applying}
 use Rattle.search.specs.Answer.{answerOf, packedSearch}
 use Rattle.search.specs.Entry.{HoldsTables, taskAnswer, widened, searchOf}
 use Rattle.search.proofs.RowsFilled.{earlier, sizes-number}
@@ -109,6 +111,23 @@ module _ (r : List ℕ) (sound : Sound r) where
     unit-weights = λ m l. compiled-weight r sound m l;
     few-outcomes = λ m l. compiled-outcomes-few r sound m l;
   }
+
+  -- Sets that are filled for its words hold the actions that apply.
+  pub sets-applying : {task sets : List ℕ} {actions variables : ℕ} → task ≡ compiled (taskOf r) → actions ≡ actionCount r → variables ≡ variableCount r →
+      (actions ≤ 64 → SetsOf task 18446744073709551615 actions (spread ((variables + 1) / 2)) sets) →
+      Applying task sets (actionCount r) ((variableCount r + 1) / 2)
+  unfolding packedSystem
+  sets-applying {task} {sets} e a v f = record {
+    set-is = λ s. rw (e, ← actions-length r) (applying-enabled (taskOf r) (sound-packable r sound)
+        (2 * spread ((variableCount r + 1) / 2)) wide ((variableCount r + 1) / 2) sets refl filled s);
+  }
+    where
+      wide : length (taskOf r .sizes) ≤ 2 * spread ((variableCount r + 1) / 2)
+      wide = let n = sizes-number r sound in let k = variables-right r sound .1 in
+          let h = spread-wide ((variableCount r + 1) / 2) (variableCount r) (omega arith) k in omega arith
+
+      filled : SetsOf (compiled (taskOf r)) 18446744073709551615 (length (taskOf r .actions)) (spread ((variableCount r + 1) / 2)) sets
+      filled = let l = actions-right r sound in rw (actions-length r) (rw (e, a, v) at (f (omega arith)))
 
   module _ (small : Small (taskOf r) (patternsOf r)) (rows offsets tabs : List ℕ) (f : RowsOf (taskOf r .sizes) (patternsOf r) rows offsets)
       (b : HoldsTables r tabs) where

@@ -1,16 +1,13 @@
--- Laws of the estimate from rows: one variable or one pattern more, and what a depth leaves after an entry. Assumes nothing.
+-- Laws of the estimate from rows: one variable or one pattern more. Assumes nothing.
 use mathlib.Core.Path.{_≡_, refl, sym, ap, _∙_}
-use mathlib.Core.Bool.{Bool, true, false}
 use mathlib.Core.List.{List}
 use Prim.Native.Nat.{ℕ, zero, suc, _+_, _*_, _-_, _/_, _%_, _<_, _≤_}
 use native.Mathlib.Omega.{arith}
 use native.Mathlib.Nat.{zero-add, add-zero}
 use borrow.Author.Tests.{eq-eqb, ne-eqb}
-use lib.Dec.{eqb, leb, leb→le, le→leb}
 use lib.ListN.{getD}
-use Rattle.planning.specs.Extended.{ℕ∞, fin, inf, add∞, _≤?_}
+use Rattle.planning.specs.Extended.{ℕ∞, fin, inf, add∞}
 use Rattle.planning.specs.Table.{costOf}
-use Rattle.planning.proofs.Test.{not-T-false, bool-iff, by-test, leb-zero}
 use Rattle.search.specs.Value.{rowEntry, packedIndex, patternEntry, patternSum}
 
 -- One more of n is left at k.
@@ -53,18 +50,6 @@ pub sum-ends : (a : ℕ) → add∞ (fin a) (fin 0) ≡ fin a
 unfolding add∞
 sum-ends a = ap fin (add-zero a)
 
--- An entry within the depth is taken off it; one above it, infinite or not, is too much.
-pub entry-taken-off : (d e : ℕ) (x : ℕ∞) → d < 65535 → e ≤ d → (add∞ (costOf e) x ≤? d) ≡ (x ≤? (d - e))
-unfolding costOf add∞
-entry-taken-off d e (fin b) l h = rw (ne-eqb e 65535 (λ q. omega arith))
-    (bool-iff (leb (e + b) d) (leb b (d - e)) (λ t. let k = leb→le (e + b) d t in le→leb b (d - e) (omega arith)) (λ t. let k = leb→le b (d - e) t in le→leb (e + b) d (omega arith)))
-entry-taken-off d e inf l h = rw (ne-eqb e 65535 (λ q. omega arith))
-
-pub entry-too-high : (d e : ℕ) (x : ℕ∞) → d < e → (add∞ (costOf e) x ≤? d) ≡ false
-unfolding costOf add∞
-entry-too-high d e (fin b) h = by-test (eqb e 65535) (λ q. rw q) (λ q. rw q (not-T-false (leb (e + b) d) (λ t. let k = leb→le (e + b) d t in omega arith)))
-entry-too-high d e inf h = by-test (eqb e 65535) (λ q. rw q) (λ q. rw q)
-
 -- The sum over variables so far takes up one more.
 pub index-adds : (rows : List ℕ) (p v n s i w whole : ℕ) → v < n → w ≡ rowEntry rows v (s % 16) p → whole ≡ i + packedIndex rows p v (n - v) s → whole ≡ i + w + packedIndex rows p (v + 1) (n - (v + 1)) (s / 16)
 index-adds rows p v n s i w whole h e q = q ∙ rw (index-step rows p v n s h) (omega arith)
@@ -72,18 +57,8 @@ index-adds rows p v n s i w whole h e q = q ∙ rw (index-step rows p v n s h) (
 pub index-whole : (rows : List ℕ) (p v n s i whole : ℕ) → n ≤ v → whole ≡ i + packedIndex rows p v (n - v) s → i ≡ whole
 index-whole rows p v n s i whole h q = omega (arith, index-end rows p v n s h)
 
--- One turn over the patterns, and its end: for the test against a depth, and for the value itself.
+-- One turn over the patterns, and its end.
 module _ (rows offsets tables : List ℕ) (variables s : ℕ) (p n e : ℕ) where
-  module _ (d : ℕ) (whole : Bool) (so-far : whole ≡ (patternSum rows offsets tables variables s p (n - p) ≤? d)) where
-    pub depth-left : p < n → e ≡ patternEntry rows offsets tables variables s p → d < 65535 → e ≤ d → whole ≡ (patternSum rows offsets tables variables s (p + 1) (n - (p + 1)) ≤? (d - e))
-    depth-left h q l k = so-far ∙ rw (sum-step rows offsets tables variables s p n h, ← q) (entry-taken-off d e _ l k)
-
-    pub depth-exceeded : p < n → e ≡ patternEntry rows offsets tables variables s p → d < e → false ≡ whole
-    depth-exceeded h q k = sym (so-far ∙ rw (sum-step rows offsets tables variables s p n h, ← q) (entry-too-high d e _ k))
-
-    pub depth-suffices : n ≤ p → true ≡ whole
-    depth-suffices h = sym (so-far ∙ rw (sum-end rows offsets tables variables s p n h) (leb-zero d))
-
   module _ (a : ℕ) (whole : ℕ∞) (so-far : whole ≡ add∞ (fin a) (patternSum rows offsets tables variables s p (n - p))) where
     pub value-grows : p < n → e ≡ patternEntry rows offsets tables variables s p → (e ≡ 65535 → ⊥) → whole ≡ add∞ (fin (a + e)) (patternSum rows offsets tables variables s (p + 1) (n - (p + 1)))
     value-grows h q k = so-far ∙ rw (sum-step rows offsets tables variables s p n h, ← q) (finite-joins a e _ k)
@@ -98,7 +73,3 @@ module _ (rows offsets tables : List ℕ) (variables s : ℕ) (p n e : ℕ) wher
 pub entry-found : (rows offsets tables : List ℕ) (variables s p i e : ℕ) → i ≡ packedIndex rows p 0 variables s → e ≡ getD tables (getD offsets p 0 + i) 65535 → e ≡ patternEntry rows offsets tables variables s p
 unfolding patternEntry
 entry-found rows offsets tables variables s p i e q h = h ∙ ap (λ (j : ℕ). getD tables (getD offsets p 0 + j) 65535) q
-
--- Two patterns more are one pair more.
-pub next-pair : (rows offsets tables : List ℕ) (variables s k n : ℕ) → patternSum rows offsets tables variables s (2 * k + 1 + 1) (n - (2 * k + 1 + 1)) ≡ patternSum rows offsets tables variables s (2 * (k + 1)) (n - 2 * (k + 1))
-next-pair rows offsets tables variables s k n = ap (λ (q : ℕ). patternSum rows offsets tables variables s q (n - q)) (omega arith)

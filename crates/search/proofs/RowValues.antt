@@ -31,13 +31,16 @@ index-weighs rows p v (w ∷ ws) s h = ap₂ (λ m n. m + n)
     (index-weighs rows p (v + 1) ws (s / 16) (λ i x l k. let e : v + 1 + i ≡ v + suc i = omega arith in rw e (h (suc i) x (omega arith) k)))
 
 module _ (t : Task) (k : Packable t) (ps : List (List ℕ)) (rows offsets : List ℕ) (f : RowsOf (t .sizes) ps rows offsets) where
-  -- The index of a word in the table of pattern number p is that of the state that it stands for.
+  -- The index of a word in the table of pattern number p is its weight by that pattern's weights,
+  pub index-weight : (s p : ℕ) → p < length ps → packedIndex rows p 0 (length (t .sizes)) s ≡ weigh (weightsFrom 1 (t .sizes) (getD ps p [])) s
+  index-weight s p l = let n = length-weights 1 (t .sizes) (getD ps p []) in
+      rw n at (index-weighs rows p 0 (weightsFrom 1 (t .sizes) (getD ps p [])) s (λ i x a b. rw (zero-add i) (f .entry p i x l (omega arith) b)))
+
+  -- and the index of the state that the word stands for.
   pub packed-index : (s p : ℕ) → PackedState t s → p < length ps → packedIndex rows p 0 (length (t .sizes)) s ≡ index (t .sizes) (getD ps p [])
       (cellsOf (length (t .sizes)) s)
   unfolding index
-  packed-index s p o l = let n = length-weights 1 (t .sizes) (getD ps p []) in
-      rw n at (index-weighs rows p 0 (weightsFrom 1 (t .sizes) (getD ps p [])) s (λ i x a b. rw (zero-add i) (f .entry p i x l (omega arith) b)))
-      ∙ rw (pack-cells (length (t .sizes)) s (o .1)) at
+  packed-index s p o l = index-weight s p l ∙ rw (pack-cells (length (t .sizes)) s (o .1)) at
       (weigh-index 1 (t .sizes) (getD ps p []) (cellsOf (length (t .sizes)) s) (k .values-few) (o .0))
 
   module _ (tabs : List ℕ) (s : ℕ) (o : PackedState t s) where

@@ -3,13 +3,17 @@ use mathlib.Core.Path.{_≡_}
 use mathlib.Core.Bool.{cond}
 use mathlib.Core.List.{List, []}
 use Prim.Native.Nat.{ℕ, _+_, _-_, _<_, _≤_}
+use lib.Bits.{bitAnd}
 use lib.Dec.{eqb}
 use lib.ListN.{length}
 use Rattle.planning.specs.Extended.{ℕ∞, _≤?_}
 use Rattle.planning.specs.System.{System}
 use Rattle.planning.specs.Search.{Result, succeeded, failed, stopped}
-use Rattle.tables.specs.Packed.{outcomeCount, actionWeight}
+use Rattle.tables.specs.Packed.{preMask, preValue, outcomeCount, actionWeight}
+use Rattle.tables.specs.Sets.{setFrom, spread, meetFrom}
 use Rattle.search.specs.Buffer.{Keeps, Holds}
+use Rattle.search.specs.Owned.{Owned}
+use Rattle.search.specs.ByteRows.{BytesOf}
 use Rattle.search.specs.declared.examine.Opening.{Opening}
 use Rattle.search.specs.declared.examine.Ending.{Ending}
 use Rattle.search.specs.declared.examine.Ending.the-variants.{Stopped, Failed, Succeeded}
@@ -55,3 +59,14 @@ pub record Ready (task : List ℕ) (actions patterns variables budget : ℕ) : T
   pub small-budget : budget ≤ 1000000
   pub unit-weights : (m : ℕ) → m < actions → actionWeight task m ≡ 1
   pub few-outcomes : (m : ℕ) → m < actions → outcomeCount task m ≤ 8
+
+-- The sets of actions by bytes of a state: looked up and met, they are the actions that apply.
+pub record Applying (task sets : List ℕ) (actions bytes : ℕ) : Type 0 where
+  pub set-is : (s : ℕ) → meetFrom sets 0 (spread bytes) s ≡ setFrom (λ m. eqb (bitAnd s (preMask task m)) (preValue task m)) 0 actions
+
+-- All that the search goes by: the compiled task, the sets of actions that apply, the rows by bytes, and the owners of actions.
+pub record Guided (task sets places rows owners : List ℕ) (actions patterns variables bytes budget : ℕ) : Type 0 where
+  pub ready : Ready task actions patterns variables budget
+  pub applying : Applying task sets actions bytes
+  pub placed : BytesOf rows patterns variables places
+  pub owned : Owned task rows actions patterns variables owners

@@ -1,6 +1,8 @@
 -- What the contracts of this crate cite, in reading order.
 pub mod Value
+pub mod Owned
 pub mod Rows
+pub mod ByteRows
 pub mod Buffer
 pub mod Examination
 pub mod Packed

@@ -1,6 +1,8 @@
 -- The estimate of a packed state from rows: what each value of each variable adds to the index in each pattern's table. Assumes nothing.
+use mathlib.Core.Bool.{cond}
 use mathlib.Core.List.{List}
-use Prim.Native.Nat.{ℕ, zero, suc, _+_, _*_, _/_, _%_}
+use Prim.Native.Nat.{ℕ, zero, suc, _+_, _*_, _-_, _/_, _%_}
+use lib.Dec.{ltb}
 use lib.ListN.{getD}
 use Rattle.planning.specs.Extended.{ℕ∞, fin, inf, add∞}
 use Rattle.planning.specs.Table.{costOf}
@@ -28,6 +30,13 @@ module _ (rows offsets tables : List ℕ) where
 
   unfoldable pub packedValue : ℕ → ℕ → ℕ → ℕ∞
   packedValue patterns variables s = patternSum variables s 0 patterns
+
+  -- The value of s without the entry of pattern p, and that value with the entry of x; a number that names no pattern has no entry.
+  unfoldable pub restOf : ℕ → ℕ → ℕ → ℕ → ℕ → ℕ
+  restOf patterns variables s p value = cond (ltb p patterns) (value - patternEntry variables s p) value
+
+  unfoldable pub sumWith : ℕ → ℕ → ℕ → ℕ → ℕ → ℕ
+  sumWith patterns variables x p rest = cond (ltb p patterns) (rest + patternEntry variables x p) rest
 
 -- The code's word for a value.
 unfoldable pub valueOf : ℕ∞ → Value

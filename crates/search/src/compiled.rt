@@ -1,22 +1,15 @@
-// Reading a compiled task: the goal test, the precondition test and the successor of a packed state, each one operation on words.
+// Reading a compiled task: the goal test, the number of outcomes and the successor of a packed state, each one operation on words.
 // Asks for an action below 64 and an outcome below 8.
 ghost use mathlib.Core.Path.{_≡_};
 ghost use Prim.Native.Nat.{_<_};
 ghost use lib.Dec.{eqb};
 ghost use lib.Bits.{bitAnd, bitOr};
-ghost use Rattle.tables.specs.Packed.{preMask, preValue, outcomeCount, keepMask, setValue, goalMask, goalValue};
+ghost use Rattle.tables.specs.Packed.{outcomeCount, keepMask, setValue, goalMask, goalValue};
 
 pub(crate) fn is_goal(task: &[u64; 1282], s: u64) -> bool
     ensures { λ r. ⌜ r ≡ eqb (bitAnd s (goalMask (now (task .entry)))) (goalValue (now (task .entry))) ⌝ }
 {
     s & task[1280] == task[1281]
-}
-
-pub(crate) fn is_enabled(task: &[u64; 1282], s: u64, m: usize) -> bool
-    requires { ⌜ m < 64 ⌝ }
-    ensures { λ r. ⌜ r ≡ eqb (bitAnd s (preMask (now (task .entry)) m)) (preValue (now (task .entry)) m) ⌝ }
-{
-    s & task[20 * m] == task[20 * m + 1]
 }
 
 pub(crate) fn outcome_count(task: &[u64; 1282], m: usize) -> u64

@@ -2,20 +2,28 @@
 // is answered, is said for all records.
 ghost use mathlib.Core.Path.{_≡_};
 ghost use lib.ListN.{length};
-ghost use Prim.Native.Nat.{_<_};
+ghost use Prim.Native.Nat.{_+_, _/_, _<_};
+ghost use Rattle.planning.specs.Pattern.{Additive};
 ghost use Rattle.planning.specs.Table.{Small};
+ghost use Rattle.task_record.specs.Numbers.{actionCount, patternCount, variableCount};
 ghost use Rattle.task_record.specs.Record.{Sound};
 ghost use Rattle.task_record.specs.TaskOf.{taskOf, patternsOf, startOf};
 ghost use Rattle.tables.specs.Packed.{packBy, low, compiled};
 ghost use Rattle.tables.specs.RecordTables.{tablesPrepared};
 ghost use Rattle.search.specs.Rows.{RowsOf};
+ghost use Rattle.search.specs.Owned.{Owned};
+ghost use Rattle.search.specs.ByteRows.{BytesOf};
+ghost use Rattle.search.specs.Examination.{Applying};
 ghost use Rattle.search.specs.Answer.{answerOf, bufferOf};
 ghost use Rattle.search.specs.Entry.{HoldsTables, taskAnswer, widened, searchOf, searchAnswer, planAfter};
+use crate::byte_rows::fill_places;
+use crate::owners::fill_owners;
 use crate::rounds::Answer;
 use crate::rounds::run_rounds;
 use crate::rows::fill_rows;
 use crate::rows::wide;
 use patterns::estimate::EstimateCheck;
+use tables::applying::fill_sets;
 use tables::packed::pack_state;
 use tables::record_tables::prepare;
 use task_record::cells::action_count;
@@ -60,12 +68,15 @@ fn depth(x: u8) -> u32
 fn search_rounds(
     rec: &[u8],
     task: &[u64; 1282],
+    sets: &[u64; 2048],
+    places: &[u16; 4120],
     rows: &[u16; 2048],
     offsets: &[u32; 8],
+    owners: &[u8; 64],
     tables: &[u16],
     plan: &mut [u8],
 ) -> Answer
-    requires { ⌜ (Sound (now rec)) × (Small (taskOf (now rec)) (patternsOf (now rec))) × (now task ≡ compiled (taskOf (now rec))) × (RowsOf (taskOf (now rec) .sizes) (patternsOf (now rec)) (now rows) (now offsets)) × (HoldsTables (now rec) (now tables)) ⌝ }
+    requires { ⌜ (Sound (now rec)) × (Small (taskOf (now rec)) (patternsOf (now rec))) × (now task ≡ compiled (taskOf (now rec))) × (RowsOf (taskOf (now rec) .sizes) (patternsOf (now rec)) (now rows) (now offsets)) × (Applying (now task) (now sets) (actionCount (now rec)) ((variableCount (now rec) + 1) / 2)) × (BytesOf (now rows) (patternCount (now rec)) (variableCount (now rec)) (now places)) × (Owned (now task) (now rows) (actionCount (now rec)) (patternCount (now rec)) (variableCount (now rec)) (now owners)) × (HoldsTables (now rec) (now tables)) ⌝ }
     ensures answer { λ r. ⌜ r ≡ answerOf (length (now (plan .entry))) (taskAnswer (now (rec .entry))) ⌝ }
     ensures buffer { λ _. ⌜ now (plan .exit) ≡ bufferOf (length (now (plan .entry))) (taskAnswer (now (rec .entry))) ⌝ }
 {
@@ -76,14 +87,18 @@ fn search_rounds(
     let most = depth(limit(rec));
     run_rounds(
         task,
+        sets,
+        places,
         rows,
         offsets,
+        owners,
         tables,
         plan,
         s,
         actions,
         patterns,
         variables,
+        (variables + 1) / 2,
         most,
         budget(rec),
     )
@@ -103,14 +118,41 @@ fn widen(a: Answer) -> SearchAnswer
 
 // The search with tables that are built and words that are compiled.
 fn search_built(rec: &[u8], task: &[u64; 1282], tables: &[u16], plan: &mut [u8]) -> SearchAnswer
-    requires { ⌜ (Sound (now rec)) × (Small (taskOf (now rec)) (patternsOf (now rec))) × (now task ≡ compiled (taskOf (now rec))) × (HoldsTables (now rec) (now tables)) ⌝ }
+    requires { ⌜ (Sound (now rec)) × (Small (taskOf (now rec)) (patternsOf (now rec))) × (Additive (taskOf (now rec)) (patternsOf (now rec))) × (now task ≡ compiled (taskOf (now rec))) × (HoldsTables (now rec) (now tables)) ⌝ }
     ensures answer { λ r. ⌜ r ≡ searchOf (length (now (plan .entry))) (taskAnswer (now (rec .entry))) ⌝ }
     ensures buffer { λ _. ⌜ now (plan .exit) ≡ bufferOf (length (now (plan .entry))) (taskAnswer (now (rec .entry))) ⌝ }
 {
+    let mut sets = [0u64; 2048];
+    let mut places = [0u16; 4120];
     let mut rows = [0u16; 2048];
     let mut offsets = [0u32; 8];
+    let mut owners = [8u8; 64];
     fill_rows(rec, &mut rows, &mut offsets);
-    widen(search_rounds(rec, task, &rows, &offsets, tables, plan))
+    fill_places(
+        &rows,
+        wide(pattern_count(rec)),
+        wide(variable_count(rec)),
+        &mut places,
+    );
+    fill_owners(rec, task, &mut owners);
+    fill_sets(
+        task,
+        18446744073709551615,
+        wide(action_count(rec)),
+        (wide(variable_count(rec)) + 1) / 2,
+        &mut sets,
+    );
+    widen(search_rounds(
+        rec,
+        task,
+        &sets,
+        &places,
+        &rows,
+        &offsets,
+        &owners,
+        tables,
+        plan,
+    ))
 }
 
 // The search from the record's start with its limit and budget. A found plan stands at the start of `plan`; `tables` are built here.

@@ -1,9 +1,8 @@
-// The estimate of a packed state from rows: its value, and whether it is within a depth.
+// The estimate of a packed state from rows: its index in a pattern's table, the entry there, and its value.
 // Asks for at most 8 patterns and 16 variables; the tables may be any.
 ghost use mathlib.Core.Path.{_≡_};
 ghost use Prim.Native.Nat.{_+_, _*_, _%_, _<_, _≤_};
 ghost use lib.ListN.{getD};
-ghost use Rattle.planning.specs.Extended.{_≤?_};
 ghost use Rattle.search.specs.Value.{packedIndex, packedValue, valueOf};
 
 fn wide(x: u16) -> usize
@@ -31,7 +30,7 @@ fn cost(x: u16) -> u32
 }
 
 // The index of a state in the table of pattern p.
-fn index_of(rows: &[u16; 2048], s: u64, p: usize, variables: usize) -> usize
+pub(crate) fn index_of(rows: &[u16; 2048], s: u64, p: usize, variables: usize) -> usize
     requires { ⌜ (p < 8) × (variables ≤ 16) ⌝ }
     ensures { λ r. ⌜ (r ≡ packedIndex (now (rows .entry)) p 0 variables s) × (r ≤ 65535 * 16) ⌝ }
 {
@@ -56,7 +55,7 @@ fn entry_at(tables: &[u16], i: usize) -> u16
 }
 
 // The cost that the table of pattern p gives at an index.
-fn cost_at(offsets: &[u32; 8], tables: &[u16], p: usize, i: usize) -> u32
+pub(crate) fn cost_at(offsets: &[u32; 8], tables: &[u16], p: usize, i: usize) -> u32
     requires { ⌜ (p < 8) × (i ≤ 65535 * 16) ⌝ }
     ensures { λ r. ⌜ (r ≡ getD (now (tables .entry)) (getD (now (offsets .entry)) p 0 + i) 65535) × (r < 65536) ⌝ }
 {
@@ -89,66 +88,4 @@ pub(crate) fn value_of(
         sum = sum + e;
     }
     Value::Finite(sum)
-}
-
-// The indices of a state in the tables of two patterns that follow each other: its digits are taken apart once for both.
-struct Pair {
-    first: usize,
-    second: usize,
-}
-
-fn index_pair(rows: &[u16; 2048], s: u64, p: usize, variables: usize) -> Pair
-    requires { ⌜ (p + 1 < 8) × (variables ≤ 16) ⌝ }
-    ensures { λ r. ⌜ (r .first ≡ packedIndex (now (rows .entry)) p 0 variables s) × (r .second ≡ packedIndex (now (rows .entry)) (p + 1) 0 variables s) × (r .first ≤ 65535 * 16) × (r .second ≤ 65535 * 16) ⌝ }
-{
-    let mut i = 0usize;
-    let mut j = 0usize;
-    let mut rest = s;
-    for v in 0..variables {
-        let a = (16 * v + lowest_digit(rest)) * 8;
-        i = i + wide(rows[a + p]);
-        j = j + wide(rows[a + (p + 1)]);
-        rest = rest / 16;
-    }
-    Pair {
-        first: i,
-        second: j,
-    }
-}
-
-// Whether the value of a state is within d. Entries are taken off the depth one by one, and an infinite one is above any depth.
-pub(crate) fn is_within(
-    rows: &[u16; 2048],
-    offsets: &[u32; 8],
-    tables: &[u16],
-    s: u64,
-    patterns: usize,
-    variables: usize,
-    d: u32,
-) -> bool
-    requires { ⌜ (patterns ≤ 8) × (variables ≤ 16) × (d < 65535) ⌝ }
-    ensures { λ r. ⌜ r ≡ (packedValue (now (rows .entry)) (now (offsets .entry)) (now (tables .entry)) patterns variables s ≤? d) ⌝ }
-{
-    let mut left = d;
-    for k in 0..4usize {
-        let p = 2 * k;
-        if patterns <= p {
-            return true;
-        }
-        let x = index_pair(rows, s, p, variables);
-        let e = cost_at(offsets, tables, p, x.first);
-        if left < e {
-            return false;
-        }
-        left = left - e;
-        if patterns <= p + 1 {
-            return true;
-        }
-        let f = cost_at(offsets, tables, p + 1, x.second);
-        if left < f {
-            return false;
-        }
-        left = left - f;
-    }
-    true
 }

@@ -1,18 +1,27 @@
 // Examining a state and examining an action's outcomes call each other, and the depth left falls. The tests that end an examination at
 // once stand before the call, so that a leaf of the search costs none. The count of examinations is carried in every ending.
-// Asks for a task that is `Ready` (every weight 1, at most 8 outcomes), a count within the budget and a depth of at most 32.
+// The value of a state is carried: an outcome changes it in the action's owner only. Asks for what the search goes by (`Guided`: every weight 1,
+// at most 8 outcomes, the sets of applying actions, the owners), a count within the budget and a depth of at most 32.
 ghost use mathlib.Core.Path.{_≡_};
 ghost use Prim.Native.Nat.{ℕ, _+_, _-_, _<_, _≤_};
+ghost use lib.Bits.{bitAnd};
+ghost use lib.Count.{trailingZeros};
+ghost use lib.Dec.{leb};
+ghost use Rattle.planning.specs.Extended.{ℕ∞, fin, _≤?_};
 ghost use Rattle.planning.specs.Plan.{encode, encodes};
-ghost use Rattle.search.specs.Examination.{Examined, Ready};
+ghost use Rattle.tables.specs.Packed.{packedSystem};
+ghost use Rattle.search.specs.Value.{packedValue};
+ghost use Rattle.search.specs.Examination.{openingOf, Examined, Guided};
 ghost use Rattle.search.specs.Packed.{packedExamination, packedOpening, packedOutcomes};
 ghost use Rattle.search.specs.declared.examine.Opening.{Opening};
 use crate::buffer::put;
-use crate::compiled::is_enabled;
+use crate::carried::owner_of;
+use crate::carried::rest_of;
+use crate::carried::sum_with;
 use crate::compiled::is_goal;
 use crate::compiled::outcome_count;
 use crate::compiled::successor;
-use crate::estimate::is_within;
+use tables::applying::applying;
 
 // How an examination begins.
 pub(crate) enum Opening {
@@ -29,21 +38,16 @@ pub(crate) enum Ending {
     Succeeded(u32, usize),
 }
 
-// With no depth left the value decides nothing, so it is not looked at: both tests cut.
+// What is decided at once about a state of a value: with no depth left it is a goal or cut.
 pub(crate) fn open_state(
     task: &[u64; 1282],
-    rows: &[u16; 2048],
-    offsets: &[u32; 8],
-    tables: &[u16],
     s: u64,
-    patterns: usize,
-    variables: usize,
+    value: u32,
     d: u32,
     budget: u32,
     count: u32,
 ) -> Opening
-    requires { ⌜ (patterns ≤ 8) × (variables ≤ 16) × (d ≤ 32) ⌝ }
-    ensures { λ r. ⌜ ((actions : ℕ) → r ≡ packedOpening (now (task .entry)) (now (rows .entry)) (now (offsets .entry)) (now (tables .entry)) actions patterns variables budget d s count) ⌝ }
+    ensures { λ r. ⌜ ((actions : ℕ) (h : ℕ → ℕ∞) → (h s ≤? d) ≡ leb value d → r ≡ openingOf (packedSystem (now (task .entry)) actions) h budget d s count) ⌝ }
 {
     if count == budget {
         return Opening::Spent;
@@ -54,77 +58,101 @@ pub(crate) fn open_state(
     if d == 0 {
         return Opening::Cut;
     }
-    if is_within(rows, offsets, tables, s, patterns, variables, d) {
+    if value <= d {
         return Opening::Expand;
     }
     Opening::Cut
 }
 
-fn byte_of(m: usize) -> u8
+pub(crate) fn byte_of(m: usize) -> u8
     requires { ⌜ m < 256 ⌝ }
     ensures { λ r. ⌜ r ≡ m ⌝ }
 {
     m as u8
 }
 
-fn place_of(n: u64) -> usize
+// The lowest number in a set that is not empty, and the set without it.
+pub(crate) fn lowest(set: u64) -> usize
+    requires { ⌜ (set ≡ 0 → ⊥) ⌝ }
+    ensures { λ r. ⌜ r ≡ trailingZeros 64 set ⌝ }
+{
+    u64::trailing_zeros(set) as usize
+}
+
+pub(crate) fn without_lowest(set: u64) -> u64
+    requires { ⌜ (set ≡ 0 → ⊥) ⌝ }
+    ensures { λ r. ⌜ (r ≡ bitAnd set (set - 1)) × (r < set) ⌝ }
+{
+    set & (set - 1)
+}
+
+pub(crate) fn place_of(n: u64) -> usize
     ensures { λ r. ⌜ r ≡ n ⌝ }
 {
     n as usize
 }
 
-// Examines a state that opens: its actions are tried by number, and the first that succeeds wins.
+// Examines a state that opens: the actions that apply are tried by number, and the first that succeeds wins.
 pub(crate) fn examine(
     task: &[u64; 1282],
+    sets: &[u64; 2048],
+    places: &[u16; 4120],
     rows: &[u16; 2048],
     offsets: &[u32; 8],
+    owners: &[u8; 64],
     tables: &[u16],
     plan: &mut [u8],
     s: u64,
     actions: usize,
     patterns: usize,
     variables: usize,
+    bytes: usize,
+    value: u32,
     d: u32,
     budget: u32,
     count: u32,
     at: usize,
 ) -> Ending
-    requires { ⌜ (Ready (now task) actions patterns variables budget) × (count ≤ budget) × (at ≤ count) × (d ≤ 32) × (packedOpening (now task) (now rows) (now offsets) (now tables) actions patterns variables budget d s count ≡ Opening.Expand) ⌝ }
+    requires { ⌜ (Guided (now task) (now sets) (now places) (now rows) (now owners) actions patterns variables bytes budget) × (count ≤ budget) × (at ≤ count) × (d ≤ 32) × (packedOpening (now task) (now rows) (now offsets) (now tables) actions patterns variables budget d s count ≡ Opening.Expand) × (packedValue (now rows) (now offsets) (now tables) patterns variables s ≡ fin value) ⌝ }
     ensures { λ r. ⌜ Examined encode (packedExamination (now (task .entry)) (now (rows .entry)) (now (offsets .entry)) (now (tables .entry)) actions patterns variables budget d s count) count budget at (now (plan .entry)) (now (plan .exit)) r ⌝ }
 {
     let mut c = count + 1;
-    let mut m = 0usize;
-    while m < actions {
-        if is_enabled(task, s, m) {
-            match outcomes(
-                task,
-                rows,
-                offsets,
-                tables,
-                plan,
-                s,
-                m,
-                actions,
-                patterns,
-                variables,
-                d - 1,
-                budget,
-                c,
-                at + 1,
-            ) {
-                Ending::Stopped(e) => {
-                    return Ending::Stopped(e);
-                }
-                Ending::Failed(made) => {
-                    c = made;
-                }
-                Ending::Succeeded(e, end) => {
-                    put(plan, at, byte_of(m));
-                    return Ending::Succeeded(e, end);
-                }
+    let mut set = applying(sets, s, bytes);
+    while set != 0 {
+        let m = lowest(set);
+        match outcomes(
+            task,
+            sets,
+            places,
+            rows,
+            offsets,
+            owners,
+            tables,
+            plan,
+            s,
+            m,
+            actions,
+            patterns,
+            variables,
+            bytes,
+            value,
+            d - 1,
+            budget,
+            c,
+            at + 1,
+        ) {
+            Ending::Stopped(e) => {
+                return Ending::Stopped(e);
+            }
+            Ending::Failed(made) => {
+                c = made;
+            }
+            Ending::Succeeded(e, end) => {
+                put(plan, at, byte_of(m));
+                return Ending::Succeeded(e, end);
             }
         }
-        m += 1;
+        set = without_lowest(set);
     }
     Ending::Failed(c)
 }
@@ -132,8 +160,11 @@ pub(crate) fn examine(
 // Examines the states after an action's outcomes, in order, up to the first that does not succeed.
 pub(crate) fn outcomes(
     task: &[u64; 1282],
+    sets: &[u64; 2048],
+    places: &[u16; 4120],
     rows: &[u16; 2048],
     offsets: &[u32; 8],
+    owners: &[u8; 64],
     tables: &[u16],
     plan: &mut [u8],
     s: u64,
@@ -141,32 +172,46 @@ pub(crate) fn outcomes(
     actions: usize,
     patterns: usize,
     variables: usize,
+    bytes: usize,
+    value: u32,
     d: u32,
     budget: u32,
     count: u32,
     at: usize,
 ) -> Ending
-    requires { ⌜ (Ready (now task) actions patterns variables budget) × (count ≤ budget) × (at ≤ count) × (d ≤ 32) × (m < actions) ⌝ }
+    requires { ⌜ (Guided (now task) (now sets) (now places) (now rows) (now owners) actions patterns variables bytes budget) × (count ≤ budget) × (at ≤ count) × (d ≤ 32) × (m < actions) × (packedValue (now rows) (now offsets) (now tables) patterns variables s ≡ fin value) × (value ≤ 32) ⌝ }
     ensures { λ r. ⌜ Examined encodes (packedOutcomes (now (task .entry)) (now (rows .entry)) (now (offsets .entry)) (now (tables .entry)) actions patterns variables budget d s m count) count budget at (now (plan .entry)) (now (plan .exit)) r ⌝ }
 {
     let n = place_of(outcome_count(task, m));
+    let p = owner_of(owners, m);
+    let rest = rest_of(
+        places,
+        rows,
+        offsets,
+        tables,
+        s,
+        p,
+        patterns,
+        variables,
+        value,
+    );
     let mut c = count;
     let mut end = at;
     let mut k = 0usize;
     while k < n {
         let x = successor(task, s, m, k);
-        match open_state(
-            task,
+        let v = sum_with(
+            places,
             rows,
             offsets,
             tables,
             x,
+            p,
             patterns,
             variables,
-            d,
-            budget,
-            c,
-        ) {
+            rest,
+        );
+        match open_state(task, x, v, d, budget, c) {
             Opening::Spent => {
                 return Ending::Stopped(c);
             }
@@ -181,14 +226,19 @@ pub(crate) fn outcomes(
             Opening::Expand => {
                 match examine(
                     task,
+                    sets,
+                    places,
                     rows,
                     offsets,
+                    owners,
                     tables,
                     plan,
                     x,
                     actions,
                     patterns,
                     variables,
+                    bytes,
+                    v,
                     d,
                     budget,
                     c,

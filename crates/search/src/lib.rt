@@ -1,8 +1,11 @@
 // The search of a record's task (`entry`): its rows, the estimate of a packed state, examining states and outcomes, rounds.
 mod buffer;
+mod byte_rows;
+mod carried;
 mod compiled;
 pub mod entry;
 mod estimate;
 mod examine;
+mod owners;
 mod rounds;
 mod rows;

@@ -1,15 +1,14 @@
 // Rounds of examinations from the start, one more depth each, from the value of the start up to the limit; then the plan's buffer is filled
-// up with 255. Asks for a task that is `Ready` and a limit of at most 32; the buffer may have any length.
+// up with 255. Asks for what the search goes by (`Guided`) and a limit of at most 32; the buffer may have any length.
 ghost use mathlib.Core.Path.{_≡_};
-ghost use mathlib.Core.Bool.{true};
 ghost use Prim.Native.Nat.{suc, _-_, _≤_};
 ghost use lib.ListN.{length};
-ghost use Rattle.planning.specs.Extended.{fin, _≤?_};
+ghost use Rattle.planning.specs.Extended.{fin};
 ghost use Rattle.planning.specs.Plan.{encode};
 ghost use Rattle.planning.specs.Search.{rounds};
 ghost use Rattle.tables.specs.Packed.{packedSystem};
 ghost use Rattle.search.specs.Value.{packedValue};
-ghost use Rattle.search.specs.Examination.{Examined, Ready};
+ghost use Rattle.search.specs.Examination.{Examined, Guided};
 ghost use Rattle.search.specs.Packed.{packedExamination};
 ghost use Rattle.search.specs.Answer.{Concluded, answerOf, bufferOf, packedSearch};
 use crate::buffer::fill;
@@ -40,19 +39,24 @@ pub(crate) enum Answer {
 // One round: the start, whose value is within d, is examined with depth d.
 fn examine_start(
     task: &[u64; 1282],
+    sets: &[u64; 2048],
+    places: &[u16; 4120],
     rows: &[u16; 2048],
     offsets: &[u32; 8],
+    owners: &[u8; 64],
     tables: &[u16],
     plan: &mut [u8],
     s: u64,
     actions: usize,
     patterns: usize,
     variables: usize,
+    bytes: usize,
+    value: u32,
     d: u32,
     budget: u32,
     count: u32,
 ) -> Ending
-    requires { ⌜ (Ready (now task) actions patterns variables budget) × (count ≤ budget) × (d ≤ 32) × ((packedValue (now rows) (now offsets) (now tables) patterns variables s ≤? d) ≡ true) ⌝ }
+    requires { ⌜ (Guided (now task) (now sets) (now places) (now rows) (now owners) actions patterns variables bytes budget) × (count ≤ budget) × (d ≤ 32) × (packedValue (now rows) (now offsets) (now tables) patterns variables s ≡ fin value) × (value ≤ d) ⌝ }
     ensures { λ r. ⌜ Examined encode (packedExamination (now (task .entry)) (now (rows .entry)) (now (offsets .entry)) (now (tables .entry)) actions patterns variables budget d s count) count budget 0 (now (plan .entry)) (now (plan .exit)) r ⌝ }
 {
     if count == budget {
@@ -67,14 +71,19 @@ fn examine_start(
     }
     examine(
         task,
+        sets,
+        places,
         rows,
         offsets,
+        owners,
         tables,
         plan,
         s,
         actions,
         patterns,
         variables,
+        bytes,
+        value,
         d,
         budget,
         count,
@@ -85,19 +94,23 @@ fn examine_start(
 // The rounds from the value of the start up to the limit.
 fn deepen(
     task: &[u64; 1282],
+    sets: &[u64; 2048],
+    places: &[u16; 4120],
     rows: &[u16; 2048],
     offsets: &[u32; 8],
+    owners: &[u8; 64],
     tables: &[u16],
     plan: &mut [u8],
     s: u64,
     actions: usize,
     patterns: usize,
     variables: usize,
+    bytes: usize,
     from: u32,
     limit: u32,
     budget: u32,
 ) -> Conclusion
-    requires { ⌜ (Ready (now task) actions patterns variables budget) × (from ≤ limit) × (limit ≤ 32) × (packedValue (now rows) (now offsets) (now tables) patterns variables s ≡ fin from) ⌝ }
+    requires { ⌜ (Guided (now task) (now sets) (now places) (now rows) (now owners) actions patterns variables bytes budget) × (from ≤ limit) × (limit ≤ 32) × (packedValue (now rows) (now offsets) (now tables) patterns variables s ≡ fin from) ⌝ }
     ensures { λ r. ⌜ Concluded (rounds (packedSystem (now (task .entry)) actions) (packedValue (now (rows .entry)) (now (offsets .entry)) (now (tables .entry)) patterns variables) budget limit s (suc (limit - from)) from 0) (now (plan .exit)) r ⌝ }
 {
     let mut c = 0u32;
@@ -105,14 +118,19 @@ fn deepen(
     while d <= limit {
         match examine_start(
             task,
+            sets,
+            places,
             rows,
             offsets,
+            owners,
             tables,
             plan,
             s,
             actions,
             patterns,
             variables,
+            bytes,
+            from,
             d,
             budget,
             c,
@@ -135,18 +153,22 @@ fn deepen(
 // The search, with the plan's bytes at the start of the buffer as far as it reaches.
 fn conclude(
     task: &[u64; 1282],
+    sets: &[u64; 2048],
+    places: &[u16; 4120],
     rows: &[u16; 2048],
     offsets: &[u32; 8],
+    owners: &[u8; 64],
     tables: &[u16],
     plan: &mut [u8],
     s: u64,
     actions: usize,
     patterns: usize,
     variables: usize,
+    bytes: usize,
     limit: u32,
     budget: u32,
 ) -> Conclusion
-    requires { ⌜ (Ready (now task) actions patterns variables budget) × (limit ≤ 32) ⌝ }
+    requires { ⌜ (Guided (now task) (now sets) (now places) (now rows) (now owners) actions patterns variables bytes budget) × (limit ≤ 32) ⌝ }
     ensures { λ r. ⌜ Concluded (packedSearch (now (task .entry)) (now (rows .entry)) (now (offsets .entry)) (now (tables .entry)) actions patterns variables budget limit s) (now (plan .exit)) r ⌝ }
 {
     match value_of(rows, offsets, tables, s, patterns, variables) {
@@ -157,14 +179,18 @@ fn conclude(
             }
             deepen(
                 task,
+                sets,
+                places,
                 rows,
                 offsets,
+                owners,
                 tables,
                 plan,
                 s,
                 actions,
                 patterns,
                 variables,
+                bytes,
                 v,
                 limit,
                 budget,
@@ -176,31 +202,39 @@ fn conclude(
 // The search by rounds: the answer, and the buffer as the answer wants it.
 pub(crate) fn run_rounds(
     task: &[u64; 1282],
+    sets: &[u64; 2048],
+    places: &[u16; 4120],
     rows: &[u16; 2048],
     offsets: &[u32; 8],
+    owners: &[u8; 64],
     tables: &[u16],
     plan: &mut [u8],
     s: u64,
     actions: usize,
     patterns: usize,
     variables: usize,
+    bytes: usize,
     limit: u32,
     budget: u32,
 ) -> Answer
-    requires { ⌜ (Ready (now task) actions patterns variables budget) × (limit ≤ 32) ⌝ }
+    requires { ⌜ (Guided (now task) (now sets) (now places) (now rows) (now owners) actions patterns variables bytes budget) × (limit ≤ 32) ⌝ }
     ensures answer { λ r. ⌜ r ≡ answerOf (length (now (plan .entry))) (packedSearch (now (task .entry)) (now (rows .entry)) (now (offsets .entry)) (now (tables .entry)) actions patterns variables budget limit s) ⌝ }
     ensures buffer { λ _. ⌜ now (plan .exit) ≡ bufferOf (length (now (plan .entry))) (packedSearch (now (task .entry)) (now (rows .entry)) (now (offsets .entry)) (now (tables .entry)) actions patterns variables budget limit s) ⌝ }
 {
     match conclude(
         task,
+        sets,
+        places,
         rows,
         offsets,
+        owners,
         tables,
         plan,
         s,
         actions,
         patterns,
         variables,
+        bytes,
         limit,
         budget,
     ) {

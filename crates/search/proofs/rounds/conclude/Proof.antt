@@ -6,7 +6,7 @@ use mathlib.Core.Path.{sym, _∙_}
 use Rattle.search.proofs.Conclusions.{concluded-same, over-concludes, none-concludes, search-none, search-over, search-rounds, value-is}
 
 value-of-requires : tie.Need-value-of-requires
-value-of-requires c κs = search needs
+value-of-requires c κs = (c .before .before .pre .0 .ready .few-patterns, c .before .before .pre .0 .ready .few-variables)
 
 enum-told : tie.Need-enum-told
 enum-told c = search needs
@@ -33,12 +33,4 @@ returns-3 c = concluded-same (search-rounds _ _ _ _ _ _ (sym (c .before .before 
 pub conclude-spec : {M : Type 1} → statement M
 conclude-spec =
     tie.close
-    (tie.spec
-    value-of-requires
-    enum-told
-    enum-known-v
-    returns
-    deepen-requires
-    returns-2
-    same-length
-    returns-3)
+    (tie.spec value-of-requires enum-told enum-known-v returns deepen-requires returns-2 same-length returns-3)

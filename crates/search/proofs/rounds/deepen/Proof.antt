@@ -1,30 +1,29 @@
 -- `search::rounds::deepen` meets its contract. The loop's invariant: the rounds left, from the count so far, are the whole. Assumes nothing.
+use borrow.Author.Needs.{needs}
 use Rattle.search.proofs.rounds.deepen.Statement.{statement}
 use Rattle.search.proofs.rounds.deepen.Tie as tie
 use mathlib.Core.Path.{_≡_, refl, _∙_}
 use Prim.Native.Nat.{suc, _+_, _-_, _≤_}
 use native.Mathlib.Omega.{arith}
-use borrow.Author.Needs.{needs}
 use lib.ListN.{length}
 use Rattle.planning.specs.Search.{rounds}
 use Rattle.tables.specs.Packed.{packedSystem}
 use Rattle.search.specs.Value.{packedValue}
 use Rattle.search.proofs.Endings.{failed-range}
-use Rattle.search.proofs.Conclusions.{rounds-begin, rounds-over, rounds-step, concluded-same, over-concludes, round-stops, round-finds, round-fails, within-later}
+use Rattle.search.proofs.Conclusions.{rounds-begin, rounds-over, rounds-step, concluded-same, over-concludes, round-stops, round-finds, round-fails}
 
 abbrev Inv-loop : tie.InvT-loop
-Inv-loop task rows offsets tables plan₀ s actions patterns variables from limit budget c₀ d₀ plan c d = (rounds (packedSystem task actions) (packedValue rows offsets tables patterns variables) budget limit s (suc (limit - from)) from 0 ≡ rounds (packedSystem task actions) (packedValue rows offsets tables patterns variables) budget limit s (limit + 1 - d) d c) × (d ≤ limit + 1) × (c ≤ budget) × (length plan ≡ length plan₀) × (from ≤ d)
+Inv-loop task sets places rows offsets owners tables plan₀ s actions patterns variables bytes from limit budget c₀ d₀ plan c d = (rounds (packedSystem task actions) (packedValue rows offsets tables patterns variables) budget limit s (suc (limit - from)) from 0 ≡ rounds (packedSystem task actions) (packedValue rows offsets tables patterns variables) budget limit s (limit + 1 - d) d c) × (d ≤ limit + 1) × (c ≤ budget) × (length plan ≡ length plan₀) × (from ≤ d)
 
 abbrev μ-loop : tie.MeasureT-loop
-μ-loop task rows offsets tables plan₀ s actions patterns variables from limit budget c₀ d₀ plan c d = limit + 1 - d
+μ-loop task sets places rows offsets owners tables plan₀ s actions patterns variables bytes from limit budget c₀ d₀ plan c d = limit + 1 - d
 
 loop-holds : tie.Need-loop-holds Inv-loop μ-loop
 loop-holds c = let p = c .before .before .pre in (rounds-begin _ _ _ _ _ _ (p .1), omega (arith, p .1), omega arith, refl, omega arith)
 
 examine-start-requires : tie.Need-examine-start-requires Inv-loop μ-loop
-examine-start-requires c κs = let p = c .before .before .before .before .before .pre in
-    let v = c .before .before .loop .inv in
-    (p .0, v .2, omega (arith, p .2, c .before .loop-test .taken), within-later _ _ _ (p .3) (v .4))
+examine-start-requires c κs = let p = c .before .before .before .before .before .pre in let v = c .before .before .loop .inv in
+    (p .0, v .2, omega (arith, p .2, c .before .loop-test .taken), p .3, v .4)
 
 enum-known-e : tie.Need-enum-known-e Inv-loop μ-loop
 enum-known-e c = search needs
@@ -33,9 +32,8 @@ same-length : tie.Need-same-length Inv-loop μ-loop
 same-length c = search needs
 
 returns : tie.Need-returns Inv-loop μ-loop
-returns c = let l = c .before .before .before .before .before .before .before .before .loop in
-    let h = rw (c .before .e .given .1) at (c .before .before .before .before .before .examine-start .ensures) in
-    concluded-same (l .inv .0 ∙ rounds-step _ _ _ _ _ _ _ (c .before .before .before .before .before .before .before .loop-test .taken)) (round-stops _ _ _ _ h)
+returns c = let h = rw (c .before .e .given .1) at (c .before .before .before .before .before .examine-start .ensures) in
+    concluded-same (c .before .before .before .before .before .before .before .before .loop .inv .0 ∙ rounds-step _ _ _ _ _ _ _ (c .before .before .before .before .before .before .before .loop-test .taken)) (round-stops _ _ _ _ h)
 
 enum-known-e-2 : tie.Need-enum-known-e-2 Inv-loop μ-loop
 enum-known-e-2 c = search needs
@@ -47,9 +45,8 @@ same-length-2 : tie.Need-same-length-2 Inv-loop μ-loop
 same-length-2 c = search needs
 
 returns-2 : tie.Need-returns-2 Inv-loop μ-loop
-returns-2 c = let l = c .before .before .before .before .before .before .before .before .loop in
-    let h = rw (c .before .e3 .given .1) at (c .before .before .before .before .before .examine-start .ensures) in
-    concluded-same (l .inv .0 ∙ rounds-step _ _ _ _ _ _ _ (c .before .before .before .before .before .before .before .loop-test .taken)) (round-finds _ _ _ _ _ h)
+returns-2 c = let h = rw (c .before .e3 .given .1) at (c .before .before .before .before .before .examine-start .ensures) in
+    concluded-same (c .before .before .before .before .before .before .before .before .loop .inv .0 ∙ rounds-step _ _ _ _ _ _ _ (c .before .before .before .before .before .before .before .loop-test .taken)) (round-finds _ _ _ _ _ h)
 
 add-d : tie.Need-add-d Inv-loop μ-loop
 add-d c = search needs
@@ -58,34 +55,16 @@ loop-less : tie.Need-loop-less Inv-loop μ-loop
 loop-less c = search needs
 
 loop-again : tie.Need-loop-again Inv-loop μ-loop
-loop-again c = let l = c .before .before .before .before .before .before .before .before .loop in
-    let h = rw (c .before .e2 .given .1) at (c .before .before .before .before .before .examine-start .ensures) in
-    (l .inv .0 ∙ rounds-step _ _ _ _ _ _ _ (c .before .before .before .before .before .before .before .loop-test .taken) ∙ round-fails _ _ _ _ h, omega arith, failed-range _ _ h .0, c .before .before .before .before .before .examine-start .kept .1 .1 .1 .1 .0 ∙ l .inv .3, omega arith)
+loop-again c = let h = rw (c .before .e2 .given .1) at (c .before .before .before .before .before .examine-start .ensures) in
+    (c .before .before .before .before .before .before .before .before .loop .inv .0 ∙ rounds-step _ _ _ _ _ _ _ (c .before .before .before .before .before .before .before .loop-test .taken) ∙ round-fails _ _ _ _ h, omega arith, failed-range _ _ h .0, c .before .before .before .before .before .examine-start .kept .1 .1 .1 .1 .1 .1 .1 .0 ∙ c .before .before .before .before .before .before .before .before .loop .inv .3, omega arith)
 
 same-length-3 : tie.Need-same-length-3 Inv-loop μ-loop
 same-length-3 c = search needs
 
 returns-3 : tie.Need-returns-3 Inv-loop μ-loop
-returns-3 c = let l = c .before .loop in
-    concluded-same (l .inv .0 ∙ rounds-over _ _ _ _ _ _ _ (c .loop-test .left)) (over-concludes _ _)
+returns-3 c = concluded-same (c .before .loop .inv .0 ∙ rounds-over _ _ _ _ _ _ _ (c .loop-test .left)) (over-concludes _ _)
 
 pub deepen-spec : {M : Type 1} → statement M
 deepen-spec =
     tie.close
-    (tie.spec
-    Inv-loop
-    μ-loop
-    loop-holds
-    examine-start-requires
-    enum-known-e
-    same-length
-    returns
-    enum-known-e-2
-    enum-known-e-3
-    same-length-2
-    returns-2
-    add-d
-    loop-less
-    loop-again
-    same-length-3
-    returns-3)
+    (tie.spec Inv-loop μ-loop loop-holds examine-start-requires enum-known-e same-length returns enum-known-e-2 enum-known-e-3 same-length-2 returns-2 add-d loop-less loop-again same-length-3 returns-3)
