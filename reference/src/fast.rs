@@ -4,6 +4,7 @@
 
 mod bits;
 mod compiled;
+mod failures;
 mod layout;
 mod patterns;
 mod plan;

@@ -1,7 +1,8 @@
 //! The search: rounds of a depth-first examination with a stack of its own,
-//! on a task made of words.
+//! on a task made of words. Failures are remembered over all rounds.
 
 use super::compiled::{Compiled, Step};
+use super::failures::Failures;
 use super::patterns::Spaces;
 use super::record::Record;
 use crate::answer::{Reason, Refusal};
@@ -16,12 +17,14 @@ pub enum Ending {
     None,
 }
 
-/// A state under way: the actions not yet tried, its value, where its action
-/// stands in the plan; then the action and the outcome being tried.
+/// A state under way: the actions not yet tried, what was left of the budget
+/// before it was examined, its value, where its action stands in the plan; then
+/// the action and the outcome being tried.
 #[derive(Clone, Copy, Default)]
 struct Node {
     state: u64,
     untried: u64,
+    left: u32,
     at: u32,
     value: u8,
     action: u8,
@@ -29,8 +32,8 @@ struct Node {
 }
 
 impl Node {
-    fn of(state: u64, untried: u64, value: u8, at: u32) -> Self {
-        Self { state, untried, value, at, ..Self::default() }
+    fn of(state: u64, untried: u64, left: u32, value: u8, at: u32) -> Self {
+        Self { state, untried, left, value, at, ..Self::default() }
     }
 
     /// Takes the lowest action not yet tried, at its first outcome.
@@ -78,6 +81,7 @@ impl Path {
 struct Search<'a> {
     task: &'a Compiled,
     plan: &'a mut [u8],
+    failures: Failures,
     left: u32,
 }
 
@@ -136,10 +140,11 @@ impl Search<'_> {
         let task = self.task;
         let cost = |field, state| if VALUED { task.cost(field, state) } else { 0 };
         let mut path = Path { nodes: [Node::default(); MOST_DEPTH], number: 0, depth: depth - 1 };
-        let mut node = Node::of(start, task.applying::<GROUPS>(start), value, 0);
         let mut left = self.left;
+        let mut node = Node::of(start, task.applying::<GROUPS>(start), left + 1, value, 0);
         let round = 'node: loop {
             if node.untried == 0 {
+                self.failures.note(node.state, path.depth + 1, node.left - left);
                 let Some(below) = path.pop() else { break Round::Failed };
                 node = below;
                 continue;
@@ -150,6 +155,7 @@ impl Search<'_> {
                 if left == 0 {
                     break 'node Round::Spent;
                 }
+                let before = left;
                 left -= 1;
                 let state = task.after(node.state, node.outcome);
                 let rest = u32::from(node.value) - cost(step.field, node.state);
@@ -168,10 +174,16 @@ impl Search<'_> {
                     continue;
                 }
                 let untried = if path.depth == 0 { 0 } else { task.applying::<GROUPS>(state) };
-                if untried != 0 {
-                    path.push(node);
-                    node = Node::of(state, untried, value as u8, end);
+                if untried == 0 {
+                    continue 'node;
                 }
+                let known = self.failures.known(state, path.depth);
+                if let Some(rest) = known.and_then(|made| before.checked_sub(made)) {
+                    left = rest;
+                    continue 'node;
+                }
+                path.push(node);
+                node = Node::of(state, untried, before, value as u8, end);
                 continue 'node;
             }
         };
@@ -204,7 +216,8 @@ pub fn run(
         None => (if value.is_none() { Ending::None } else { Ending::Over }, 0, record.budget()),
         Some(value) => {
             let (task, start) = Compiled::of(record, spaces, tables);
-            let mut search = Search { task: &task, plan, left: record.budget() };
+            let failures = Failures::none();
+            let mut search = Search { task: &task, plan, failures, left: record.budget() };
             let (ending, written) = rounds(&mut search, start, value as u8, record.limit());
             (ending, written, search.left)
         }

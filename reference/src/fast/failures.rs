@@ -1,0 +1,41 @@
+//! Failures that are known. An examination that fails makes the same
+//! examinations wherever it is made, so that a state met again with the same
+//! depth is passed over and its examinations are only counted. The newest
+//! failure of a slot is kept.
+
+const SLOTS: usize = 2048;
+
+/// That a state fails with a depth, after so many examinations; depth 0 means
+/// nothing is known.
+#[derive(Clone, Copy, Default)]
+struct Failure {
+    state: u64,
+    depth: u32,
+    examinations: u32,
+}
+
+pub struct Failures(Vec<Failure>);
+
+fn slot(state: u64, depth: u32) -> usize {
+    let folded = state ^ (state >> 32);
+    let folded = folded ^ (folded >> 12) ^ (folded >> 23) ^ (u64::from(depth) << 5);
+    folded as usize % SLOTS
+}
+
+impl Failures {
+    pub fn none() -> Self {
+        Self(vec![Failure::default(); SLOTS])
+    }
+
+    /// How many examinations the state's failure takes, if it is known.
+    #[inline(always)]
+    pub fn known(&self, state: u64, depth: u32) -> Option<u32> {
+        let failure = self.0[slot(state, depth)];
+        (failure.state == state && failure.depth == depth).then_some(failure.examinations)
+    }
+
+    #[inline(always)]
+    pub fn note(&mut self, state: u64, depth: u32, examinations: u32) {
+        self.0[slot(state, depth)] = Failure { state, depth, examinations };
+    }
+}
