@@ -19,13 +19,13 @@ countOf (failed c) = c
 countOf (stopped c) = c
 
 -- The count never falls.
-then-grows : {A B : Type 0} (r : Result A) (k : A → ℕ → Result B) → ((a : A) (c : ℕ) → c ≤ countOf (k a c)) → countOf r ≤ countOf (andThen r k)
+pub then-grows : {A B : Type 0} (r : Result A) (k : A → ℕ → Result B) → ((a : A) (c : ℕ) → c ≤ countOf (k a c)) → countOf r ≤ countOf (andThen r k)
 unfolding andThen
 then-grows (succeeded a c) k h = h a c
 then-grows (failed c) k h = omega arith
 then-grows (stopped c) k h = omega arith
 
-else-grows : {A : Type 0} (r : Result A) (k : ℕ → Result A) → ((c : ℕ) → c ≤ countOf (k c)) → countOf r ≤ countOf (orElse r k)
+pub else-grows : {A : Type 0} (r : Result A) (k : ℕ → Result A) → ((c : ℕ) → c ≤ countOf (k c)) → countOf r ≤ countOf (orElse r k)
 unfolding orElse
 else-grows (succeeded a c) k h = omega arith
 else-grows (failed c) k h = h c
@@ -36,7 +36,7 @@ unfolding choose
 choose-grows true j k c f g = f tt
 choose-grows false j k c f g = g tt
 
-outcomes-grow : {S : Type 0} (r : S → ℕ → Result Plan) → ((x : S) (c : ℕ) → c ≤ countOf (r x c)) → (xs : List S) (c : ℕ) → c ≤ countOf (examineOutcomes r xs c)
+pub outcomes-grow : {S : Type 0} (r : S → ℕ → Result Plan) → ((x : S) (c : ℕ) → c ≤ countOf (r x c)) → (xs : List S) (c : ℕ) → c ≤ countOf (examineOutcomes r xs c)
 unfolding examineOutcomes
 outcomes-grow r h [] c = omega arith
 outcomes-grow r h (x ∷ xs) c = let k : ℕ = countOf (r x c) in omega (
@@ -46,13 +46,13 @@ outcomes-grow r h (x ∷ xs) c = let k : ℕ = countOf (r x c) in omega (
       (λ p c₁. omega (arith, outcomes-grow r h xs c₁, then-grows (examineOutcomes r xs c₁) (λ ps c₂. succeeded (p then ps) c₂) (λ ps c₂. omega arith))),
 )
 
-actions-grow : (r : ℕ → ℕ → Result Plan) → ((m c : ℕ) → c ≤ countOf (r m c)) → (k n c : ℕ) → c ≤ countOf (tryActions r k n c)
+pub actions-grow : (r : ℕ → ℕ → Result Plan) → ((m c : ℕ) → c ≤ countOf (r m c)) → (k n c : ℕ) → c ≤ countOf (tryActions r k n c)
 unfolding tryActions
 actions-grow r h k zero c = omega arith
 actions-grow r h k (suc n) c = omega (arith, h k c, else-grows (r k c) (λ c₁. tryActions r (suc k) n c₁) (λ c₁. actions-grow r h (suc k) n c₁))
 
 module _ {S : Type 0} (Y : System S) (h : S → ℕ∞) (budget : ℕ) where
-  try-grows : (r : ℕ → S → ℕ → Result Plan) → ((d : ℕ) (x : S) (c : ℕ) → c ≤ countOf (r d x c)) → (d : ℕ) (s : S) (m c : ℕ) → c ≤ countOf (tryAction Y h budget r d s m c)
+  pub try-grows : (r : ℕ → S → ℕ → Result Plan) → ((d : ℕ) (x : S) (c : ℕ) → c ≤ countOf (r d x c)) → (d : ℕ) (s : S) (m c : ℕ) → c ≤ countOf (tryAction Y h budget r d s m c)
   unfolding tryAction
   try-grows r g d s m c = choose-grows (applies Y m s && leb (Y .weight m) d) _ _ c
       (λ t. omega (arith, outcomes-grow (r (d - Y .weight m)) (g (d - Y .weight m)) (Y .successors m s) c, then-grows (examineOutcomes (r (d - Y .weight m)) (Y .successors m s) c) (λ ps c₁. succeeded (act m ps) c₁) (λ ps c₁. omega arith)))

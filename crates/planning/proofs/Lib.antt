@@ -11,6 +11,7 @@ pub mod Projection
 pub mod Search
 pub mod Fuel
 pub mod Budget
+pub mod Shift
 pub mod Simulation
 pub mod PlanBytes
 pub mod PlanCheck
