@@ -14,7 +14,7 @@ use Rattle.planning.specs.System.{System, Invariant}
 use Rattle.planning.proofs.Test.{by-test}
 use Rattle.planning.proofs.Extended.{add∞-comm}
 use Rattle.tables.specs.Packed.{outcomeCount, keepMask, setValue}
-use Rattle.search.specs.Value.{packedIndex, patternEntry, patternSum, packedValue, restOf, sumWith}
+use Rattle.search.specs.Value.{packedIndex, patternEntry, patternSum, packedValue, restOf, sumWith, Estimated}
 use Rattle.search.specs.Owned.{Owned}
 use Rattle.search.specs.Examination.{openingOf}
 use Rattle.search.specs.declared.examine.Opening.{Opening}
@@ -29,11 +29,6 @@ parts-finite e (fin w) v h = by-test (eqb e 65535)
 parts-finite e inf v h = by-test (eqb e 65535)
     (λ q. let g : inf ≡ fin v = rw q at h in let z : _≡_ {A = ℕ} 0 1 = cc in absurd (omega arith))
     (λ q. let g : inf ≡ fin v = rw q at h in let z : _≡_ {A = ℕ} 0 1 = cc in absurd (omega arith))
-
--- A number stands for a value below 65,535: it is the value, or both are above every depth.
-pub record Estimated (h : ℕ∞) (v : ℕ) : Type 0 where
-  pub within : (d : ℕ) → d < 65535 → (h ≤? d) ≡ leb v d
-  pub exact : v < 65535 → h ≡ fin v
 
 finite-estimated : (v : ℕ) → Estimated (fin v) v
 finite-estimated v = record { within = λ d l. refl; exact = λ l. refl }

@@ -15,4 +15,5 @@ pub mod Openings
 pub mod Carrying
 pub mod Trying
 pub mod Endings
+pub mod Remembering
 pub mod Conclusions

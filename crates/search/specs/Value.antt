@@ -1,10 +1,11 @@
 -- The estimate of a packed state from rows: what each value of each variable adds to the index in each pattern's table. Assumes nothing.
+use mathlib.Core.Path.{_≡_}
 use mathlib.Core.Bool.{cond}
 use mathlib.Core.List.{List}
-use Prim.Native.Nat.{ℕ, zero, suc, _+_, _*_, _-_, _/_, _%_}
-use lib.Dec.{ltb}
+use Prim.Native.Nat.{ℕ, zero, suc, _+_, _*_, _-_, _/_, _%_, _<_}
+use lib.Dec.{leb, ltb}
 use lib.ListN.{getD}
-use Rattle.planning.specs.Extended.{ℕ∞, fin, inf, add∞}
+use Rattle.planning.specs.Extended.{ℕ∞, fin, inf, add∞, _≤?_}
 use Rattle.planning.specs.Table.{costOf}
 use Rattle.search.specs.declared.estimate.Value.{Value}
 use Rattle.search.specs.declared.estimate.Value.the-variants.{Finite}
@@ -37,6 +38,11 @@ module _ (rows offsets tables : List ℕ) where
 
   unfoldable pub sumWith : ℕ → ℕ → ℕ → ℕ → ℕ → ℕ
   sumWith patterns variables x p rest = cond (ltb p patterns) (rest + patternEntry variables x p) rest
+
+-- A number stands for a value below 65,535: it is the value, or both are above every depth.
+pub record Estimated (h : ℕ∞) (v : ℕ) : Type 0 where
+  pub within : (d : ℕ) → d < 65535 → (h ≤? d) ≡ leb v d
+  pub exact : v < 65535 → h ≡ fin v
 
 -- The code's word for a value.
 unfoldable pub valueOf : ℕ∞ → Value

@@ -80,6 +80,7 @@ fn search_rounds(
     ensures answer { λ r. ⌜ r ≡ answerOf (length (now (plan .entry))) (taskAnswer (now (rec .entry))) ⌝ }
     ensures buffer { λ _. ⌜ now (plan .exit) ≡ bufferOf (length (now (plan .entry))) (taskAnswer (now (rec .entry))) ⌝ }
 {
+    let mut memory = [0u64; 4096];
     let s = start_word(rec);
     let actions = wide(action_count(rec));
     let patterns = wide(pattern_count(rec));
@@ -93,6 +94,7 @@ fn search_rounds(
         offsets,
         owners,
         tables,
+        &mut memory,
         plan,
         s,
         actions,

@@ -1,5 +1,6 @@
 // Examining a state and examining an action's outcomes call each other, and the depth left falls. The tests that end an examination at
 // once stand before the call, so that a leaf of the search costs none. The count of examinations is carried in every ending.
+// A failure is remembered and not examined again.
 // The value of a state is carried: an outcome changes it in the action's owner only. Asks for what the search goes by (`Guided`: every weight 1,
 // at most 8 outcomes, the sets of applying actions, the owners), a count within the budget and a depth of at most 32.
 ghost use mathlib.Core.Path.{_≡_};
@@ -10,8 +11,9 @@ ghost use lib.Dec.{leb};
 ghost use Rattle.planning.specs.Extended.{ℕ∞, fin, _≤?_};
 ghost use Rattle.planning.specs.Plan.{encode, encodes};
 ghost use Rattle.tables.specs.Packed.{packedSystem};
-ghost use Rattle.search.specs.Value.{packedValue};
+ghost use Rattle.search.specs.Value.{packedValue, Estimated};
 ghost use Rattle.search.specs.Examination.{openingOf, Examined, Guided};
+ghost use Rattle.search.specs.Memory.{Remembers};
 ghost use Rattle.search.specs.Packed.{packedExamination, packedOpening, packedOutcomes};
 ghost use Rattle.search.specs.declared.examine.Opening.{Opening};
 use crate::buffer::put;
@@ -21,6 +23,8 @@ use crate::carried::sum_with;
 use crate::compiled::is_goal;
 use crate::compiled::outcome_count;
 use crate::compiled::successor;
+use crate::memory::recall;
+use crate::memory::remember;
 use tables::applying::applying;
 
 // How an examination begins.
@@ -36,6 +40,27 @@ pub(crate) enum Ending {
     Stopped(u32),
     Failed(u32),
     Succeeded(u32, usize),
+}
+
+// A state to examine: its value, the depth left, the count so far, and the place of its plan.
+pub(crate) struct Visit {
+    pub s: u64,
+    pub value: u32,
+    pub d: u32,
+    pub count: u32,
+    pub at: usize,
+}
+
+pub(crate) fn visit_of(s: u64, value: u32, d: u32, count: u32, at: usize) -> Visit
+    ensures { λ r. ⌜ (r .s ≡ s) × (r .value ≡ value) × (r .d ≡ d) × (r .count ≡ count) × (r .at ≡ at) ⌝ }
+{
+    Visit {
+        s,
+        value,
+        d,
+        count,
+        at,
+    }
 }
 
 // What is decided at once about a state of a value: with no depth left it is a goal or cut.
@@ -101,25 +126,24 @@ pub(crate) fn examine(
     offsets: &[u32; 8],
     owners: &[u8; 64],
     tables: &[u16],
+    memory: &mut [u64; 4096],
     plan: &mut [u8],
-    s: u64,
     actions: usize,
     patterns: usize,
     variables: usize,
     bytes: usize,
-    value: u32,
-    d: u32,
     budget: u32,
-    count: u32,
-    at: usize,
+    v: Visit,
 ) -> Ending
-    requires { ⌜ (Guided (now task) (now sets) (now places) (now rows) (now owners) actions patterns variables bytes budget) × (count ≤ budget) × (at ≤ count) × (d ≤ 32) × (packedOpening (now task) (now rows) (now offsets) (now tables) actions patterns variables budget d s count ≡ Opening.Expand) × (packedValue (now rows) (now offsets) (now tables) patterns variables s ≡ fin value) ⌝ }
-    ensures { λ r. ⌜ Examined encode (packedExamination (now (task .entry)) (now (rows .entry)) (now (offsets .entry)) (now (tables .entry)) actions patterns variables budget d s count) count budget at (now (plan .entry)) (now (plan .exit)) r ⌝ }
+    requires { ⌜ (Guided (now task) (now sets) (now places) (now rows) (now owners) actions patterns variables bytes budget) × (Remembers (packedExamination (now task) (now rows) (now offsets) (now tables) actions patterns variables budget) budget (now memory)) × (v .count ≤ budget) × (v .at ≤ v .count) × (v .d ≤ 32) × (packedValue (now rows) (now offsets) (now tables) patterns variables (v .s) ≡ fin (v .value)) × (packedOpening (now task) (now rows) (now offsets) (now tables) actions patterns variables budget (v .d) (v .s) (v .count) ≡ Opening.Expand) ⌝ }
+    ensures examined { λ r. ⌜ Examined encode (packedExamination (now (task .entry)) (now (rows .entry)) (now (offsets .entry)) (now (tables .entry)) actions patterns variables budget (v .d) (v .s) (v .count)) (v .count) budget (v .at) (now (plan .entry)) (now (plan .exit)) r ⌝ }
+    ensures remembers { λ r. ⌜ Remembers (packedExamination (now (task .entry)) (now (rows .entry)) (now (offsets .entry)) (now (tables .entry)) actions patterns variables budget) budget (now (memory .exit)) ⌝ }
 {
-    let mut c = count + 1;
-    let mut set = applying(sets, s, bytes);
+    let mut c = v.count + 1;
+    let mut set = applying(sets, v.s, bytes);
     while set != 0 {
         let m = lowest(set);
+        let next = visit_of(v.s, v.value, v.d - 1, c, v.at + 1);
         match outcomes(
             task,
             sets,
@@ -128,18 +152,15 @@ pub(crate) fn examine(
             offsets,
             owners,
             tables,
+            memory,
             plan,
-            s,
-            m,
             actions,
             patterns,
             variables,
             bytes,
-            value,
-            d - 1,
             budget,
-            c,
-            at + 1,
+            m,
+            next,
         ) {
             Ending::Stopped(e) => {
                 return Ending::Stopped(e);
@@ -148,12 +169,13 @@ pub(crate) fn examine(
                 c = made;
             }
             Ending::Succeeded(e, end) => {
-                put(plan, at, byte_of(m));
+                put(plan, v.at, byte_of(m));
                 return Ending::Succeeded(e, end);
             }
         }
         set = without_lowest(set);
     }
+    remember(memory, v.s, v.d, c - v.count);
     Ending::Failed(c)
 }
 
@@ -166,21 +188,19 @@ pub(crate) fn outcomes(
     offsets: &[u32; 8],
     owners: &[u8; 64],
     tables: &[u16],
+    memory: &mut [u64; 4096],
     plan: &mut [u8],
-    s: u64,
-    m: usize,
     actions: usize,
     patterns: usize,
     variables: usize,
     bytes: usize,
-    value: u32,
-    d: u32,
     budget: u32,
-    count: u32,
-    at: usize,
+    m: usize,
+    v: Visit,
 ) -> Ending
-    requires { ⌜ (Guided (now task) (now sets) (now places) (now rows) (now owners) actions patterns variables bytes budget) × (count ≤ budget) × (at ≤ count) × (d ≤ 32) × (m < actions) × (packedValue (now rows) (now offsets) (now tables) patterns variables s ≡ fin value) × (value ≤ 32) ⌝ }
-    ensures { λ r. ⌜ Examined encodes (packedOutcomes (now (task .entry)) (now (rows .entry)) (now (offsets .entry)) (now (tables .entry)) actions patterns variables budget d s m count) count budget at (now (plan .entry)) (now (plan .exit)) r ⌝ }
+    requires { ⌜ (Guided (now task) (now sets) (now places) (now rows) (now owners) actions patterns variables bytes budget) × (Remembers (packedExamination (now task) (now rows) (now offsets) (now tables) actions patterns variables budget) budget (now memory)) × (v .count ≤ budget) × (v .at ≤ v .count) × (v .d ≤ 32) × (packedValue (now rows) (now offsets) (now tables) patterns variables (v .s) ≡ fin (v .value)) × (v .value ≤ 32) × (m < actions) ⌝ }
+    ensures examined { λ r. ⌜ Examined encodes (packedOutcomes (now (task .entry)) (now (rows .entry)) (now (offsets .entry)) (now (tables .entry)) actions patterns variables budget (v .d) (v .s) m (v .count)) (v .count) budget (v .at) (now (plan .entry)) (now (plan .exit)) r ⌝ }
+    ensures remembers { λ r. ⌜ Remembers (packedExamination (now (task .entry)) (now (rows .entry)) (now (offsets .entry)) (now (tables .entry)) actions patterns variables budget) budget (now (memory .exit)) ⌝ }
 {
     let n = place_of(outcome_count(task, m));
     let p = owner_of(owners, m);
@@ -189,18 +209,18 @@ pub(crate) fn outcomes(
         rows,
         offsets,
         tables,
-        s,
+        v.s,
         p,
         patterns,
         variables,
-        value,
+        v.value,
     );
-    let mut c = count;
-    let mut end = at;
+    let mut c = v.count;
+    let mut end = v.at;
     let mut k = 0usize;
     while k < n {
-        let x = successor(task, s, m, k);
-        let v = sum_with(
+        let x = successor(task, v.s, m, k);
+        let value = sum_with(
             places,
             rows,
             offsets,
@@ -211,53 +231,91 @@ pub(crate) fn outcomes(
             variables,
             rest,
         );
-        match open_state(task, x, v, d, budget, c) {
-            Opening::Spent => {
-                return Ending::Stopped(c);
+        let next = visit_of(x, value, v.d, c, end);
+        match follow(
+            task,
+            sets,
+            places,
+            rows,
+            offsets,
+            owners,
+            tables,
+            memory,
+            plan,
+            actions,
+            patterns,
+            variables,
+            bytes,
+            budget,
+            next,
+        ) {
+            Ending::Stopped(e) => {
+                return Ending::Stopped(e);
             }
-            Opening::Cut => {
-                return Ending::Failed(c + 1);
+            Ending::Failed(e) => {
+                return Ending::Failed(e);
             }
-            Opening::Arrived => {
-                put(plan, end, 254);
-                c = c + 1;
-                end = end + 1;
-            }
-            Opening::Expand => {
-                match examine(
-                    task,
-                    sets,
-                    places,
-                    rows,
-                    offsets,
-                    owners,
-                    tables,
-                    plan,
-                    x,
-                    actions,
-                    patterns,
-                    variables,
-                    bytes,
-                    v,
-                    d,
-                    budget,
-                    c,
-                    end,
-                ) {
-                    Ending::Stopped(e) => {
-                        return Ending::Stopped(e);
-                    }
-                    Ending::Failed(e) => {
-                        return Ending::Failed(e);
-                    }
-                    Ending::Succeeded(e, next) => {
-                        c = e;
-                        end = next;
-                    }
-                }
+            Ending::Succeeded(e, after) => {
+                c = e;
+                end = after;
             }
         }
         k += 1;
     }
     Ending::Succeeded(c, end)
+}
+
+// Examines the state after an outcome, unless it is decided at once or remembered to fail.
+pub(crate) fn follow(
+    task: &[u64; 1282],
+    sets: &[u64; 2048],
+    places: &[u16; 4120],
+    rows: &[u16; 2048],
+    offsets: &[u32; 8],
+    owners: &[u8; 64],
+    tables: &[u16],
+    memory: &mut [u64; 4096],
+    plan: &mut [u8],
+    actions: usize,
+    patterns: usize,
+    variables: usize,
+    bytes: usize,
+    budget: u32,
+    v: Visit,
+) -> Ending
+    requires { ⌜ (Guided (now task) (now sets) (now places) (now rows) (now owners) actions patterns variables bytes budget) × (Remembers (packedExamination (now task) (now rows) (now offsets) (now tables) actions patterns variables budget) budget (now memory)) × (v .count ≤ budget) × (v .at ≤ v .count) × (v .d ≤ 32) × (Estimated (packedValue (now rows) (now offsets) (now tables) patterns variables (v .s)) (v .value)) ⌝ }
+    ensures examined { λ r. ⌜ Examined encode (packedExamination (now (task .entry)) (now (rows .entry)) (now (offsets .entry)) (now (tables .entry)) actions patterns variables budget (v .d) (v .s) (v .count)) (v .count) budget (v .at) (now (plan .entry)) (now (plan .exit)) r ⌝ }
+    ensures remembers { λ r. ⌜ Remembers (packedExamination (now (task .entry)) (now (rows .entry)) (now (offsets .entry)) (now (tables .entry)) actions patterns variables budget) budget (now (memory .exit)) ⌝ }
+{
+    match open_state(task, v.s, v.value, v.d, budget, v.count) {
+        Opening::Spent => Ending::Stopped(v.count),
+        Opening::Cut => Ending::Failed(v.count + 1),
+        Opening::Arrived => {
+            put(plan, v.at, 254);
+            Ending::Succeeded(v.count + 1, v.at + 1)
+        }
+        Opening::Expand => {
+            let k = recall(memory, v.s, v.d, budget - v.count);
+            if k != 0 {
+                return Ending::Failed(v.count + k);
+            }
+            examine(
+                task,
+                sets,
+                places,
+                rows,
+                offsets,
+                owners,
+                tables,
+                memory,
+                plan,
+                actions,
+                patterns,
+                variables,
+                bytes,
+                budget,
+                v,
+            )
+        }
+    }
 }

@@ -9,6 +9,7 @@ ghost use Rattle.planning.specs.Search.{rounds};
 ghost use Rattle.tables.specs.Packed.{packedSystem};
 ghost use Rattle.search.specs.Value.{packedValue};
 ghost use Rattle.search.specs.Examination.{Examined, Guided};
+ghost use Rattle.search.specs.Memory.{Remembers};
 ghost use Rattle.search.specs.Packed.{packedExamination};
 ghost use Rattle.search.specs.Answer.{Concluded, answerOf, bufferOf, packedSearch};
 use crate::buffer::fill;
@@ -18,6 +19,7 @@ use crate::estimate::Value;
 use crate::estimate::value_of;
 use crate::examine::Ending;
 use crate::examine::examine;
+use crate::examine::visit_of;
 
 // How the rounds end: found with cost, count and the number of bytes; over with the count; spent with round and count; none.
 pub(crate) enum Conclusion {
@@ -45,6 +47,7 @@ fn examine_start(
     offsets: &[u32; 8],
     owners: &[u8; 64],
     tables: &[u16],
+    memory: &mut [u64; 4096],
     plan: &mut [u8],
     s: u64,
     actions: usize,
@@ -56,8 +59,9 @@ fn examine_start(
     budget: u32,
     count: u32,
 ) -> Ending
-    requires { ⌜ (Guided (now task) (now sets) (now places) (now rows) (now owners) actions patterns variables bytes budget) × (count ≤ budget) × (d ≤ 32) × (packedValue (now rows) (now offsets) (now tables) patterns variables s ≡ fin value) × (value ≤ d) ⌝ }
-    ensures { λ r. ⌜ Examined encode (packedExamination (now (task .entry)) (now (rows .entry)) (now (offsets .entry)) (now (tables .entry)) actions patterns variables budget d s count) count budget 0 (now (plan .entry)) (now (plan .exit)) r ⌝ }
+    requires { ⌜ (Guided (now task) (now sets) (now places) (now rows) (now owners) actions patterns variables bytes budget) × (count ≤ budget) × (d ≤ 32) × (packedValue (now rows) (now offsets) (now tables) patterns variables s ≡ fin value) × (value ≤ d) × (Remembers (packedExamination (now task) (now rows) (now offsets) (now tables) actions patterns variables budget) budget (now memory)) ⌝ }
+    ensures examined { λ r. ⌜ Examined encode (packedExamination (now (task .entry)) (now (rows .entry)) (now (offsets .entry)) (now (tables .entry)) actions patterns variables budget d s count) count budget 0 (now (plan .entry)) (now (plan .exit)) r ⌝ }
+    ensures remembers { λ r. ⌜ Remembers (packedExamination (now (task .entry)) (now (rows .entry)) (now (offsets .entry)) (now (tables .entry)) actions patterns variables budget) budget (now (memory .exit)) ⌝ }
 {
     if count == budget {
         return Ending::Stopped(count);
@@ -69,6 +73,7 @@ fn examine_start(
     if d == 0 {
         return Ending::Failed(count + 1);
     }
+    let v = visit_of(s, value, d, count, 0);
     examine(
         task,
         sets,
@@ -77,17 +82,14 @@ fn examine_start(
         offsets,
         owners,
         tables,
+        memory,
         plan,
-        s,
         actions,
         patterns,
         variables,
         bytes,
-        value,
-        d,
         budget,
-        count,
-        0,
+        v,
     )
 }
 
@@ -100,6 +102,7 @@ fn deepen(
     offsets: &[u32; 8],
     owners: &[u8; 64],
     tables: &[u16],
+    memory: &mut [u64; 4096],
     plan: &mut [u8],
     s: u64,
     actions: usize,
@@ -110,7 +113,7 @@ fn deepen(
     limit: u32,
     budget: u32,
 ) -> Conclusion
-    requires { ⌜ (Guided (now task) (now sets) (now places) (now rows) (now owners) actions patterns variables bytes budget) × (from ≤ limit) × (limit ≤ 32) × (packedValue (now rows) (now offsets) (now tables) patterns variables s ≡ fin from) ⌝ }
+    requires { ⌜ (Guided (now task) (now sets) (now places) (now rows) (now owners) actions patterns variables bytes budget) × (from ≤ limit) × (limit ≤ 32) × (packedValue (now rows) (now offsets) (now tables) patterns variables s ≡ fin from) × (Remembers (packedExamination (now task) (now rows) (now offsets) (now tables) actions patterns variables budget) budget (now memory)) ⌝ }
     ensures { λ r. ⌜ Concluded (rounds (packedSystem (now (task .entry)) actions) (packedValue (now (rows .entry)) (now (offsets .entry)) (now (tables .entry)) patterns variables) budget limit s (suc (limit - from)) from 0) (now (plan .exit)) r ⌝ }
 {
     let mut c = 0u32;
@@ -124,6 +127,7 @@ fn deepen(
             offsets,
             owners,
             tables,
+            memory,
             plan,
             s,
             actions,
@@ -159,6 +163,7 @@ fn conclude(
     offsets: &[u32; 8],
     owners: &[u8; 64],
     tables: &[u16],
+    memory: &mut [u64; 4096],
     plan: &mut [u8],
     s: u64,
     actions: usize,
@@ -168,7 +173,7 @@ fn conclude(
     limit: u32,
     budget: u32,
 ) -> Conclusion
-    requires { ⌜ (Guided (now task) (now sets) (now places) (now rows) (now owners) actions patterns variables bytes budget) × (limit ≤ 32) ⌝ }
+    requires { ⌜ (Guided (now task) (now sets) (now places) (now rows) (now owners) actions patterns variables bytes budget) × (limit ≤ 32) × (Remembers (packedExamination (now task) (now rows) (now offsets) (now tables) actions patterns variables budget) budget (now memory)) ⌝ }
     ensures { λ r. ⌜ Concluded (packedSearch (now (task .entry)) (now (rows .entry)) (now (offsets .entry)) (now (tables .entry)) actions patterns variables budget limit s) (now (plan .exit)) r ⌝ }
 {
     match value_of(rows, offsets, tables, s, patterns, variables) {
@@ -185,6 +190,7 @@ fn conclude(
                 offsets,
                 owners,
                 tables,
+                memory,
                 plan,
                 s,
                 actions,
@@ -208,6 +214,7 @@ pub(crate) fn run_rounds(
     offsets: &[u32; 8],
     owners: &[u8; 64],
     tables: &[u16],
+    memory: &mut [u64; 4096],
     plan: &mut [u8],
     s: u64,
     actions: usize,
@@ -217,7 +224,7 @@ pub(crate) fn run_rounds(
     limit: u32,
     budget: u32,
 ) -> Answer
-    requires { ⌜ (Guided (now task) (now sets) (now places) (now rows) (now owners) actions patterns variables bytes budget) × (limit ≤ 32) ⌝ }
+    requires { ⌜ (Guided (now task) (now sets) (now places) (now rows) (now owners) actions patterns variables bytes budget) × (limit ≤ 32) × (Remembers (packedExamination (now task) (now rows) (now offsets) (now tables) actions patterns variables budget) budget (now memory)) ⌝ }
     ensures answer { λ r. ⌜ r ≡ answerOf (length (now (plan .entry))) (packedSearch (now (task .entry)) (now (rows .entry)) (now (offsets .entry)) (now (tables .entry)) actions patterns variables budget limit s) ⌝ }
     ensures buffer { λ _. ⌜ now (plan .exit) ≡ bufferOf (length (now (plan .entry))) (packedSearch (now (task .entry)) (now (rows .entry)) (now (offsets .entry)) (now (tables .entry)) actions patterns variables budget limit s) ⌝ }
 {
@@ -229,6 +236,7 @@ pub(crate) fn run_rounds(
         offsets,
         owners,
         tables,
+        memory,
         plan,
         s,
         actions,

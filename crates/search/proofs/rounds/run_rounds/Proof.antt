@@ -19,7 +19,7 @@ same-length c = search needs
 
 returns : tie.Need-returns
 returns c = let h = rw (c .before .before .before .before .before .before .d .given .1) at (c .before .before .before .before .before .before .before .before .before .before .conclude .ensures) in
-    let l = c .before .before .before .before .before .before .before .before .before .before .conclude .kept .1 .1 .1 .1 .1 .1 .1 .0 in
+    let l = c .before .before .before .before .before .before .before .before .before .before .conclude .kept .1 .1 .1 .1 .1 .1 .1 .1 .0 in
     too-long _ _ _ l _ _ _ _ h (omega (arith, l, c .before .before .before .before .if1 .taken)) (c .before .before .fill .ensures)
 
 fill-requires-2 : tie.Need-fill-requires-2
@@ -48,7 +48,7 @@ same-length-2 c = search needs
 
 returns-2 : tie.Need-returns-2
 returns-2 c = let h = rw (c .before .before .before .before .before .before .d .given .1) at (c .before .before .before .before .before .before .before .before .before .before .conclude .ensures) in
-    let l = c .before .before .before .before .before .before .before .before .before .before .conclude .kept .1 .1 .1 .1 .1 .1 .1 .0 in
+    let l = c .before .before .before .before .before .before .before .before .before .before .conclude .kept .1 .1 .1 .1 .1 .1 .1 .1 .0 in
     fits _ _ _ l _ _ _ _ h (omega (arith, l, c .before .before .before .before .if1 .left)) (c .before .before .fill2 .ensures)
 
 same-length-3 : tie.Need-same-length-3
@@ -56,23 +56,43 @@ same-length-3 c = search needs
 
 returns-3 : tie.Need-returns-3
 returns-3 c = let h = rw (c .before .before .before .before .before .c .given .1) at (c .before .before .before .before .before .before .before .before .before .conclude .ensures) in
-    ends-over _ _ _ (c .before .before .before .before .before .before .before .before .before .conclude .kept .1 .1 .1 .1 .1 .1 .1 .0) _ _ h (c .before .before .fill3 .ensures)
+    ends-over _ _ _ (c .before .before .before .before .before .before .before .before .before .conclude .kept .1 .1 .1 .1 .1 .1 .1 .1 .0) _ _ h (c .before .before .fill3 .ensures)
 
 same-length-4 : tie.Need-same-length-4
 same-length-4 c = search needs
 
 returns-4 : tie.Need-returns-4
 returns-4 c = let h = rw (c .before .before .before .before .before .d2 .given .1) at (c .before .before .before .before .before .before .before .before .before .conclude .ensures) in
-    ends-spent _ _ _ (c .before .before .before .before .before .before .before .before .before .conclude .kept .1 .1 .1 .1 .1 .1 .1 .0) _ _ _ h (c .before .before .fill4 .ensures)
+    ends-spent _ _ _ (c .before .before .before .before .before .before .before .before .before .conclude .kept .1 .1 .1 .1 .1 .1 .1 .1 .0) _ _ _ h (c .before .before .fill4 .ensures)
 
 same-length-5 : tie.Need-same-length-5
 same-length-5 c = search needs
 
 returns-5 : tie.Need-returns-5
 returns-5 c = let h = rw (c .before .before .before .before .enum-told .given .1) at (c .before .before .before .before .before .before .before .before .conclude .ensures) in
-    ends-none _ _ _ (c .before .before .before .before .before .before .before .before .conclude .kept .1 .1 .1 .1 .1 .1 .1 .0) _ h (c .before .before .fill5 .ensures)
+    ends-none _ _ _ (c .before .before .before .before .before .before .before .before .conclude .kept .1 .1 .1 .1 .1 .1 .1 .1 .0) _ h (c .before .before .fill5 .ensures)
 
 pub run-rounds-spec : {M : Type 1} → statement M
 run-rounds-spec =
     tie.close
-    (tie.spec conclude-requires enum-known-d fill-requires same-length returns fill-requires-2 enum-known-c fill-requires-3 enum-known-d-2 fill-requires-4 enum-told fill-requires-5 same-length-2 returns-2 same-length-3 returns-3 same-length-4 returns-4 same-length-5 returns-5)
+    (tie.spec
+    conclude-requires
+    enum-known-d
+    fill-requires
+    same-length
+    returns
+    fill-requires-2
+    enum-known-c
+    fill-requires-3
+    enum-known-d-2
+    fill-requires-4
+    enum-told
+    fill-requires-5
+    same-length-2
+    returns-2
+    same-length-3
+    returns-3
+    same-length-4
+    returns-4
+    same-length-5
+    returns-5)
