@@ -1,5 +1,6 @@
 -- The parts of a build together: words of the states, weights, mask, and a table that was tested or made by passes give the table. Assumes nothing.
-use mathlib.Core.Path.{_≡_, ap, _∙_}
+use mathlib.Core.Path.{_≡_, sym, ap, _∙_}
+use mathlib.Core.Bool.{false, not}
 use mathlib.Core.List.{List, [], _++_}
 use Prim.Native.Nat.{ℕ, _+_, _*_, _-_, _/_, _≤_, _<_}
 use native.Mathlib.Omega.{arith}
@@ -13,15 +14,17 @@ use Rattle.task_record.specs.Record.{Sound}
 use Rattle.task_record.specs.TaskOf.{taskOf}
 use Rattle.task_record.proofs.SoundTask.{sizes-length}
 use Rattle.patterns.proofs.Reading.{actions-length}
-use Rattle.tables.specs.Sets.{spread}
+use Rattle.tables.specs.Sets.{setFrom, spread}
 use Rattle.tables.specs.Packed.{packBy, low, picking, compiled}
 use Rattle.tables.specs.Packable.{Packable}
-use Rattle.tables.specs.Steps.{weightsFrom, Space, space, started, Sized, Settled}
+use Rattle.tables.specs.Steps.{weightsFrom, Space, space, idles, Steps, none, started, Sized, Settled}
 use Rattle.tables.specs.Certified.{Indexed, Lookable, Finished, tested, stepped}
 use Rattle.tables.specs.Built.{Built}
 use Rattle.tables.proofs.Abstracted.{weigh-index}
 use Rattle.tables.proofs.Settled.{Stands, steps-length, settled-is-table}
 use Rattle.tables.proofs.Certified.{certified-is-table}
+use Rattle.tables.proofs.SetWords.{left-all, none-left}
+use Rattle.tables.proofs.Sweeping.{false-true}
 use Rattle.tables.proofs.SoundPacked.{sound-packable, sound-readable}
 use Rattle.tables.proofs.ApplyingSets.{applying-permitted, pattern-parted, spread-wide}
 use Rattle.tables.proofs.Spacing.{weigh-padded}
@@ -29,6 +32,14 @@ use Rattle.tables.proofs.Spacing.{weigh-padded}
 pub finished-by-steps : (x : Space) (first new : List ℕ) (n : ℕ) → first ≡ started (x .task) (x .mask) (x .states) n → Settled x first new → Finished x new
 unfolding started
 finished-by-steps x first new n f e = let l : length new ≡ n = steps-length (e .steps) ∙ ap length f ∙ length-tabulate _ 0 n in stepped (rw (l, ← f) e)
+
+-- Where every action may leave each state as it is, the start is the table.
+pub finished-idle : (x : Space) (new : List ℕ) (live n : ℕ) → live ≡ setFrom (λ m. not (idles (x .task) (x .mask) m)) 0 (x .actions) → live ≡ 0 → new ≡ started (x .task) (x .mask) (x .states) n → Finished x new
+finished-idle x new live n e z f =
+    finished-by-steps x new new n f (record { steps = none; stable = record { low = λ m i l b q h. false-true (sym (rw q at (idle m l))) } })
+  where
+    idle : (m : ℕ) → m < x .actions → not (idles (x .task) (x .mask) m) ≡ false
+    idle m l = none-left (λ m. not (idles (x .task) (x .mask) m)) 0 (x .actions) live (left-all (λ m. not (idles (x .task) (x .mask) m)) (x .actions) live e) z m (omega arith) l
 
 -- A task without actions: its states are those of the sizes.
 abbrev bare : List ℕ → Task

@@ -1,13 +1,16 @@
 // The table of one pattern.
 ghost use mathlib.Core.Path.{_≡_};
+ghost use mathlib.Core.Bool.{not};
 ghost use Prim.Native.Nat.{_+_, _/_, _≤_};
 ghost use lib.ListN.{length, getD, take};
 ghost use Rattle.planning.specs.Table.{stateCount};
 ghost use Rattle.tables.specs.Packed.{packBy, picking};
-ghost use Rattle.tables.specs.Steps.{space, Readable, Sized};
+ghost use Rattle.tables.specs.Sets.{setFrom};
+ghost use Rattle.tables.specs.Steps.{space, idles, Readable, Sized};
 ghost use Rattle.tables.specs.Certified.{Indexed, Lookable, Finished};
 ghost use Rattle.tables.specs.Built.{Built};
 use crate::certify::is_certified;
+use crate::certify::lively;
 use crate::packed::PICKING;
 use crate::packed::pack;
 use crate::ranking::fill_states;
@@ -23,17 +26,41 @@ fn finish(
     weights: &[u16; 16],
     states: &[u64],
     actions: usize,
+    live: u64,
+    bytes: usize,
+    entries: &mut [u16],
+)
+    requires { ⌜ (Readable (now task) actions) × (live ≡ setFrom (λ m. not (idles (now task) mask m)) 0 actions) × (Lookable (now task) mask actions bytes) × (length (now entries) ≤ 4096) × (Indexed (now weights) (now states) (length (now entries))) ⌝ }
+    ensures { λ _. ⌜ Finished (space (now (task .entry)) mask (now (weights .entry)) (now (states .entry)) actions) (now (entries .exit)) ⌝ }
+{
+    if is_certified(task, mask, weights, states, actions, live, bytes, entries) {
+        return;
+    }
+    start(task, mask, states, entries);
+    settle(task, mask, weights, states, actions, entries);
+}
+
+// A table over the states' words: from the goals backwards, and tested. Where every action may leave each state as it is, only the goals count.
+fn make(
+    task: &[u64; 1282],
+    mask: u64,
+    weights: &[u16; 16],
+    sizes: [u8; 16],
+    states: &[u64],
+    actions: usize,
     bytes: usize,
     entries: &mut [u16],
 )
     requires { ⌜ (Readable (now task) actions) × (Lookable (now task) mask actions bytes) × (length (now entries) ≤ 4096) × (Indexed (now weights) (now states) (length (now entries))) ⌝ }
     ensures { λ _. ⌜ Finished (space (now (task .entry)) mask (now (weights .entry)) (now (states .entry)) actions) (now (entries .exit)) ⌝ }
 {
-    if is_certified(task, mask, weights, states, actions, bytes, entries) {
+    let live = lively(task, mask, actions);
+    if live == 0 {
+        start(task, mask, states, entries);
         return;
     }
-    start(task, mask, states, entries);
-    settle(task, mask, weights, states, actions, entries);
+    candidate(task, mask, weights, sizes, actions, entries);
+    finish(task, mask, weights, states, actions, live, bytes, entries);
 }
 
 // A table of at most 64 states: passes alone.
@@ -56,7 +83,7 @@ fn build_small(
     settle(task, mask, &weights, &states, actions, entries);
 }
 
-// A table of any size, with room for the words of its states: from the goals backwards, and tested.
+// A table of any size, with room for the words of its states.
 fn build_within(
     task: &[u64; 1282],
     actions: usize,
@@ -72,8 +99,16 @@ fn build_within(
     fill_states(sizes, pattern, n, states);
     let weights = weights_of(sizes, pattern, n);
     let mask = pack(PICKING, &pattern);
-    candidate(task, mask, &weights, sizes, actions, entries);
-    finish(task, mask, &weights, states, actions, (n + 1) / 2, entries);
+    make(
+        task,
+        mask,
+        &weights,
+        sizes,
+        states,
+        actions,
+        (n + 1) / 2,
+        entries,
+    );
 }
 
 // The same with less memory to clear.

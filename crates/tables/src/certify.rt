@@ -152,7 +152,7 @@ fn joined(set: u64, bit: u64, wanted: bool) -> u64
 }
 
 // The actions of which no outcome leaves every state as it is.
-fn lively(task: &[u64; 1282], mask: u64, actions: usize) -> u64
+pub(crate) fn lively(task: &[u64; 1282], mask: u64, actions: usize) -> u64
     requires { ⌜ Readable (now task) actions ⌝ }
     ensures { λ r. ⌜ r ≡ setFrom (λ m. not (idles (now (task .entry)) mask m)) 0 actions ⌝ }
 {
@@ -277,15 +277,15 @@ pub(crate) fn is_certified(
     weights: &[u16; 16],
     states: &[u64],
     actions: usize,
+    live: u64,
     bytes: usize,
     entries: &[u16],
 ) -> bool
-    requires { ⌜ (Readable (now task) actions) × (Lookable (now task) mask actions bytes) × (length (now entries) ≤ 4096) × (Indexed (now weights) (now states) (length (now entries))) ⌝ }
+    requires { ⌜ (Readable (now task) actions) × (live ≡ setFrom (λ m. not (idles (now task) mask m)) 0 actions) × (Lookable (now task) mask actions bytes) × (length (now entries) ≤ 4096) × (Indexed (now weights) (now states) (length (now entries))) ⌝ }
     ensures { λ r. ⌜ (r ≡ true → Certified (space (now (task .entry)) mask (now (weights .entry)) (now (states .entry)) actions) (now (entries .entry))) ⌝ }
 {
     let mut steps = [0u64; 512];
     fill_steps(task, mask, weights, actions, &mut steps);
-    let live = lively(task, mask, actions);
     let mut sets = [0u64; 2048];
     fill_sets(task, mask, actions, bytes, &mut sets);
     let mut i = 0usize;

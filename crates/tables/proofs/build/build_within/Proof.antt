@@ -19,16 +19,13 @@ slice-aggregate-pack c = search needs
 pack-requires : tie.Need-pack-requires
 pack-requires c κs = search needs
 
-candidate-requires : tie.Need-candidate-requires
-candidate-requires c κs = search needs
+add-make : tie.Need-add-make
+add-make c = search needs
 
-add-finish : tie.Need-add-finish
-add-finish c = search needs
-
-finish-requires : tie.Need-finish-requires
+make-requires : tie.Need-make-requires
 unfolding digitBy
-finish-requires c κs = let a = c .before .before .before .before .before .before .before .before .before .before .before .before .before .before .before .before .before in let e = c .before .before .before .before .before .candidate .ensures ∙ a .pre .3 in
-    (a .pre .0, lookable-as _ _ _ _ _ (c .before .before .before .before .before .before .before .before .pack .ensures) (a .pre .1), omega (arith, e, a .pre .2 .states-few), indexed-as _ _ _ _ e (parts-indexed (a .args .task .now) (a .args .actions) (a .args .n) (c .before .before .before .before .before .before .before .before .pack .result) (a .args .sizes) (a .args .t5) (c .before .before .before .before .before .before .before .before .before .before .weights-of .result) _ (a .args .entries .now) (c .before .before .before .before .before .before .before .before .pack .ensures) (c .before .before .before .before .before .before .before .before .before .before .weights-of .ensures) (c .before .before .before .before .before .before .before .before .before .before .before .before .before .fill-states .ensures) (a .pre .2) (omega (arith, a .pre .3, a .pre .4, c .before .before .before .before .before .before .before .before .before .before .before .before .before .fill-states .kept .1 .1 .1 .0))))
+make-requires c κs = let a = c .before .before .before .before .before .before .before .before .before .before .before .before in
+    (a .pre .0, lookable-as _ _ _ _ _ (c .before .before .before .pack .ensures) (a .pre .1), omega (arith, a .pre .3, a .pre .2 .states-few), indexed-as _ _ _ _ (a .pre .3) (parts-indexed (a .args .task .now) (a .args .actions) (a .args .n) (c .before .before .before .pack .result) (a .args .sizes) (a .args .t5) (c .before .before .before .before .before .weights-of .result) _ (a .args .entries .now) (c .before .before .before .pack .ensures) (c .before .before .before .before .before .weights-of .ensures) (c .before .before .before .before .before .before .before .before .fill-states .ensures) (a .pre .2) (omega (arith, a .pre .3, a .pre .4, c .before .before .before .before .before .before .before .before .fill-states .kept .1 .1 .1 .0))))
 
 same-length : tie.Need-same-length
 same-length c = search needs
@@ -38,8 +35,8 @@ same-length-2 c = search needs
 
 returns : tie.Need-returns
 unfolding digitBy
-returns c = let a = c .before .before .before .before .before .before .before .before .before .before .before .before .before .before .before .before .before .before .before .before in
-    parts-build (a .args .task .now) (a .args .actions) (a .args .n) (c .before .before .before .before .before .before .before .before .before .before .before .pack .result) (a .args .sizes) (a .args .t5) (c .before .before .before .before .before .before .before .before .before .before .before .before .before .weights-of .result) _ _ (c .before .before .before .before .before .before .before .before .before .before .before .pack .ensures) (c .before .before .before .before .before .before .before .before .before .before .before .before .before .weights-of .ensures) (c .before .before .before .before .before .before .before .before .before .before .before .before .before .before .before .before .fill-states .ensures) (c .before .before .finish .kept .1 .1 .1 .1 .1 .1 .0 ∙ c .before .before .before .before .before .before .before .before .candidate .ensures ∙ a .pre .3) (c .before .before .finish .ensures)
+returns c = let a = c .before .before .before .before .before .before .before .before .before .before .before .before .before .before .before in
+    parts-build (a .args .task .now) (a .args .actions) (a .args .n) (c .before .before .before .before .before .before .pack .result) (a .args .sizes) (a .args .t5) (c .before .before .before .before .before .before .before .before .weights-of .result) _ _ (c .before .before .before .before .before .before .pack .ensures) (c .before .before .before .before .before .before .before .before .weights-of .ensures) (c .before .before .before .before .before .before .before .before .before .before .before .fill-states .ensures) (c .before .before .make .kept .1 .1 .1 .1 .1 .1 .1 .0 ∙ a .pre .3) (c .before .before .make .ensures)
 
 pub build-within-spec : {M : Type 1} → statement M
 build-within-spec =
@@ -49,9 +46,8 @@ build-within-spec =
     weights-of-requires
     slice-aggregate-pack
     pack-requires
-    candidate-requires
-    add-finish
-    finish-requires
+    add-make
+    make-requires
     same-length
     same-length-2
     returns)

@@ -12,16 +12,13 @@ use Rattle.tables.proofs.Certifying.{ExactTo, exact-next, exact-all}
 use Rattle.tables.proofs.Sweeping.{false-true}
 
 abbrev Inv-loop : tie.InvT-loop
-Inv-loop task mask weights states actions bytes entries steps live sets i₀ i = (i ≤ length entries) × ExactTo (space task mask weights states actions) entries i
+Inv-loop task mask weights states actions live bytes entries steps sets i₀ i = (i ≤ length entries) × ExactTo (space task mask weights states actions) entries i
 
 abbrev μ-loop : tie.MeasureT-loop
-μ-loop task mask weights states actions bytes entries steps live sets i₀ i = length entries - i
+μ-loop task mask weights states actions live bytes entries steps sets i₀ i = length entries - i
 
 fill-steps-requires : tie.Need-fill-steps-requires Inv-loop μ-loop
 fill-steps-requires c κs = search needs
-
-lively-requires : tie.Need-lively-requires Inv-loop μ-loop
-lively-requires c κs = search needs
 
 fill-sets-requires : tie.Need-fill-sets-requires Inv-loop μ-loop
 fill-sets-requires c κs = search needs
@@ -30,7 +27,7 @@ loop-holds : tie.Need-loop-holds Inv-loop μ-loop
 loop-holds c = (omega arith, λ j l. absurd (omega arith))
 
 is-exact-requires : tie.Need-is-exact-requires Inv-loop μ-loop
-is-exact-requires c κs = let a = c .before .before .before .before .before .before .before .before .before .before .before in (a .pre .0, c .before .before .before .before .before .before .lively .ensures, c .before .before .before .before .fill-sets .ensures (a .pre .0 .actions-few), a .pre .1, c .before .before .loop-test .taken, a .pre .2, a .pre .3)
+is-exact-requires c κs = let a = c .before .before .before .before .before .before .before .before .before .before in (a .pre .0, a .pre .1, c .before .before .before .before .fill-sets .ensures (a .pre .0 .actions-few), a .pre .2, c .before .before .loop-test .taken, a .pre .3, a .pre .4)
 
 returns : tie.Need-returns Inv-loop μ-loop
 returns c = λ q. false-true q
@@ -54,7 +51,6 @@ is-certified-spec =
     Inv-loop
     μ-loop
     fill-steps-requires
-    lively-requires
     fill-sets-requires
     loop-holds
     is-exact-requires
