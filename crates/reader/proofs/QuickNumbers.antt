@@ -1,5 +1,5 @@
 -- Numbers of one or two digits, by their bytes; and what the items of a list say by them. Assumes nothing.
-use mathlib.Core.Path.{_≡_, refl, sym, ap, _∙_}
+use mathlib.Core.Path.{_≡_, refl, sym, ap, subst, _∙_}
 use mathlib.Core.List.{List, [], _∷_, _++_}
 use Prim.Native.Nat.{ℕ, _+_, _-_, _*_, _/_, _%_, _≤_, _<_}
 use native.Mathlib.Omega.{arith}
@@ -39,6 +39,14 @@ module _ (t : List ℕ) (at a : ℕ) (first : getD t at 0 ≡ a) (low : 48 ≤ a
       let f : 48 + n % 10 ≡ getD t (at + 1) 0 = omega arith in
       let two : at + 1 + 1 ≡ at + 2 = omega arith in
       rw (drop-step t at (omega arith), drop-step t (at + 1) h, two-written n (omega arith) (omega arith), e, f, two)
+
+-- two of which the first is 1
+pub teen-digits : (t : List ℕ) (at b : ℕ) → getD t at 0 ≡ 49 → getD t (at + 1) 0 ≡ b → 48 ≤ b → b < 58 → at + 1 < length t
+    → drop at t ≡ decimal (b - 38) ++ drop (at + 2) t
+teen-digits t at b first second l k h =
+    let e : 10 * (49 - 48) + (b - 48) ≡ b - 38 = omega arith in
+    subst (λ (n : ℕ). drop at t ≡ decimal n ++ drop (at + 2) t) e
+    (two-digits t at 49 first (omega arith) (omega arith) b second l k (λ z. omega arith) h)
 
 -- a pair, a value of the variable that comes next, a member
 module _ (t : List ℕ) (at : ℕ) where

@@ -1,8 +1,8 @@
-// The items of a list, read where they stand in the text. An item that is not as the definition asks, or longer than any good one, is told as
-// one with a number of 255, which no list allows. Assumes room: six bytes from the item's place on.
+// Numbers and items of a list, read where they stand in the text. Where one is not as the definition asks, or larger than any good one, its end is
+// told as 0. Assumes room: two bytes from a number's place on.
 ghost use mathlib.Core.Path.{_≡_};
 ghost use mathlib.Core.Bool.{true};
-ghost use Prim.Native.Nat.{_+_, _<_, _≤_};
+ghost use Prim.Native.Nat.{ℕ, _+_, _<_, _≤_};
 ghost use mathlib.Core.List.{_++_};
 ghost use lib.ListN.{length, drop};
 ghost use Rattle.reader.specs.Quick.{ItemAt};
@@ -10,13 +10,13 @@ ghost use Rattle.reader.specs.Written.{decimal};
 use crate::lists::Kind;
 use crate::pieces::COLON;
 
-// A number, or 255, and the place behind it.
+// A number and the place behind it, or 0 for the place.
 pub struct Short {
     pub value: usize,
     pub end: usize,
 }
 
-// A variable and its value, and the place behind them.
+// A variable and its value, and the place behind them, or 0 for the place.
 pub struct Item {
     pub variable: usize,
     pub value: usize,
@@ -32,19 +32,32 @@ fn is_digit(b: u8) -> bool
     b < 58
 }
 
+fn no_number() -> Short
+    ensures { λ r. ⌜ (r .value ≡ 0) × (r .end ≡ 0) ⌝ }
+{
+    Short { value: 0, end: 0 }
+}
+
+fn no_item() -> Item
+    ensures { λ r. ⌜ (r .variable ≡ 0) × (r .value ≡ 0) × (r .end ≡ 0) ⌝ }
+{
+    Item {
+        variable: 0,
+        value: 0,
+        end: 0,
+    }
+}
+
 // A number of one or two digits.
 pub(crate) fn short_number(text: &[u8], at: usize) -> Short
     requires { ⌜ at + 2 ≤ length (now text) ⌝ }
-    ensures { λ r. ⌜ (r .value < 256) × (at ≤ r .end) × (r .end ≤ at + 2) ⌝ }
-    ensures { λ r. ⌜ (r .value < 255 → (r .value < 100) × (drop at (now (text .entry)) ≡ decimal (r .value) ++ drop (r .end) (now (text .entry)))) ⌝ }
+    ensures { λ r. ⌜ (r .value < 100) × (r .end ≤ at + 2) ⌝ }
+    ensures { λ r. ⌜ (0 < r .end → (at < r .end) × (drop at (now (text .entry)) ≡ decimal (r .value) ++ drop (r .end) (now (text .entry)))) ⌝ }
 {
     let a = text[at];
     let b = text[at + 1];
     if !is_digit(a) {
-        return Short {
-            value: 255,
-            end: at,
-        };
+        return no_number();
     }
     if !is_digit(b) {
         return Short {
@@ -53,10 +66,7 @@ pub(crate) fn short_number(text: &[u8], at: usize) -> Short
         };
     }
     if a == 48 {
-        return Short {
-            value: 255,
-            end: at,
-        };
+        return no_number();
     }
     Short {
         value: 10 * ((a - 48) as usize) + ((b - 48) as usize),
@@ -64,23 +74,48 @@ pub(crate) fn short_number(text: &[u8], at: usize) -> Short
     }
 }
 
-// A pair.
-fn quick_pair(text: &[u8], at: usize, next: usize) -> Item
-    requires { ⌜ at + 6 ≤ length (now text) ⌝ }
-    ensures { λ r. ⌜ (r .variable < 256) × (r .value < 256) × (at ≤ r .end) × (r .end ≤ at + 5) ⌝ }
-    ensures { λ r. ⌜ (r .variable < 255 → r .value < 255 → ItemAt (now (text .entry)) at Kind.Pairs next (r .variable) (r .value) (r .end)) ⌝ }
+// A number below 20: those of a good list are below 16, so that one of two digits begins with 1.
+pub(crate) fn small_number(text: &[u8], at: usize) -> Short
+    requires { ⌜ at + 2 ≤ length (now text) ⌝ }
+    ensures { λ r. ⌜ (r .value < 20) × (r .end ≤ at + 2) ⌝ }
+    ensures { λ r. ⌜ (0 < r .end → (at < r .end) × (drop at (now (text .entry)) ≡ decimal (r .value) ++ drop (r .end) (now (text .entry)))) ⌝ }
 {
-    let v = short_number(text, at);
-    let k = v.end;
-    let variable = v.value;
-    if text[k] != COLON {
-        return Item {
-            variable,
-            value: 255,
-            end: at,
+    let a = text[at];
+    let b = text[at + 1];
+    if !is_digit(b) {
+        if !is_digit(a) {
+            return no_number();
+        }
+        return Short {
+            value: (a - 48) as usize,
+            end: at + 1,
         };
     }
-    let x = short_number(text, k + 1);
+    if a != 49 {
+        return no_number();
+    }
+    Short {
+        value: (b - 38) as usize,
+        end: at + 2,
+    }
+}
+
+// A pair.
+pub(crate) fn quick_pair(text: &[u8], at: usize) -> Item
+    requires { ⌜ at + 6 ≤ length (now text) ⌝ }
+    ensures { λ r. ⌜ (r .variable < 20) × (r .value < 20) × (r .end ≤ at + 5) ⌝ }
+    ensures { λ r. ⌜ (0 < r .end → (at < r .end) × ((next : ℕ) → ItemAt (now (text .entry)) at Kind.Pairs next (r .variable) (r .value) (r .end))) ⌝ }
+{
+    let v = small_number(text, at);
+    let variable = v.value;
+    let k = v.end;
+    if k == 0 {
+        return no_item();
+    }
+    if text[k] != COLON {
+        return no_item();
+    }
+    let x = small_number(text, k + 1);
     Item {
         variable,
         value: x.value,
@@ -88,16 +123,16 @@ fn quick_pair(text: &[u8], at: usize, next: usize) -> Item
     }
 }
 
-// The item at a place, where `next` is the variable that comes next.
+// The item of another kind at a place, where `next` is the variable that comes next.
 pub(crate) fn quick_item(text: &[u8], at: usize, kind: Kind, next: usize) -> Item
-    requires { ⌜ (at + 6 ≤ length (now text)) × (next < 256) ⌝ }
-    ensures { λ r. ⌜ (r .variable < 256) × (r .value < 256) × (at ≤ r .end) × (r .end ≤ at + 5) ⌝ }
-    ensures { λ r. ⌜ (r .variable < 255 → r .value < 255 → ItemAt (now (text .entry)) at kind next (r .variable) (r .value) (r .end)) ⌝ }
+    requires { ⌜ (at + 2 ≤ length (now text)) × (next < 256) ⌝ }
+    ensures { λ r. ⌜ (r .variable < 256) × (r .value < 256) × (r .end ≤ at + 2) ⌝ }
+    ensures { λ r. ⌜ (0 < r .end → (at < r .end) × ItemAt (now (text .entry)) at kind next (r .variable) (r .value) (r .end)) ⌝ }
 {
     match kind {
-        Kind::Pairs => quick_pair(text, at, next),
+        Kind::Pairs => no_item(),
         Kind::Values => {
-            let x = short_number(text, at);
+            let x = small_number(text, at);
             Item {
                 variable: next,
                 value: x.value,
@@ -105,7 +140,7 @@ pub(crate) fn quick_item(text: &[u8], at: usize, kind: Kind, next: usize) -> Ite
             }
         }
         Kind::Members => {
-            let v = short_number(text, at);
+            let v = small_number(text, at);
             Item {
                 variable: v.value,
                 value: 1,

@@ -16,14 +16,30 @@ use crate::pieces::COMMA;
 use crate::pieces::LINE_BREAK;
 use crate::pieces::key_at;
 use crate::quick_items::quick_item;
+use crate::quick_items::quick_pair;
 use crate::quick_items::short_number;
 use crate::store::fill;
 use crate::store::wide;
 use task_record::layout::AT_SIZES;
 use task_record::layout::ROW_SIZE;
+use task_record::layout::UNNAMED;
 
 // In a good text at least so many bytes stand from the place of any line but the last on: those of the shortest last two lines.
 const LINE_ROOM: usize = 16;
+
+// The place behind a key that stands at a place, or 0.
+pub(crate) fn behind(text: &[u8], at: usize, key: &[u8]) -> usize
+    requires { ⌜ (at ≤ length (now text)) × (length (now key) ≤ 9) ⌝ }
+    ensures { λ r. ⌜ (0 < r → (r ≡ at + length (now (key .entry))) × (hasKey (now (key .entry)) (drop at (now (text .entry))) ≡ true) × (at + 16 ≤ length (now (text .entry)))) ⌝ }
+{
+    if text.len() < at + LINE_ROOM {
+        return 0;
+    }
+    if key_at(text, at, key) {
+        return at + key.len();
+    }
+    0
+}
 
 // One cell.
 fn store(r: &mut [u8], at: usize, x: u8)
@@ -73,11 +89,14 @@ fn quick_list(text: &[u8], at: usize, rec: &mut [u8], kind: Kind, n: usize, row:
     }
     let mut i = at;
     let mut next = 0;
-    while i + 6 <= text.len() {
+    while i + 3 <= text.len() {
         let item = quick_item(text, i, kind, next);
         let v = item.variable;
         let x = item.value;
         let e = item.end;
+        if e == 0 {
+            return 0;
+        }
         if !fits(rec, n, next, v, x) {
             return 0;
         }
@@ -89,6 +108,44 @@ fn quick_list(text: &[u8], at: usize, rec: &mut [u8], kind: Kind, n: usize, row:
             return 0;
         }
         if text[e] != COMMA {
+            return 0;
+        }
+        next = v + 1;
+        i = e + 1;
+    }
+    0
+}
+
+// Pairs up to the end of their line, for a record of n variables. They are most of a text: so they have a loop of their own, and one that is short
+// enough to be compiled in place wherever it is called.
+pub(crate) fn quick_pairs(text: &[u8], at: usize, rec: &mut [u8], n: usize, row: usize) -> usize
+    requires { ⌜ (at < length (now text)) × (24 ≤ row) × (row + 16 ≤ length (now rec)) × (n ≡ getD (now rec) 0 0) × (n ≤ 16) ⌝ }
+    ensures { λ r. ⌜ (r ≤ length (now (text .entry))) ⌝ }
+    ensures { λ r. ⌜ (0 < r → ListAt (now (text .entry)) at r Kind.Pairs (now (rec .entry)) row (now (rec .exit))) ⌝ }
+{
+    fill(rec, row, ROW_SIZE, UNNAMED);
+    if text[at] == LINE_BREAK {
+        return at + 1;
+    }
+    let mut i = at;
+    let mut next = 0;
+    while i + 6 <= text.len() {
+        let pair = quick_pair(text, i);
+        let v = pair.variable;
+        let x = pair.value;
+        let e = pair.end;
+        if e == 0 {
+            return 0;
+        }
+        if !fits(rec, n, next, v, x) {
+            return 0;
+        }
+        let c = text[e];
+        store(rec, row + v, x as u8);
+        if c == LINE_BREAK {
+            return e + 1;
+        }
+        if c != COMMA {
             return 0;
         }
         next = v + 1;
@@ -111,35 +168,11 @@ pub(crate) fn quick_list_line(
     ensures { λ r. ⌜ (r ≤ length (now (text .entry))) ⌝ }
     ensures { λ r. ⌜ (0 < r → (hasKey (now (key .entry)) (drop at (now (text .entry))) ≡ true) × ListAt (now (text .entry)) (at + length (now (key .entry))) r kind (now (rec .entry)) row (now (rec .exit))) ⌝ }
 {
-    if text.len() < at + LINE_ROOM {
+    let a = behind(text, at, key);
+    if a == 0 {
         return 0;
     }
-    if key_at(text, at, key) {
-        return quick_list(text, at + key.len(), rec, kind, n, row);
-    }
-    0
-}
-
-// A line with pairs. It is not the same function as the other lists', so that it is compiled apart, with its key in place.
-pub(crate) fn quick_pairs_line(
-    text: &[u8],
-    at: usize,
-    rec: &mut [u8],
-    key: &[u8],
-    n: usize,
-    row: usize,
-) -> usize
-    requires { ⌜ (at ≤ length (now text)) × (24 ≤ row) × (row + 16 ≤ length (now rec)) × (n ≡ getD (now rec) 0 0) × (n ≤ 16) × (length (now key) ≤ 9) ⌝ }
-    ensures { λ r. ⌜ (r ≤ length (now (text .entry))) ⌝ }
-    ensures { λ r. ⌜ (0 < r → (hasKey (now (key .entry)) (drop at (now (text .entry))) ≡ true) × ListAt (now (text .entry)) (at + length (now (key .entry))) r Kind.Pairs (now (rec .entry)) row (now (rec .exit))) ⌝ }
-{
-    if text.len() < at + LINE_ROOM {
-        return 0;
-    }
-    if key_at(text, at, key) {
-        return quick_list(text, at + key.len(), rec, Kind::Pairs, n, row);
-    }
-    0
+    quick_list(text, a, rec, kind, n, row)
 }
 
 // A line with a number from lo to hi.
@@ -156,16 +189,16 @@ pub(crate) fn quick_number_line(
     ensures { λ r. ⌜ (r ≤ length (now (text .entry))) ⌝ }
     ensures { λ r. ⌜ (0 < r → (hasKey (now (key .entry)) (drop at (now (text .entry))) ≡ true) × NumberAt (now (text .entry)) (at + length (now (key .entry))) r lo hi (now (rec .entry)) cell (now (rec .exit))) ⌝ }
 {
-    if text.len() < at + LINE_ROOM {
+    let a = behind(text, at, key);
+    if a == 0 {
         return 0;
     }
-    if !key_at(text, at, key) {
-        return 0;
-    }
-    let a = at + key.len();
     let s = short_number(text, a);
     let x = s.value;
     let e = s.end;
+    if e == 0 {
+        return 0;
+    }
     if text[e] != LINE_BREAK {
         return 0;
     }

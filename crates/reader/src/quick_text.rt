@@ -20,9 +20,10 @@ use crate::places::at_action;
 use crate::places::at_outcome;
 use crate::places::at_pattern;
 use crate::places::at_precondition;
+use crate::quick_lines::behind;
 use crate::quick_lines::quick_list_line;
 use crate::quick_lines::quick_number_line;
-use crate::quick_lines::quick_pairs_line;
+use crate::quick_lines::quick_pairs;
 use crate::store::wide;
 use task_record::layout::AT_ACTION_COUNT;
 use task_record::layout::AT_GOAL;
@@ -59,7 +60,11 @@ fn quick_outcomes(text: &[u8], at: usize, rec: &mut [u8], n: usize, m: u8, count
     let mut o = 0u8;
     let mut k = at;
     while wide(o) < count {
-        k = quick_pairs_line(text, k, rec, b"eff=", n, at_outcome(m, o));
+        let a = behind(text, k, b"eff=");
+        if a == 0 {
+            return 0;
+        }
+        k = quick_pairs(text, a, rec, n, at_outcome(m, o));
         if k == 0 {
             return 0;
         }
@@ -74,7 +79,11 @@ fn quick_action(text: &[u8], at: usize, rec: &mut [u8], n: usize, m: u8) -> usiz
     ensures { λ r. ⌜ (r ≤ length (now (text .entry))) ⌝ }
     ensures { λ r. ⌜ (0 < r → (getD (now (rec .exit)) 0 0 ≡ n) × (getD (now (rec .exit)) 1 0 ≡ getD (now (rec .entry)) 1 0) × Leads (now (text .entry)) (Due.Need m) (now (rec .entry)) at (actionFrom (now (rec .exit)) (m + 1)) (now (rec .exit)) r) ⌝ }
 {
-    let a = quick_pairs_line(text, at, rec, b"need=", n, at_precondition(m));
+    let need = behind(text, at, b"need=");
+    if need == 0 {
+        return 0;
+    }
+    let a = quick_pairs(text, need, rec, n, at_precondition(m));
     if a == 0 {
         return 0;
     }
@@ -151,7 +160,11 @@ fn quick_states(text: &[u8], at: usize, rec: &mut [u8], n: usize) -> usize
     ensures { λ r. ⌜ (r ≤ length (now (text .entry))) ⌝ }
     ensures { λ r. ⌜ (0 < r → (getD (now (rec .exit)) 0 0 ≡ n) × Leads (now (text .entry)) Due.Goal (now (rec .entry)) at Due.Patterns (now (rec .exit)) r) ⌝ }
 {
-    let a = quick_pairs_line(text, at, rec, b"goal=", n, AT_GOAL);
+    let goal = behind(text, at, b"goal=");
+    if goal == 0 {
+        return 0;
+    }
+    let a = quick_pairs(text, goal, rec, n, AT_GOAL);
     if a == 0 {
         return 0;
     }

@@ -1,20 +1,23 @@
--- `reader::quick_items::quick_item` meets its contract, kind by kind. Assumes nothing.
+-- `reader::quick_items::quick_item` meets its contract, kind by kind; pairs are not read by it. Assumes nothing.
 use borrow.Author.Needs.{needs}
 use Rattle.reader.proofs.quick_items.quick_item.Statement.{statement}
 use Rattle.reader.proofs.quick_items.quick_item.Tie as tie
 use mathlib.Core.Path.{sym, subst}
+use native.Mathlib.Omega.{arith}
 use Rattle.reader.specs.declared.lists.Kind.{Kind}
 use Rattle.reader.specs.Quick.{ItemAt}
 use Rattle.reader.proofs.QuickNumbers.{value-at, member-at}
 
 returns : tie.Need-returns
-returns c = (c .quick-pair .ensures .0, λ h k. subst (λ (x : Kind). ItemAt (c .before .before .before .before .args .text .now) (c .before .before .before .before .args .at) x (c .before .before .before .before .args .next) (c .quick-pair .result .variable) (c .quick-pair .result .value) (c .quick-pair .result .end)) (sym (c .before .enum-told .given .1)) (c .quick-pair .ensures .1 h k))
+returns c = (search needs, λ h. absurd (omega arith))
 
 returns-2 : tie.Need-returns-2
-returns-2 c = (search needs, λ h k. let a = c .short-number .ensures .1 k in subst (λ (x : Kind). ItemAt (c .before .before .before .before .args .text .now) (c .before .before .before .before .args .at) x (c .before .before .before .before .args .next) (c .before .before .before .before .args .next) (c .short-number .result .value) (c .short-number .result .end)) (sym (c .before .enum-told2 .given .1)) (value-at (c .before .before .before .before .args .text .now) (c .before .before .before .before .args .at) (c .before .before .before .before .args .next) _ _ (c .before .before .before .before .pre .1) (a .0) (a .1)))
+returns-2 c = let e = c .before .before .before .before .args in let s = c .small-number in
+    (search needs, λ h. let a = s .ensures .1 h in (a .0, subst (λ (x : Kind). ItemAt (e .text .now) (e .at) x (e .next) (e .next) (s .result .value) (s .result .end)) (sym (c .before .enum-told2 .given .1)) (value-at (e .text .now) (e .at) (e .next) _ _ (c .before .before .before .before .pre .1) (omega arith) (a .1))))
 
 returns-3 : tie.Need-returns-3
-returns-3 c = (search needs, λ h k. let a = c .short-number2 .ensures .1 h in subst (λ (x : Kind). ItemAt (c .before .before .before .before .args .text .now) (c .before .before .before .before .args .at) x (c .before .before .before .before .args .next) (c .short-number2 .result .value) 1 (c .short-number2 .result .end)) (sym (c .before .enum-told3 .given .1)) (member-at (c .before .before .before .before .args .text .now) (c .before .before .before .before .args .at) (c .before .before .before .before .args .next) _ _ (a .0) (a .1)))
+returns-3 c = let e = c .before .before .before .before .args in let s = c .small-number2 in
+    (search needs, λ h. let a = s .ensures .1 h in (a .0, subst (λ (x : Kind). ItemAt (e .text .now) (e .at) x (e .next) (s .result .value) 1 (s .result .end)) (sym (c .before .enum-told3 .given .1)) (member-at (e .text .now) (e .at) (e .next) _ _ (omega arith) (a .1))))
 
 pub quick-item-spec : {M : Type 1} → statement M
 quick-item-spec =

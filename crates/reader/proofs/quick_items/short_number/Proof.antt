@@ -18,7 +18,7 @@ cast-t12 c = let d = c .before .before .before .is-digit .ensures (not-false _ (
 
 returns-2 : tie.Need-returns-2
 returns-2 c = let d = c .before .before .before .is-digit .ensures (not-false _ (c .before .before .if1 .left)) in
-    ((omega arith, omega arith, omega arith), λ h. (omega arith, one-digit (c .before .before .before .before .before .before .before .args .text .now) (c .before .before .before .before .before .before .before .args .at) _ refl (d .0) (d .1) (omega arith)))
+    ((omega arith, omega arith), λ h. (omega arith, one-digit (c .before .before .before .before .before .before .before .args .text .now) (c .before .before .before .before .before .before .before .args .at) _ refl (d .0) (d .1) (omega arith)))
 
 returns-3 : tie.Need-returns-3
 returns-3 c = (search needs, λ h. absurd (omega arith))
@@ -43,7 +43,7 @@ add-t17 c = let a = c .before .before .before .before .is-digit .ensures (not-fa
 
 returns-4 : tie.Need-returns-4
 returns-4 c = let a = c .before .before .before .before .is-digit .ensures (not-false _ (c .before .before .before .if1 .left)) in let d = c .before .before .is-digit2 .ensures (not-false _ (c .before .if2 .left)) in
-    ((omega arith, omega arith, omega arith), λ h. (omega arith, two-digits (c .before .before .before .before .before .before .before .before .args .text .now) (c .before .before .before .before .before .before .before .before .args .at) _ refl (a .0) (a .1) _ refl (d .0) (d .1) (c .if3 .left) (omega arith)))
+    ((omega arith, omega arith), λ h. (omega arith, two-digits (c .before .before .before .before .before .before .before .before .args .text .now) (c .before .before .before .before .before .before .before .before .args .at) _ refl (a .0) (a .1) _ refl (d .0) (d .1) (c .if3 .left) (omega arith)))
 
 pub short-number-spec : {M : Type 1} → statement M
 short-number-spec =
@@ -53,12 +53,14 @@ short-number-spec =
     (λ c. search needs)
     (λ c. search needs)
     (λ c κs. search needs)
+    (λ c κs. search needs)
     returns
     (λ c κs. search needs)
     sub-t11
     cast-t12
     (λ c. search needs)
     returns-2
+    (λ c κs. search needs)
     returns-3
     sub-t6
     cast-t7

@@ -2,30 +2,28 @@
 use borrow.Author.Needs.{needs}
 use Rattle.reader.proofs.quick_lines.quick_list_line.Statement.{statement}
 use Rattle.reader.proofs.quick_lines.quick_list_line.Tie as tie
-use mathlib.Core.Path.{_∙_, sym}
+use Prim.Native.Nat.{ℕ}
+use mathlib.Core.Path.{subst}
 use native.Mathlib.Omega.{arith}
+use Rattle.reader.specs.Quick.{ListAt}
 
 returns : tie.Need-returns
 returns c = (search needs, λ h. absurd (omega arith))
 
 quick-list-requires : tie.Need-quick-list-requires
-quick-list-requires c κs = (search needs, c .before .before .before .before .before .before .before .pre .1, c .before .before .before .before .before .before .before .pre .2, c .before .before .before .before .before .before .before .pre .3, c .before .before .before .before .before .before .before .pre .4)
+quick-list-requires c κs = let e = c .before .before .behind .ensures (omega arith) in let p = c .before .before .before .before .before .before .pre in
+    (omega (arith, e .0, e .2, p .5), p .1, p .2, p .3, p .4)
 
 returns-2 : tie.Need-returns-2
-returns-2 c = (c .before .before .quick-list .ensures .0, λ h. (sym (c .before .before .before .before .before .key-at .ensures) ∙ c .before .before .before .before .if2 .taken, c .before .before .quick-list .ensures .1 h))
-
-returns-3 : tie.Need-returns-3
-returns-3 c = (search needs, λ h. absurd (omega arith))
+returns-2 c = let a = c .before .before .before .before .before .before .before .before .before .args in let q = c .before .before .quick-list in let e = c .before .before .before .before .before .behind .ensures (omega arith) in
+    (q .ensures .0, λ h. (e .1, subst (λ (k : ℕ). ListAt (a .text .now) k (q .result) (a .kind) (a .rec .now) (a .row) (q .last .1 .1 .0)) (e .0) (q .ensures .1 h)))
 
 pub quick-list-line-spec : {M : Type 1} → statement M
 quick-list-line-spec =
     tie.close
     (tie.spec
-    (λ c. search needs)
-    returns
     (λ c κs. search needs)
-    (λ c. search needs)
+    returns
     quick-list-requires
     (λ c. search needs)
-    returns-2
-    returns-3)
+    returns-2)
