@@ -17,9 +17,9 @@ struct Failure {
 pub struct Failures(Vec<Failure>);
 
 fn slot(state: u64, depth: u32) -> usize {
-    let folded = state ^ (state >> 32);
-    let folded = folded ^ (folded >> 12) ^ (folded >> 23) ^ (u64::from(depth) << 5);
-    folded as usize % SLOTS
+    const SPREAD: u64 = 0x9e37_79b9_7f4a_7c15;
+    let mixed = state.wrapping_mul(SPREAD) ^ u64::from(depth).wrapping_mul(SPREAD << 32);
+    (mixed >> 48) as usize % SLOTS
 }
 
 impl Failures {
