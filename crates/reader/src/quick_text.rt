@@ -1,9 +1,8 @@
 // The lines of a good text in their order, each read once. Every function answers the place of the next line, or 0 where it does not know the
 // lines for good; then the record may hold anything. Assumes a record of full length, and that the counts it cites are read.
 ghost use mathlib.Core.Path.{_≡_};
-ghost use mathlib.Core.Bool.{true, cond};
+ghost use mathlib.Core.Bool.{true};
 ghost use Prim.Native.Nat.{_+_, _<_, _≤_};
-ghost use lib.Dec.{ltb};
 ghost use lib.ListN.{length, getD};
 ghost use Rattle.task_record.specs.Layout.{recordSize, atAction};
 ghost use Rattle.reader.specs.Text.{linesOf, numberOf};
