@@ -1,7 +1,7 @@
 // The compiled task of a record.
 ghost use mathlib.Core.Path.{_≡_};
-ghost use Prim.Native.Nat.{_≤_, _<_};
-ghost use lib.ListN.{length};
+ghost use Prim.Native.Nat.{ℕ, _*_, _≤_, _<_};
+ghost use lib.ListN.{length, getD};
 ghost use Rattle.task_record.specs.Numbers.{actionCount};
 ghost use Rattle.task_record.specs.Record.{Sound};
 ghost use Rattle.task_record.specs.TaskOf.{taskOf};
@@ -41,15 +41,24 @@ fn clear_from(task: &mut [u64], from: usize)
     }
 }
 
-pub(crate) fn compile_record(rec: &[u8], task: &mut [u64; 1282])
-    requires { ⌜ Sound (now rec) ⌝ }
+// The compiled task in words that are 0, those of the actions and of the goal aside.
+pub(crate) fn compile_cleared(rec: &[u8], task: &mut [u64; 1282])
+    requires { ⌜ (Sound (now rec)) × ((i : ℕ) → 20 * actionCount (now rec) ≤ i → i < 1280 → getD (now task) i 0 ≡ 0) ⌝ }
     ensures { λ _. ⌜ now (task .exit) ≡ compiled (taskOf (now (rec .entry))) ⌝ }
 {
     compile_actions(rec, task);
-    clear_from(task, 20 * wide(action_count(rec)));
     let goal = goal_cells(rec);
     let mask = pack(NAMING, goal);
     let value = pack(SETTING, goal);
     put(task, 1280, mask);
     put(task, 1281, value);
+}
+
+// The compiled task in words that are lent.
+pub(crate) fn compile_record(rec: &[u8], task: &mut [u64; 1282])
+    requires { ⌜ Sound (now rec) ⌝ }
+    ensures { λ _. ⌜ now (task .exit) ≡ compiled (taskOf (now (rec .entry))) ⌝ }
+{
+    clear_from(task, 20 * wide(action_count(rec)));
+    compile_cleared(rec, task);
 }
