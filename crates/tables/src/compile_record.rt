@@ -8,11 +8,10 @@ ghost use Rattle.task_record.specs.TaskOf.{taskOf};
 ghost use Rattle.tables.specs.Packed.{compiled};
 ghost use Rattle.tables.specs.Compiling.{ActionsCompiled, Cleared};
 use crate::compile::compile_action;
+use crate::compile::named_digits;
 use crate::compile::put;
-use crate::packed::NAMING;
-use crate::packed::SETTING;
-use crate::packed::pack;
 use crate::ranking::wide;
+use crate::words::words_of;
 use task_record::cells::action_count;
 use task_record::cells::goal_cells;
 
@@ -48,10 +47,10 @@ pub(crate) fn compile_cleared(rec: &[u8], task: &mut [u64; 1282])
 {
     compile_actions(rec, task);
     let goal = goal_cells(rec);
-    let mask = pack(NAMING, goal);
-    let value = pack(SETTING, goal);
+    let words = words_of(goal);
+    let mask = named_digits(goal, words.keep);
     put(task, 1280, mask);
-    put(task, 1281, value);
+    put(task, 1281, words.value);
 }
 
 // The compiled task in words that are lent.

@@ -12,11 +12,11 @@ compile-actions-requires c κs = search needs
 goal-cells-requires : tie.Need-goal-cells-requires
 goal-cells-requires c κs = search needs
 
-pack-requires : tie.Need-pack-requires
-pack-requires c κs = let start = c .before .before .before .before in rw (c .goal-cells .ensures) (part-few (drop atGoal (start .args .rec .now)))
+words-of-requires : tie.Need-words-of-requires
+words-of-requires c κs = let start = c .before .before .before .before in rw (c .goal-cells .ensures) (part-few (drop atGoal (start .args .rec .now)))
 
-pack-requires-2 : tie.Need-pack-requires-2
-pack-requires-2 c κs = let start = c .before .before .before .before .before in rw (c .before .goal-cells .ensures) (part-few (drop atGoal (start .args .rec .now)))
+named-digits-requires : tie.Need-named-digits-requires
+named-digits-requires c κs = let start = c .before .before .before .before .before in (rw (c .before .goal-cells .ensures) (part-few (drop atGoal (start .args .rec .now))), c .words-of .ensures .0)
 
 put-requires : tie.Need-put-requires
 put-requires c κs = search needs
@@ -28,7 +28,7 @@ returns : tie.Need-returns
 returns c = let goal = c .before .before .before .before .before .before in let actions = goal .before in let lent = actions .before in let start = lent .before .before in
     record-compiled (start .args .rec .now) (start .pre .0) (start .args .task .now) (actions .compile-actions .last .1 .0) _
     (lent .compile-actions-arg .given .0 .1) (start .pre .1) (actions .compile-actions .ensures)
-    (rw (c .before .before .put .ensures, c .before .before .before .before .before .pack .ensures, c .before .before .before .before .pack2 .ensures, goal .goal-cells .ensures) at (c .put2 .ensures))
+    (rw (c .before .before .put .ensures, c .before .before .before .before .named-digits .ensures, c .before .before .before .before .before .words-of .ensures .1, goal .goal-cells .ensures) at (c .put2 .ensures))
 
 pub compile-cleared-spec : {M : Type 1} → statement M
 compile-cleared-spec =
@@ -36,8 +36,8 @@ compile-cleared-spec =
     (tie.spec
     compile-actions-requires
     goal-cells-requires
-    pack-requires
-    pack-requires-2
+    words-of-requires
+    named-digits-requires
     put-requires
     put-requires-2
     returns)
