@@ -16,7 +16,7 @@ use Rattle.planning.specs.Finite.{anyFrom}
 use Rattle.planning.proofs.Test.{T-true, and-l, and-r, by-test}
 use Rattle.planning.proofs.Finite.{length-tabulate, getD-tabulate}
 use Rattle.tables.specs.Packed.{outcomeCount, keepMask}
-use Rattle.tables.specs.Steps.{weigh, Space, isGoal, permitted, idles, worst, raised, Below, offer, offerAt, permittedAt, Steps, none, more, started, total, lowers, relaxed, RowSwept, RowPassed, Swept, Settled, Tried}
+use Rattle.tables.specs.Steps.{weigh, Space, isGoal, permitted, idles, worst, raised, Below, offer, offerAt, permittedAt, Steps, none, more, started, total, lowers, relaxed, RowSwept, RowPassed, Swept}
 use Rattle.tables.proofs.Settled.{then, steps-length}
 
 -- The index of a word, digit by digit.
@@ -259,29 +259,3 @@ pass-end v l = record {
   still = λ e. (v .same e .0, record { low = λ j i b c q p. v .same e .1 j i (omega arith) c q p });
   less = v .less;
 }
-
--- Tries after each other.
-pub tried-none : (x : Space) (t queue counts : List ℕ) → Tried x t t queue queue counts counts
-tried-none x t queue counts = record { steps = none; entries-long = refl; queue-long = refl; counts-long = refl }
-
-pub tried-then : {x : Space} {t u w q q₁ q₂ c c₁ c₂ : List ℕ} → Tried x t u q q₁ c c₁ → Tried x u w q₁ q₂ c₁ c₂ → Tried x t w q q₂ c c₂
-tried-then a b = record { steps = then (a .steps) (b .steps); entries-long = b .entries-long ∙ a .entries-long; queue-long = b .queue-long ∙ a .queue-long; counts-long = b .counts-long ∙ a .counts-long }
-
-pub tried-steps : {x : Space} {t u q q₁ c c₁ : List ℕ} → Steps x t u → length q₁ ≡ length q → length c₁ ≡ length c → Tried x t u q q₁ c c₁
-tried-steps s q c = record { steps = s; entries-long = steps-length s; queue-long = q; counts-long = c }
-
-pub try-misses : (x : Space) (t new : List ℕ) (m i : ℕ) → new ≡ relaxed (x .task) (x .mask) (x .weights) t m i (getD (x .states) i 0) → lowers (x .task) (x .mask) (x .weights) t m i (getD (x .states) i 0) ≡ false → Steps x t new
-unfolding relaxed
-try-misses x t new m i p q = let n = rw q at p in rw n none
-
-pub try-hits : (x : Space) (t new : List ℕ) (m i : ℕ) → m < x .actions → i < length t → new ≡ relaxed (x .task) (x .mask) (x .weights) t m i (getD (x .states) i 0) → lowers (x .task) (x .mask) (x .weights) t m i (getD (x .states) i 0) ≡ true → Steps x t new
-unfolding relaxed lowers offerAt permittedAt
-try-hits x t new m i b l p q =
-    let s = getD (x .states) i 0 in
-    let d = offer (x .task) (x .mask) (x .weights) t m s in
-    let a : permitted (x .task) (x .mask) m s ≡ true = T-true (permitted (x .task) (x .mask) m s) (and-l (permitted (x .task) (x .mask) m s) (ltb d (getD t i 0)) (rw q tt)) in
-    let h : d < getD t i 0 = ltb-true d (getD t i 0) (T-true (ltb d (getD t i 0)) (and-r (permitted (x .task) (x .mask) m s) (ltb d (getD t i 0)) (rw q tt))) in
-    let n = rw q at p in rw n (more m i b l a h none)
-
-pub settled-after : {x : Space} {t u w q q₁ c c₁ : List ℕ} → Tried x t u q q₁ c c₁ → Settled x u w → Settled x t w
-settled-after a b = record { steps = then (a .steps) (b .steps); stable = b .stable }

@@ -136,10 +136,3 @@ pub record Sized (sizes p : List ℕ) (n : ℕ) : Type 0 where
 pub record Extended (old new : List ℕ) (w end place : ℕ) : Type 0 where
   pub long : length new ≡ length old
   pub words : (f : ℕ → ℕ) → ((k : ℕ) → k < w → getD old k 0 ≡ f k) → ((k : ℕ) → k + w < end → f (k + w) ≡ f k + place) → ((k : ℕ) → f k < 18446744073709551616) → w ≤ end → (k : ℕ) → k < end → getD new k 0 ≡ f k
-
--- What the order of tries may do to what is lent: entries fall by steps, and each slice keeps its length.
-pub record Tried (x : Space) (t new queue queue₁ counts counts₁ : List ℕ) : Type 0 where
-  pub steps : Steps x t new
-  pub entries-long : length new ≡ length t
-  pub queue-long : length queue₁ ≡ length queue
-  pub counts-long : length counts₁ ≡ length counts

@@ -242,30 +242,45 @@ fn guess_of(step: u64, i: usize, s: u64) -> usize
         (s >> (step / 281474976710656 % 64)) % 16,
         (step / 65536 % 65536) as u16,
     );
-    let two = times(
-        (s >> (step / 18014398509481984 % 64)) % 16,
-        (step / 4294967296 % 65536) as u16,
-    );
-    (i + (step % 65536) as usize + 2097152 - one - two) % 65536
+    let to = i + (step % 65536) as usize + 2097152 - one;
+    let weight = (step / 4294967296 % 65536) as u16;
+    if weight == 0 {
+        return to % 65536;
+    }
+    let two = times((s >> (step / 18014398509481984 % 64)) % 16, weight);
+    (to - two) % 65536
 }
 
+// The steps of action m.
+fn put_steps(task: &[u64; 1282], mask: u64, weights: &[u16; 16], m: usize, steps: &mut [u64; 512])
+    requires { ⌜ (m < 64) × (outcomeCount (now task) m ≤ 8) ⌝ }
+{
+    let n = task[20 * m + 2] as usize;
+    let mut o = 0usize;
+    while o < n {
+        steps[8 * m + o] = step_of(task, mask, weights, m, o);
+        o += 1;
+    }
+}
+
+// The steps of the actions in a set.
 fn fill_steps(
     task: &[u64; 1282],
     mask: u64,
     weights: &[u16; 16],
     actions: usize,
+    set: u64,
     steps: &mut [u64; 512],
 )
     requires { ⌜ Readable (now task) actions ⌝ }
 {
+    let mut rest = set;
     let mut m = 0usize;
     while m < actions {
-        let n = task[20 * m + 2] as usize;
-        let mut o = 0usize;
-        while o < n {
-            steps[8 * m + o] = step_of(task, mask, weights, m, o);
-            o += 1;
+        if rest % 2 == 1 {
+            put_steps(task, mask, weights, m, steps);
         }
+        rest = rest / 2;
         m += 1;
     }
 }
@@ -285,7 +300,7 @@ pub(crate) fn is_certified(
     ensures { λ r. ⌜ (r ≡ true → Certified (space (now (task .entry)) mask (now (weights .entry)) (now (states .entry)) actions) (now (entries .entry))) ⌝ }
 {
     let mut steps = [0u64; 512];
-    fill_steps(task, mask, weights, actions, &mut steps);
+    fill_steps(task, mask, weights, actions, live, &mut steps);
     let mut sets = [0u64; 2048];
     fill_sets(task, mask, actions, bytes, &mut sets);
     let mut i = 0usize;
