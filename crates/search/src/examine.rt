@@ -127,7 +127,7 @@ pub(crate) fn examine(
     rows: &[u16; 2048],
     guide: &[u32; 80],
     tables: &[u16],
-    memory: &mut [u64; 4096],
+    memory: &mut [u64; 2048],
     plan: &mut [u8],
     v: Visit,
 ) -> Ending
@@ -166,7 +166,7 @@ pub(crate) fn outcomes(
     rows: &[u16; 2048],
     guide: &[u32; 80],
     tables: &[u16],
-    memory: &mut [u64; 4096],
+    memory: &mut [u64; 2048],
     plan: &mut [u8],
     m: usize,
     v: Visit,
@@ -207,7 +207,7 @@ pub(crate) fn follow(
     rows: &[u16; 2048],
     guide: &[u32; 80],
     tables: &[u16],
-    memory: &mut [u64; 4096],
+    memory: &mut [u64; 2048],
     plan: &mut [u8],
     v: Visit,
 ) -> Ending

@@ -52,7 +52,7 @@ fn examine_start(
     rows: &[u16; 2048],
     guide: &[u32; 80],
     tables: &[u16],
-    memory: &mut [u64; 4096],
+    memory: &mut [u64; 2048],
     plan: &mut [u8],
     v: Visit,
 ) -> Ending
@@ -81,7 +81,7 @@ fn deepen(
     rows: &[u16; 2048],
     guide: &[u32; 80],
     tables: &[u16],
-    memory: &mut [u64; 4096],
+    memory: &mut [u64; 2048],
     plan: &mut [u8],
     s: u64,
     from: u32,
@@ -118,7 +118,7 @@ fn conclude(
     rows: &[u16; 2048],
     guide: &[u32; 80],
     tables: &[u16],
-    memory: &mut [u64; 4096],
+    memory: &mut [u64; 2048],
     plan: &mut [u8],
     s: u64,
 ) -> Conclusion
@@ -174,7 +174,7 @@ pub(crate) fn run_rounds(
     rows: &[u16; 2048],
     guide: &[u32; 80],
     tables: &[u16],
-    memory: &mut [u64; 4096],
+    memory: &mut [u64; 2048],
     plan: &mut [u8],
     s: u64,
 ) -> Answer

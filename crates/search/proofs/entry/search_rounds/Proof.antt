@@ -14,7 +14,7 @@ start-word-requires c κs = search needs
 
 run-rounds-requires : tie.Need-run-rounds-requires
 run-rounds-requires c κs = let p = c .before .before .before .before .before .before .pre in let l = limit-right _ (p .0) in
-    (p .4, nothing-remembered _ _ 4096, omega (arith, l, p .5 .limit))
+    (p .4, nothing-remembered _ _ 2048, omega (arith, l, p .5 .limit))
 
 same-length : tie.Need-same-length
 same-length c = search needs
