@@ -5,12 +5,12 @@ ghost use mathlib.Core.Path.{_≡_};
 ghost use Prim.Native.Nat.{_≤_, _<_};
 ghost use Rattle.search.specs.Memory.{Held, Noted};
 
-// The slot of a state with a depth: any place will do, since a slot is asked for both.
+// The slot of a state with a depth: any place will do, since a slot is asked for both. The upper digits of the product are spread well.
 fn slot_of(s: u64, d: u32) -> usize
     ensures { λ r. ⌜ r < 1024 ⌝ }
 {
-    let x = s ^ (s >> 32);
-    let y = x ^ (x >> 12) ^ (x >> 23) ^ ((d as u64) << 5);
+    let x = (s ^ (s >> 32)) % 4294967296;
+    let y = ((x * 2654435769) >> 22) ^ ((d as u64) << 5);
     (y % 1024) as usize
 }
 
