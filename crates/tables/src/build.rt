@@ -37,7 +37,7 @@ fn finish(
         return;
     }
     start(task, mask, states, entries);
-    settle(task, mask, weights, states, actions, entries);
+    settle(task, mask, weights, states, actions, live, entries);
 }
 
 // A table over the states' words: from the goals backwards, and tested. Where every action may leave each state as it is, only the goals count.
@@ -79,8 +79,9 @@ fn build_small(
     fill_states(sizes, pattern, n, &mut states);
     let weights = weights_of(sizes, pattern, n);
     let mask = pack(PICKING, &pattern);
+    let live = lively(task, mask, actions);
     start(task, mask, &states, entries);
-    settle(task, mask, &weights, &states, actions, entries);
+    settle(task, mask, &weights, &states, actions, live, entries);
 }
 
 // A table of any size, with room for the words of its states.
