@@ -2,6 +2,7 @@
 ghost use mathlib.Core.Path.{_≡_};
 ghost use mathlib.Core.Bool.{not, cond};
 ghost use Prim.Native.Nat.{ℕ, _+_, _*_, _/_, _%_, _≤_, _<_};
+ghost use lib.Bits.{bitOr};
 ghost use lib.Dec.{eqb};
 ghost use lib.ListN.{length, getD};
 ghost use Rattle.tables.specs.Packed.{outcomeCount};
@@ -194,7 +195,7 @@ fn sweep_action(
 
 // Whether an outcome names no variable of the pattern. It leads from each abstract state to itself, so the action never says less of an
 // entry.
-pub(crate) fn may_idle(task: &[u64; 1282], mask: u64, m: usize) -> bool
+fn may_idle(task: &[u64; 1282], mask: u64, m: usize) -> bool
     requires { ⌜ (m < 64) × (outcomeCount (now task) m ≤ 8) ⌝ }
     ensures { λ r. ⌜ r ≡ idles (now (task .entry)) mask m ⌝ }
 {
@@ -207,6 +208,29 @@ pub(crate) fn may_idle(task: &[u64; 1282], mask: u64, m: usize) -> bool
         o += 1;
     }
     false
+}
+
+fn joined(set: u64, bit: u64, wanted: bool) -> u64
+    ensures { λ r. ⌜ r ≡ cond wanted (bitOr set bit) set ⌝ }
+{
+    if wanted {
+        return set | bit;
+    }
+    set
+}
+
+// The actions of which no outcome leaves every state as it is.
+pub(crate) fn lively(task: &[u64; 1282], mask: u64, actions: usize) -> u64
+    requires { ⌜ Readable (now task) actions ⌝ }
+    ensures { λ r. ⌜ r ≡ setFrom (λ m. not (idles (now (task .entry)) mask m)) 0 actions ⌝ }
+{
+    let mut set = 0u64;
+    let mut bit = 1u64;
+    for m in 0..actions {
+        set = joined(set, bit, !may_idle(task, mask, m));
+        bit = bit % 9223372036854775808 * 2;
+    }
+    set
 }
 
 // One pass with every action of a set.
