@@ -109,12 +109,6 @@ pub record RowSwept (x : Space) (m : ℕ) (t new : List ℕ) (changed : Bool) : 
   pub still : changed ≡ false → (new ≡ t) × ((i : ℕ) → i < length t → permittedAt x m i ≡ true → getD t i 0 ≤ offerAt x t m i)
   pub less : changed ≡ true → total new < total t
 
--- The same where an action that may leave every state as it is is passed over.
-pub record RowPassed (x : Space) (m : ℕ) (t new : List ℕ) (changed : Bool) : Type 0 where
-  pub steps : Steps x t new
-  pub still : changed ≡ false → (new ≡ t) × ((i : ℕ) → i < length t → idles (x .task) (x .mask) m ≡ false → permittedAt x m i ≡ true → getD t i 0 ≤ offerAt x t m i)
-  pub less : changed ≡ true → total new < total t
-
 pub record Swept (x : Space) (t new : List ℕ) (changed : Bool) : Type 0 where
   pub steps : Steps x t new
   pub still : changed ≡ false → (new ≡ t) × Stable x new

@@ -1,8 +1,7 @@
 // The test of a table that was made in any way: whether each entry is what the entries say of it. Then it is the table of the pattern.
 ghost use mathlib.Core.Path.{_≡_};
-ghost use mathlib.Core.Bool.{true, not, cond};
+ghost use mathlib.Core.Bool.{true, not};
 ghost use Prim.Native.Nat.{ℕ, _+_, _*_, _≤_, _<_};
-ghost use lib.Bits.{bitOr};
 ghost use lib.ListN.{length, getD};
 ghost use Rattle.tables.specs.Packed.{outcomeCount};
 ghost use Rattle.tables.specs.Sets.{setFrom, SetsOf, spread};
@@ -13,7 +12,6 @@ use crate::applying::fill_sets;
 use crate::sweep::at_goal;
 use crate::sweep::entry_at;
 use crate::sweep::index_of;
-use crate::sweep::may_idle;
 use crate::sweep::raise;
 use crate::sweep::state_after;
 use crate::sweep::times;
@@ -140,29 +138,6 @@ fn is_said(
         rest = rest & (rest - 1);
     }
     attained
-}
-
-fn joined(set: u64, bit: u64, wanted: bool) -> u64
-    ensures { λ r. ⌜ r ≡ cond wanted (bitOr set bit) set ⌝ }
-{
-    if wanted {
-        return set | bit;
-    }
-    set
-}
-
-// The actions of which no outcome leaves every state as it is.
-pub(crate) fn lively(task: &[u64; 1282], mask: u64, actions: usize) -> u64
-    requires { ⌜ Readable (now task) actions ⌝ }
-    ensures { λ r. ⌜ r ≡ setFrom (λ m. not (idles (now (task .entry)) mask m)) 0 actions ⌝ }
-{
-    let mut set = 0u64;
-    let mut bit = 1u64;
-    for m in 0..actions {
-        set = joined(set, bit, !may_idle(task, mask, m));
-        bit = bit % 9223372036854775808 * 2;
-    }
-    set
 }
 
 // Whether entry i is what the entries say of it.
