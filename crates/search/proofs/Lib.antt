@@ -16,4 +16,7 @@ pub mod Carrying
 pub mod Trying
 pub mod Endings
 pub mod Remembering
+pub mod Noting
+pub mod Copying
+pub mod Reusing
 pub mod Conclusions

@@ -17,7 +17,7 @@ use Rattle.planning.proofs.Test.{by-test}
 use Rattle.planning.proofs.Shift.{failed-anywhere}
 use Rattle.search.specs.Memory.{stateIn, depthIn, madeIn, Remembers, Held, Noted}
 
-zeros : (n i : ℕ) → getD {A = ℕ} (replicate n 0) i 0 ≡ 0
+pub zeros : (n i : ℕ) → getD {A = ℕ} (replicate n 0) i 0 ≡ 0
 zeros zero i = refl
 zeros (suc n) zero = refl
 zeros (suc n) (suc i) = zeros n i

@@ -6,6 +6,7 @@ pub mod ByteRows
 pub mod Buffer
 pub mod Examination
 pub mod Memory
+pub mod Successes
 pub mod Packed
 pub mod Answer
 pub mod Entry

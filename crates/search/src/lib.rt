@@ -10,3 +10,4 @@ mod memory;
 mod owners;
 mod rounds;
 mod rows;
+mod successes;

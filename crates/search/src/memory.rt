@@ -6,12 +6,13 @@ ghost use Prim.Native.Nat.{_≤_, _<_};
 ghost use Rattle.search.specs.Memory.{Held, Noted};
 
 // The slot of a state with a depth: any place will do, since a slot is asked for both.
-fn slot_of(s: u64, d: u32) -> usize
+pub(crate) fn slot_of(s: u64, d: u32) -> usize
     ensures { λ r. ⌜ r < 2048 ⌝ }
 {
-    let x = s ^ (s >> 32);
-    let y = x ^ (x >> 12) ^ (x >> 23) ^ ((d as u64) << 5);
-    (y % 2048) as usize
+    let low = s % 4294967296;
+    let high = s / 4294967296;
+    let x = low * 1640531535 + high * 1181783497 + (d as u64 % 64) * 2654435769;
+    ((x ^ (x >> 29)) % 2048) as usize
 }
 
 // After how many examinations state s fails with depth d, if that is remembered and at most `room`; else 0.
