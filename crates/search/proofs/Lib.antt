@@ -5,13 +5,14 @@ pub mod PlacesFilled
 pub mod RowsFilled
 pub mod RowValues
 pub mod Owning
+pub mod Openings
+pub mod Guiding
 pub mod RecordSearch
 pub mod Prepared
 pub mod Answered
 pub mod TooLong
 pub mod Demand
 pub mod Bytes
-pub mod Openings
 pub mod Carrying
 pub mod Trying
 pub mod Endings

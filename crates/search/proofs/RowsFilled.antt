@@ -149,14 +149,14 @@ needed-after zs (q ∷ ps) (suc p) h = let k = needed-after zs ps p (omega arith
 -- Patterns below p have their rows and offsets, and the next table begins at `begin`.
 pub record FillingRows (zs : List ℕ) (ps : List (List ℕ)) (rows offsets : List ℕ) (begin p : ℕ) : Type 0 where
   pub passed : p ≤ length ps
-  pub long : length offsets ≡ 8
+  pub long : length offsets ≡ 80
   pub begun : begin ≡ entriesNeeded zs (take p ps)
   pub bounded : begin ≤ 4096 * p
   pub entry : (q v x : ℕ) → q < p → v < length zs → x < 16 → rowEntry rows v x q ≡ x * weightAt zs (getD ps q []) v
   pub offset : (q : ℕ) → q < p → getD offsets q 0 ≡ entriesNeeded zs (take q ps)
 
 module _ (zs : List ℕ) (ps : List (List ℕ)) where
-  pub rows-begin : (rows offsets : List ℕ) → length offsets ≡ 8 → FillingRows zs ps rows offsets 0 0
+  pub rows-begin : (rows offsets : List ℕ) → length offsets ≡ 80 → FillingRows zs ps rows offsets 0 0
   unfolding entriesNeeded
   rows-begin rows offsets l = record {
     passed = omega arith;

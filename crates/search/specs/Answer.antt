@@ -10,6 +10,7 @@ use Rattle.planning.specs.Search.{found, over, spent, none, planBytes, planBuff
 use Rattle.planning.specs.Search as planning
 use Rattle.tables.specs.Packed.{packedSystem}
 use Rattle.search.specs.Buffer.{Holds}
+use Rattle.search.specs.Guide.{patternsIn, variablesIn, actionsIn, budgetIn, limitIn}
 use Rattle.search.specs.Value.{packedValue}
 use Rattle.search.specs.declared.rounds.Conclusion.{Conclusion}
 use Rattle.search.specs.declared.rounds.Answer.{Answer}
@@ -42,3 +43,7 @@ bufferOf n none = planBuffer n none
 -- The search of a compiled task from the packed state s with the estimate from rows.
 abbrev pub packedSearch : (task rows offsets tables : List ℕ) (actions patterns variables budget limit s : ℕ) → planning.Answer
 packedSearch task rows offsets tables actions patterns variables budget limit s = search (packedSystem task actions) (packedValue rows offsets tables patterns variables) budget limit s
+
+-- The same by the guide's numbers.
+abbrev pub guidedSearch : (task rows guide tables : List ℕ) (s : ℕ) → planning.Answer
+guidedSearch task rows guide tables s = packedSearch task rows guide tables (actionsIn guide) (patternsIn guide) (variablesIn guide) (budgetIn guide) (limitIn guide) s

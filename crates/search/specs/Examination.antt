@@ -2,7 +2,7 @@
 use mathlib.Core.Path.{_≡_}
 use mathlib.Core.Bool.{cond}
 use mathlib.Core.List.{List, []}
-use Prim.Native.Nat.{ℕ, _+_, _-_, _<_, _≤_}
+use Prim.Native.Nat.{ℕ, _+_, _-_, _/_, _<_, _≤_}
 use lib.Bits.{bitAnd}
 use lib.Dec.{eqb}
 use lib.ListN.{length}
@@ -13,6 +13,7 @@ use Rattle.tables.specs.Packed.{preMask, preValue, outcomeCount, actionWeight}
 use Rattle.tables.specs.Sets.{setFrom, spread, meetFrom}
 use Rattle.search.specs.Buffer.{Keeps, Holds}
 use Rattle.search.specs.Owned.{Owned}
+use Rattle.search.specs.Guide.{patternsIn, variablesIn, actionsIn, budgetIn, ownersIn}
 use Rattle.search.specs.ByteRows.{BytesOf}
 use Rattle.search.specs.declared.examine.Opening.{Opening}
 use Rattle.search.specs.declared.examine.Ending.{Ending}
@@ -64,9 +65,9 @@ pub record Ready (task : List ℕ) (actions patterns variables budget : ℕ) : T
 pub record Applying (task sets : List ℕ) (actions bytes : ℕ) : Type 0 where
   pub set-is : (s : ℕ) → meetFrom sets 0 (spread bytes) s ≡ setFrom (λ m. eqb (bitAnd s (preMask task m)) (preValue task m)) 0 actions
 
--- All that the search goes by: the compiled task, the sets of actions that apply, the rows by bytes, and the owners of actions.
-pub record Guided (task sets places rows owners : List ℕ) (actions patterns variables bytes budget : ℕ) : Type 0 where
-  pub ready : Ready task actions patterns variables budget
-  pub applying : Applying task sets actions bytes
-  pub placed : BytesOf rows patterns variables places
-  pub owned : Owned task rows actions patterns variables owners
+-- All that the search goes by: the compiled task, the sets of actions that apply, the rows by bytes, and the guide's numbers.
+pub record Guided (task sets places rows guide : List ℕ) : Type 0 where
+  pub ready : Ready task (actionsIn guide) (patternsIn guide) (variablesIn guide) (budgetIn guide)
+  pub applying : Applying task sets (actionsIn guide) ((variablesIn guide + 1) / 2)
+  pub placed : BytesOf rows (patternsIn guide) (variablesIn guide) places
+  pub owned : Owned task rows (actionsIn guide) (patternsIn guide) (variablesIn guide) (ownersIn guide)

@@ -1,6 +1,7 @@
 -- What the contracts of this crate cite, in reading order.
 pub mod Value
 pub mod Owned
+pub mod Guide
 pub mod Rows
 pub mod ByteRows
 pub mod Buffer

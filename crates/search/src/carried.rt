@@ -5,78 +5,69 @@ ghost use Prim.Native.Nat.{_<_, _≤_};
 ghost use lib.ListN.{getD};
 ghost use Rattle.planning.specs.Extended.{fin};
 ghost use Rattle.search.specs.ByteRows.{BytesOf};
-ghost use Rattle.search.specs.Value.{patternEntry, packedValue, restOf, sumWith};
+ghost use Rattle.search.specs.Guide.{patternsIn, variablesIn, ownersIn};
+ghost use Rattle.search.specs.Packed.{guidedValue};
+ghost use Rattle.search.specs.Value.{patternEntry, restOf, sumWith};
 use crate::byte_rows::index_by_bytes;
 use crate::estimate::cost_at;
-use crate::rows::wide;
-
-pub(crate) fn owner_of(owners: &[u8; 64], m: usize) -> usize
-    requires { ⌜ m < 64 ⌝ }
-    ensures { λ r. ⌜ r ≡ getD (now (owners .entry)) m 0 ⌝ }
-{
-    wide(owners[m])
-}
+use crate::guide::owner_in;
+use crate::guide::patterns_in;
+use crate::guide::variables_in;
 
 // The entry of a state in the table of pattern p.
 fn entry_in(
     places: &[u16; 4120],
     rows: &[u16; 2048],
-    offsets: &[u32; 8],
+    guide: &[u32; 80],
     tables: &[u16],
     s: u64,
     p: usize,
-    patterns: usize,
-    variables: usize,
 ) -> u32
-    requires { ⌜ (BytesOf (now rows) patterns variables (now places)) × (p < patterns) × (patterns ≤ 8) × (variables ≤ 16) ⌝ }
-    ensures { λ r. ⌜ (r ≡ patternEntry (now (rows .entry)) (now (offsets .entry)) (now (tables .entry)) variables s p) × (r < 65536) ⌝ }
+    requires { ⌜ (BytesOf (now rows) (patternsIn (now guide)) (variablesIn (now guide)) (now places)) × (patternsIn (now guide) ≤ 8) × (variablesIn (now guide) ≤ 16) × (p < patternsIn (now guide)) ⌝ }
+    ensures { λ r. ⌜ (r ≡ patternEntry (now (rows .entry)) (now (guide .entry)) (now (tables .entry)) (variablesIn (now (guide .entry))) s p) × (r < 65536) ⌝ }
 {
-    cost_at(
-        offsets,
-        tables,
-        p,
-        index_by_bytes(places, rows, s, p, patterns, variables),
-    )
+    let patterns = patterns_in(guide);
+    let variables = variables_in(guide);
+    let i = index_by_bytes(places, rows, s, p, patterns, variables);
+    cost_at(guide, tables, p, i)
 }
 
-// What the patterns other than p add to the value of s.
+// What the patterns that do not own action m add to the value of s.
 pub(crate) fn rest_of(
     places: &[u16; 4120],
     rows: &[u16; 2048],
-    offsets: &[u32; 8],
+    guide: &[u32; 80],
     tables: &[u16],
     s: u64,
-    p: usize,
-    patterns: usize,
-    variables: usize,
+    m: usize,
     value: u32,
 ) -> u32
-    requires { ⌜ (BytesOf (now rows) patterns variables (now places)) × (patterns ≤ 8) × (variables ≤ 16) × (packedValue (now rows) (now offsets) (now tables) patterns variables s ≡ fin value) ⌝ }
-    ensures { λ r. ⌜ (r ≡ restOf (now (rows .entry)) (now (offsets .entry)) (now (tables .entry)) patterns variables s p value) × (r ≤ value) ⌝ }
+    requires { ⌜ (BytesOf (now rows) (patternsIn (now guide)) (variablesIn (now guide)) (now places)) × (patternsIn (now guide) ≤ 8) × (variablesIn (now guide) ≤ 16) × (m < 64) × (guidedValue (now rows) (now guide) (now tables) s ≡ fin value) ⌝ }
+    ensures { λ r. ⌜ (r ≡ restOf (now (rows .entry)) (now (guide .entry)) (now (tables .entry)) (patternsIn (now (guide .entry))) (variablesIn (now (guide .entry))) s (getD (ownersIn (now (guide .entry))) m 0) value) × (r ≤ value) ⌝ }
 {
-    if p < patterns {
-        return value - entry_in(places, rows, offsets, tables, s, p, patterns, variables);
+    let p = owner_in(guide, m);
+    if p < patterns_in(guide) {
+        return value - entry_in(places, rows, guide, tables, s, p);
     }
     value
 }
 
-// What they add, and the entry of x in pattern p.
+// What they add, and the entry of x in the pattern that owns m.
 pub(crate) fn sum_with(
     places: &[u16; 4120],
     rows: &[u16; 2048],
-    offsets: &[u32; 8],
+    guide: &[u32; 80],
     tables: &[u16],
     x: u64,
-    p: usize,
-    patterns: usize,
-    variables: usize,
+    m: usize,
     rest: u32,
 ) -> u32
-    requires { ⌜ (BytesOf (now rows) patterns variables (now places)) × (patterns ≤ 8) × (variables ≤ 16) × (rest ≤ 32) ⌝ }
-    ensures { λ r. ⌜ r ≡ sumWith (now (rows .entry)) (now (offsets .entry)) (now (tables .entry)) patterns variables x p rest ⌝ }
+    requires { ⌜ (BytesOf (now rows) (patternsIn (now guide)) (variablesIn (now guide)) (now places)) × (patternsIn (now guide) ≤ 8) × (variablesIn (now guide) ≤ 16) × (m < 64) × (rest ≤ 32) ⌝ }
+    ensures { λ r. ⌜ r ≡ sumWith (now (rows .entry)) (now (guide .entry)) (now (tables .entry)) (patternsIn (now (guide .entry))) (variablesIn (now (guide .entry))) x (getD (ownersIn (now (guide .entry))) m 0) rest ⌝ }
 {
-    if p < patterns {
-        return rest + entry_in(places, rows, offsets, tables, x, p, patterns, variables);
+    let p = owner_in(guide, m);
+    if p < patterns_in(guide) {
+        return rest + entry_in(places, rows, guide, tables, x, p);
     }
     rest
 }

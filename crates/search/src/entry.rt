@@ -2,22 +2,22 @@
 // is answered, is said for all records.
 ghost use mathlib.Core.Path.{_≡_};
 ghost use lib.ListN.{length};
-ghost use Prim.Native.Nat.{_+_, _/_, _<_};
 ghost use Rattle.planning.specs.Pattern.{Additive};
 ghost use Rattle.planning.specs.Table.{Small};
-ghost use Rattle.task_record.specs.Numbers.{actionCount, patternCount, variableCount};
 ghost use Rattle.task_record.specs.Record.{Sound};
 ghost use Rattle.task_record.specs.TaskOf.{taskOf, patternsOf, startOf};
 ghost use Rattle.tables.specs.Packed.{packBy, low, compiled};
 ghost use Rattle.tables.specs.RecordTables.{tablesPrepared};
 ghost use Rattle.search.specs.Rows.{RowsOf};
-ghost use Rattle.search.specs.Owned.{Owned};
-ghost use Rattle.search.specs.ByteRows.{BytesOf};
-ghost use Rattle.search.specs.Examination.{Applying};
+ghost use Rattle.search.specs.Examination.{Guided};
+ghost use Rattle.search.specs.Guide.{Sized};
 ghost use Rattle.search.specs.Answer.{answerOf, bufferOf};
 ghost use Rattle.search.specs.Entry.{HoldsTables, taskAnswer, widened, searchOf, searchAnswer, planAfter};
 use crate::byte_rows::fill_places;
-use crate::owners::fill_owners;
+use crate::guide::bytes_in;
+use crate::guide::fill_guide;
+use crate::guide::patterns_in;
+use crate::guide::variables_in;
 use crate::rounds::Answer;
 use crate::rounds::run_rounds;
 use crate::rows::fill_rows;
@@ -27,9 +27,6 @@ use tables::applying::fill_sets;
 use tables::packed::pack_state;
 use tables::record_tables::prepare;
 use task_record::cells::action_count;
-use task_record::cells::budget;
-use task_record::cells::limit;
-use task_record::cells::pattern_count;
 use task_record::cells::start_cells;
 use task_record::cells::variable_count;
 
@@ -58,12 +55,6 @@ fn start_word(rec: &[u8]) -> u64
     pack_state(s)
 }
 
-fn depth(x: u8) -> u32
-    ensures { λ r. ⌜ (r ≡ x) × (r < 256) ⌝ }
-{
-    x as u32
-}
-
 // The rounds from the record's start, with rows that are filled, tables that are built and words that are compiled.
 fn search_rounds(
     rec: &[u8],
@@ -71,38 +62,26 @@ fn search_rounds(
     sets: &[u64; 2048],
     places: &[u16; 4120],
     rows: &[u16; 2048],
-    offsets: &[u32; 8],
-    owners: &[u8; 64],
+    guide: &[u32; 80],
     tables: &[u16],
     plan: &mut [u8],
 ) -> Answer
-    requires { ⌜ (Sound (now rec)) × (Small (taskOf (now rec)) (patternsOf (now rec))) × (now task ≡ compiled (taskOf (now rec))) × (RowsOf (taskOf (now rec) .sizes) (patternsOf (now rec)) (now rows) (now offsets)) × (Applying (now task) (now sets) (actionCount (now rec)) ((variableCount (now rec) + 1) / 2)) × (BytesOf (now rows) (patternCount (now rec)) (variableCount (now rec)) (now places)) × (Owned (now task) (now rows) (actionCount (now rec)) (patternCount (now rec)) (variableCount (now rec)) (now owners)) × (HoldsTables (now rec) (now tables)) ⌝ }
+    requires { ⌜ (Sound (now rec)) × (Small (taskOf (now rec)) (patternsOf (now rec))) × (now task ≡ compiled (taskOf (now rec))) × (RowsOf (taskOf (now rec) .sizes) (patternsOf (now rec)) (now rows) (now guide)) × (Guided (now task) (now sets) (now places) (now rows) (now guide)) × (Sized (now rec) (now guide)) × (HoldsTables (now rec) (now tables)) ⌝ }
     ensures answer { λ r. ⌜ r ≡ answerOf (length (now (plan .entry))) (taskAnswer (now (rec .entry))) ⌝ }
     ensures buffer { λ _. ⌜ now (plan .exit) ≡ bufferOf (length (now (plan .entry))) (taskAnswer (now (rec .entry))) ⌝ }
 {
     let mut memory = [0u64; 4096];
     let s = start_word(rec);
-    let actions = wide(action_count(rec));
-    let patterns = wide(pattern_count(rec));
-    let variables = wide(variable_count(rec));
-    let most = depth(limit(rec));
     run_rounds(
         task,
         sets,
         places,
         rows,
-        offsets,
-        owners,
+        guide,
         tables,
         &mut memory,
         plan,
         s,
-        actions,
-        patterns,
-        variables,
-        (variables + 1) / 2,
-        most,
-        budget(rec),
     )
 }
 
@@ -127,34 +106,20 @@ fn search_built(rec: &[u8], task: &[u64; 1282], tables: &[u16], plan: &mut [u8])
     let mut sets = [0u64; 2048];
     let mut places = [0u16; 4120];
     let mut rows = [0u16; 2048];
-    let mut offsets = [0u32; 8];
-    let mut owners = [8u8; 64];
-    fill_rows(rec, &mut rows, &mut offsets);
-    fill_places(
-        &rows,
-        wide(pattern_count(rec)),
-        wide(variable_count(rec)),
-        &mut places,
-    );
-    fill_owners(rec, task, &mut owners);
+    let mut guide = [0u32; 80];
+    fill_rows(rec, &mut rows, &mut guide);
+    fill_guide(rec, task, &mut guide);
+    let patterns = patterns_in(&guide);
+    let variables = variables_in(&guide);
+    fill_places(&rows, patterns, variables, &mut places);
     fill_sets(
         task,
         18446744073709551615,
         wide(action_count(rec)),
-        (wide(variable_count(rec)) + 1) / 2,
+        bytes_in(&guide),
         &mut sets,
     );
-    widen(search_rounds(
-        rec,
-        task,
-        &sets,
-        &places,
-        &rows,
-        &offsets,
-        &owners,
-        tables,
-        plan,
-    ))
+    widen(search_rounds(rec, task, &sets, &places, &rows, &guide, tables, plan))
 }
 
 // The search from the record's start with its limit and budget. A found plan stands at the start of `plan`; `tables` are built here.

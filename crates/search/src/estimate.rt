@@ -11,7 +11,7 @@ fn wide(x: u16) -> usize
     x as usize
 }
 
-fn place(x: u32) -> usize
+pub(crate) fn place(x: u32) -> usize
     ensures { λ r. ⌜ (r ≡ x) × (r < 4294967296) ⌝ }
 {
     x as usize
@@ -55,11 +55,11 @@ fn entry_at(tables: &[u16], i: usize) -> u16
 }
 
 // The cost that the table of pattern p gives at an index.
-pub(crate) fn cost_at(offsets: &[u32; 8], tables: &[u16], p: usize, i: usize) -> u32
+pub(crate) fn cost_at(guide: &[u32; 80], tables: &[u16], p: usize, i: usize) -> u32
     requires { ⌜ (p < 8) × (i ≤ 65535 * 16) ⌝ }
-    ensures { λ r. ⌜ (r ≡ getD (now (tables .entry)) (getD (now (offsets .entry)) p 0 + i) 65535) × (r < 65536) ⌝ }
+    ensures { λ r. ⌜ (r ≡ getD (now (tables .entry)) (getD (now (guide .entry)) p 0 + i) 65535) × (r < 65536) ⌝ }
 {
-    cost(entry_at(tables, place(offsets[p]) + i))
+    cost(entry_at(tables, place(guide[p]) + i))
 }
 
 pub(crate) enum Value {
@@ -70,18 +70,18 @@ pub(crate) enum Value {
 // The value of a state.
 pub(crate) fn value_of(
     rows: &[u16; 2048],
-    offsets: &[u32; 8],
+    guide: &[u32; 80],
     tables: &[u16],
     s: u64,
     patterns: usize,
     variables: usize,
 ) -> Value
     requires { ⌜ (patterns ≤ 8) × (variables ≤ 16) ⌝ }
-    ensures { λ r. ⌜ r ≡ valueOf (packedValue (now (rows .entry)) (now (offsets .entry)) (now (tables .entry)) patterns variables s) ⌝ }
+    ensures { λ r. ⌜ r ≡ valueOf (packedValue (now (rows .entry)) (now (guide .entry)) (now (tables .entry)) patterns variables s) ⌝ }
 {
     let mut sum = 0u32;
     for p in 0..patterns {
-        let e = cost_at(offsets, tables, p, index_of(rows, s, p, variables));
+        let e = cost_at(guide, tables, p, index_of(rows, s, p, variables));
         if e == 65535 {
             return Value::Infinite;
         }

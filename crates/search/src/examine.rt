@@ -2,7 +2,7 @@
 // once stand before the call, so that a leaf of the search costs none. The count of examinations is carried in every ending.
 // A failure is remembered and not examined again.
 // The value of a state is carried: an outcome changes it in the action's owner only. Asks for what the search goes by (`Guided`: every weight 1,
-// at most 8 outcomes, the sets of applying actions, the owners), a count within the budget and a depth of at most 32.
+// at most 8 outcomes, the sets of applying actions, the guide), a count within the budget and a depth of at most 32.
 ghost use mathlib.Core.Path.{_≡_};
 ghost use Prim.Native.Nat.{ℕ, _+_, _-_, _<_, _≤_};
 ghost use lib.Bits.{bitAnd};
@@ -11,18 +11,20 @@ ghost use lib.Dec.{leb};
 ghost use Rattle.planning.specs.Extended.{ℕ∞, fin, _≤?_};
 ghost use Rattle.planning.specs.Plan.{encode, encodes};
 ghost use Rattle.tables.specs.Packed.{packedSystem};
-ghost use Rattle.search.specs.Value.{packedValue, Estimated};
+ghost use Rattle.search.specs.Guide.{actionsIn, budgetIn};
+ghost use Rattle.search.specs.Value.{Estimated};
 ghost use Rattle.search.specs.Examination.{openingOf, Examined, Guided};
 ghost use Rattle.search.specs.Memory.{Remembers};
-ghost use Rattle.search.specs.Packed.{packedExamination, packedOpening, packedOutcomes};
+ghost use Rattle.search.specs.Packed.{guidedExamination, guidedOpening, guidedOutcomes, guidedValue};
 ghost use Rattle.search.specs.declared.examine.Opening.{Opening};
 use crate::buffer::put;
-use crate::carried::owner_of;
 use crate::carried::rest_of;
 use crate::carried::sum_with;
 use crate::compiled::is_goal;
 use crate::compiled::outcome_count;
 use crate::compiled::successor;
+use crate::guide::budget_in;
+use crate::guide::bytes_in;
 use crate::memory::recall;
 use crate::memory::remember;
 use tables::applying::applying;
@@ -123,45 +125,22 @@ pub(crate) fn examine(
     sets: &[u64; 2048],
     places: &[u16; 4120],
     rows: &[u16; 2048],
-    offsets: &[u32; 8],
-    owners: &[u8; 64],
+    guide: &[u32; 80],
     tables: &[u16],
     memory: &mut [u64; 4096],
     plan: &mut [u8],
-    actions: usize,
-    patterns: usize,
-    variables: usize,
-    bytes: usize,
-    budget: u32,
     v: Visit,
 ) -> Ending
-    requires { ⌜ (Guided (now task) (now sets) (now places) (now rows) (now owners) actions patterns variables bytes budget) × (Remembers (packedExamination (now task) (now rows) (now offsets) (now tables) actions patterns variables budget) budget (now memory)) × (v .count ≤ budget) × (v .at ≤ v .count) × (v .d ≤ 32) × (packedValue (now rows) (now offsets) (now tables) patterns variables (v .s) ≡ fin (v .value)) × (packedOpening (now task) (now rows) (now offsets) (now tables) actions patterns variables budget (v .d) (v .s) (v .count) ≡ Opening.Expand) ⌝ }
-    ensures examined { λ r. ⌜ Examined encode (packedExamination (now (task .entry)) (now (rows .entry)) (now (offsets .entry)) (now (tables .entry)) actions patterns variables budget (v .d) (v .s) (v .count)) (v .count) budget (v .at) (now (plan .entry)) (now (plan .exit)) r ⌝ }
-    ensures remembers { λ r. ⌜ Remembers (packedExamination (now (task .entry)) (now (rows .entry)) (now (offsets .entry)) (now (tables .entry)) actions patterns variables budget) budget (now (memory .exit)) ⌝ }
+    requires { ⌜ (Guided (now task) (now sets) (now places) (now rows) (now guide)) × (Remembers (guidedExamination (now task) (now rows) (now guide) (now tables)) (budgetIn (now guide)) (now memory)) × (v .count ≤ budgetIn (now guide)) × (v .at ≤ v .count) × (v .d ≤ 32) × (guidedValue (now rows) (now guide) (now tables) (v .s) ≡ fin (v .value)) × (guidedOpening (now task) (now rows) (now guide) (now tables) (v .d) (v .s) (v .count) ≡ Opening.Expand) ⌝ }
+    ensures examined { λ r. ⌜ Examined encode (guidedExamination (now (task .entry)) (now (rows .entry)) (now (guide .entry)) (now (tables .entry)) (v .d) (v .s) (v .count)) (v .count) (budgetIn (now (guide .entry))) (v .at) (now (plan .entry)) (now (plan .exit)) r ⌝ }
+    ensures remembers { λ _. ⌜ Remembers (guidedExamination (now (task .entry)) (now (rows .entry)) (now (guide .entry)) (now (tables .entry))) (budgetIn (now (guide .entry))) (now (memory .exit)) ⌝ }
 {
     let mut c = v.count + 1;
-    let mut set = applying(sets, v.s, bytes);
+    let mut set = applying(sets, v.s, bytes_in(guide));
     while set != 0 {
         let m = lowest(set);
-        let next = visit_of(v.s, v.value, v.d - 1, c, v.at + 1);
-        match outcomes(
-            task,
-            sets,
-            places,
-            rows,
-            offsets,
-            owners,
-            tables,
-            memory,
-            plan,
-            actions,
-            patterns,
-            variables,
-            bytes,
-            budget,
-            m,
-            next,
-        ) {
+        let w = visit_of(v.s, v.value, v.d - 1, c, v.at + 1);
+        match outcomes(task, sets, places, rows, guide, tables, memory, plan, m, w) {
             Ending::Stopped(e) => {
                 return Ending::Stopped(e);
             }
@@ -185,70 +164,26 @@ pub(crate) fn outcomes(
     sets: &[u64; 2048],
     places: &[u16; 4120],
     rows: &[u16; 2048],
-    offsets: &[u32; 8],
-    owners: &[u8; 64],
+    guide: &[u32; 80],
     tables: &[u16],
     memory: &mut [u64; 4096],
     plan: &mut [u8],
-    actions: usize,
-    patterns: usize,
-    variables: usize,
-    bytes: usize,
-    budget: u32,
     m: usize,
     v: Visit,
 ) -> Ending
-    requires { ⌜ (Guided (now task) (now sets) (now places) (now rows) (now owners) actions patterns variables bytes budget) × (Remembers (packedExamination (now task) (now rows) (now offsets) (now tables) actions patterns variables budget) budget (now memory)) × (v .count ≤ budget) × (v .at ≤ v .count) × (v .d ≤ 32) × (packedValue (now rows) (now offsets) (now tables) patterns variables (v .s) ≡ fin (v .value)) × (v .value ≤ 32) × (m < actions) ⌝ }
-    ensures examined { λ r. ⌜ Examined encodes (packedOutcomes (now (task .entry)) (now (rows .entry)) (now (offsets .entry)) (now (tables .entry)) actions patterns variables budget (v .d) (v .s) m (v .count)) (v .count) budget (v .at) (now (plan .entry)) (now (plan .exit)) r ⌝ }
-    ensures remembers { λ r. ⌜ Remembers (packedExamination (now (task .entry)) (now (rows .entry)) (now (offsets .entry)) (now (tables .entry)) actions patterns variables budget) budget (now (memory .exit)) ⌝ }
+    requires { ⌜ (Guided (now task) (now sets) (now places) (now rows) (now guide)) × (Remembers (guidedExamination (now task) (now rows) (now guide) (now tables)) (budgetIn (now guide)) (now memory)) × (v .count ≤ budgetIn (now guide)) × (v .at ≤ v .count) × (v .d ≤ 32) × (guidedValue (now rows) (now guide) (now tables) (v .s) ≡ fin (v .value)) × (v .value ≤ 32) × (m < actionsIn (now guide)) ⌝ }
+    ensures examined { λ r. ⌜ Examined encodes (guidedOutcomes (now (task .entry)) (now (rows .entry)) (now (guide .entry)) (now (tables .entry)) (v .d) (v .s) m (v .count)) (v .count) (budgetIn (now (guide .entry))) (v .at) (now (plan .entry)) (now (plan .exit)) r ⌝ }
+    ensures remembers { λ _. ⌜ Remembers (guidedExamination (now (task .entry)) (now (rows .entry)) (now (guide .entry)) (now (tables .entry))) (budgetIn (now (guide .entry))) (now (memory .exit)) ⌝ }
 {
     let n = place_of(outcome_count(task, m));
-    let p = owner_of(owners, m);
-    let rest = rest_of(
-        places,
-        rows,
-        offsets,
-        tables,
-        v.s,
-        p,
-        patterns,
-        variables,
-        v.value,
-    );
+    let rest = rest_of(places, rows, guide, tables, v.s, m, v.value);
     let mut c = v.count;
     let mut end = v.at;
-    let mut k = 0usize;
-    while k < n {
+    for k in 0..n {
         let x = successor(task, v.s, m, k);
-        let value = sum_with(
-            places,
-            rows,
-            offsets,
-            tables,
-            x,
-            p,
-            patterns,
-            variables,
-            rest,
-        );
-        let next = visit_of(x, value, v.d, c, end);
-        match follow(
-            task,
-            sets,
-            places,
-            rows,
-            offsets,
-            owners,
-            tables,
-            memory,
-            plan,
-            actions,
-            patterns,
-            variables,
-            bytes,
-            budget,
-            next,
-        ) {
+        let value = sum_with(places, rows, guide, tables, x, m, rest);
+        let w = visit_of(x, value, v.d, c, end);
+        match follow(task, sets, places, rows, guide, tables, memory, plan, w) {
             Ending::Stopped(e) => {
                 return Ending::Stopped(e);
             }
@@ -260,7 +195,6 @@ pub(crate) fn outcomes(
                 end = after;
             }
         }
-        k += 1;
     }
     Ending::Succeeded(c, end)
 }
@@ -271,22 +205,17 @@ pub(crate) fn follow(
     sets: &[u64; 2048],
     places: &[u16; 4120],
     rows: &[u16; 2048],
-    offsets: &[u32; 8],
-    owners: &[u8; 64],
+    guide: &[u32; 80],
     tables: &[u16],
     memory: &mut [u64; 4096],
     plan: &mut [u8],
-    actions: usize,
-    patterns: usize,
-    variables: usize,
-    bytes: usize,
-    budget: u32,
     v: Visit,
 ) -> Ending
-    requires { ⌜ (Guided (now task) (now sets) (now places) (now rows) (now owners) actions patterns variables bytes budget) × (Remembers (packedExamination (now task) (now rows) (now offsets) (now tables) actions patterns variables budget) budget (now memory)) × (v .count ≤ budget) × (v .at ≤ v .count) × (v .d ≤ 32) × (Estimated (packedValue (now rows) (now offsets) (now tables) patterns variables (v .s)) (v .value)) ⌝ }
-    ensures examined { λ r. ⌜ Examined encode (packedExamination (now (task .entry)) (now (rows .entry)) (now (offsets .entry)) (now (tables .entry)) actions patterns variables budget (v .d) (v .s) (v .count)) (v .count) budget (v .at) (now (plan .entry)) (now (plan .exit)) r ⌝ }
-    ensures remembers { λ r. ⌜ Remembers (packedExamination (now (task .entry)) (now (rows .entry)) (now (offsets .entry)) (now (tables .entry)) actions patterns variables budget) budget (now (memory .exit)) ⌝ }
+    requires { ⌜ (Guided (now task) (now sets) (now places) (now rows) (now guide)) × (Remembers (guidedExamination (now task) (now rows) (now guide) (now tables)) (budgetIn (now guide)) (now memory)) × (v .count ≤ budgetIn (now guide)) × (v .at ≤ v .count) × (v .d ≤ 32) × (Estimated (guidedValue (now rows) (now guide) (now tables) (v .s)) (v .value)) ⌝ }
+    ensures examined { λ r. ⌜ Examined encode (guidedExamination (now (task .entry)) (now (rows .entry)) (now (guide .entry)) (now (tables .entry)) (v .d) (v .s) (v .count)) (v .count) (budgetIn (now (guide .entry))) (v .at) (now (plan .entry)) (now (plan .exit)) r ⌝ }
+    ensures remembers { λ _. ⌜ Remembers (guidedExamination (now (task .entry)) (now (rows .entry)) (now (guide .entry)) (now (tables .entry))) (budgetIn (now (guide .entry))) (now (memory .exit)) ⌝ }
 {
+    let budget = budget_in(guide);
     match open_state(task, v.s, v.value, v.d, budget, v.count) {
         Opening::Spent => Ending::Stopped(v.count),
         Opening::Cut => Ending::Failed(v.count + 1),
@@ -299,23 +228,7 @@ pub(crate) fn follow(
             if k != 0 {
                 return Ending::Failed(v.count + k);
             }
-            examine(
-                task,
-                sets,
-                places,
-                rows,
-                offsets,
-                owners,
-                tables,
-                memory,
-                plan,
-                actions,
-                patterns,
-                variables,
-                bytes,
-                budget,
-                v,
-            )
+            examine(task, sets, places, rows, guide, tables, memory, plan, v)
         }
     }
 }

@@ -6,6 +6,7 @@ mod compiled;
 pub mod entry;
 mod estimate;
 mod examine;
+mod guide;
 mod memory;
 mod owners;
 mod rounds;

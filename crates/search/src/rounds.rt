@@ -1,25 +1,31 @@
 // Rounds of examinations from the start, one more depth each, from the value of the start up to the limit; then the plan's buffer is filled
-// up with 255. Asks for what the search goes by (`Guided`) and a limit of at most 32; the buffer may have any length.
+// up with 255. Asks for what the search goes by (`Guided`), a limit of at most 32 and a memory that is true; the buffer may have any length.
 ghost use mathlib.Core.Path.{_≡_};
 ghost use Prim.Native.Nat.{suc, _-_, _≤_};
 ghost use lib.ListN.{length};
 ghost use Rattle.planning.specs.Extended.{fin};
 ghost use Rattle.planning.specs.Plan.{encode};
 ghost use Rattle.planning.specs.Search.{rounds};
+ghost use Rattle.planning.specs.Search as planning;
 ghost use Rattle.tables.specs.Packed.{packedSystem};
-ghost use Rattle.search.specs.Value.{packedValue};
 ghost use Rattle.search.specs.Examination.{Examined, Guided};
+ghost use Rattle.search.specs.Guide.{actionsIn, budgetIn, limitIn};
 ghost use Rattle.search.specs.Memory.{Remembers};
-ghost use Rattle.search.specs.Packed.{packedExamination};
-ghost use Rattle.search.specs.Answer.{Concluded, answerOf, bufferOf, packedSearch};
+ghost use Rattle.search.specs.Packed.{guidedExamination, guidedValue};
+ghost use Rattle.search.specs.Answer.{Concluded, answerOf, bufferOf, guidedSearch};
 use crate::buffer::fill;
 use crate::buffer::put;
 use crate::compiled::is_goal;
 use crate::estimate::Value;
 use crate::estimate::value_of;
 use crate::examine::Ending;
+use crate::examine::Visit;
 use crate::examine::examine;
 use crate::examine::visit_of;
+use crate::guide::budget_in;
+use crate::guide::limit_in;
+use crate::guide::patterns_in;
+use crate::guide::variables_in;
 
 // How the rounds end: found with cost, count and the number of bytes; over with the count; spent with round and count; none.
 pub(crate) enum Conclusion {
@@ -38,59 +44,33 @@ pub(crate) enum Answer {
     None,
 }
 
-// One round: the start, whose value is within d, is examined with depth d.
+// One round: the start, whose value is within the depth, is examined.
 fn examine_start(
     task: &[u64; 1282],
     sets: &[u64; 2048],
     places: &[u16; 4120],
     rows: &[u16; 2048],
-    offsets: &[u32; 8],
-    owners: &[u8; 64],
+    guide: &[u32; 80],
     tables: &[u16],
     memory: &mut [u64; 4096],
     plan: &mut [u8],
-    s: u64,
-    actions: usize,
-    patterns: usize,
-    variables: usize,
-    bytes: usize,
-    value: u32,
-    d: u32,
-    budget: u32,
-    count: u32,
+    v: Visit,
 ) -> Ending
-    requires { ⌜ (Guided (now task) (now sets) (now places) (now rows) (now owners) actions patterns variables bytes budget) × (count ≤ budget) × (d ≤ 32) × (packedValue (now rows) (now offsets) (now tables) patterns variables s ≡ fin value) × (value ≤ d) × (Remembers (packedExamination (now task) (now rows) (now offsets) (now tables) actions patterns variables budget) budget (now memory)) ⌝ }
-    ensures examined { λ r. ⌜ Examined encode (packedExamination (now (task .entry)) (now (rows .entry)) (now (offsets .entry)) (now (tables .entry)) actions patterns variables budget d s count) count budget 0 (now (plan .entry)) (now (plan .exit)) r ⌝ }
-    ensures remembers { λ r. ⌜ Remembers (packedExamination (now (task .entry)) (now (rows .entry)) (now (offsets .entry)) (now (tables .entry)) actions patterns variables budget) budget (now (memory .exit)) ⌝ }
+    requires { ⌜ (Guided (now task) (now sets) (now places) (now rows) (now guide)) × (Remembers (guidedExamination (now task) (now rows) (now guide) (now tables)) (budgetIn (now guide)) (now memory)) × (v .count ≤ budgetIn (now guide)) × (v .at ≤ v .count) × (v .d ≤ 32) × (guidedValue (now rows) (now guide) (now tables) (v .s) ≡ fin (v .value)) × (v .value ≤ v .d) ⌝ }
+    ensures examined { λ r. ⌜ Examined encode (guidedExamination (now (task .entry)) (now (rows .entry)) (now (guide .entry)) (now (tables .entry)) (v .d) (v .s) (v .count)) (v .count) (budgetIn (now (guide .entry))) (v .at) (now (plan .entry)) (now (plan .exit)) r ⌝ }
+    ensures remembers { λ _. ⌜ Remembers (guidedExamination (now (task .entry)) (now (rows .entry)) (now (guide .entry)) (now (tables .entry))) (budgetIn (now (guide .entry))) (now (memory .exit)) ⌝ }
 {
-    if count == budget {
-        return Ending::Stopped(count);
+    if v.count == budget_in(guide) {
+        return Ending::Stopped(v.count);
     }
-    if is_goal(task, s) {
-        put(plan, 0, 254);
-        return Ending::Succeeded(count + 1, 1);
+    if is_goal(task, v.s) {
+        put(plan, v.at, 254);
+        return Ending::Succeeded(v.count + 1, v.at + 1);
     }
-    if d == 0 {
-        return Ending::Failed(count + 1);
+    if v.d == 0 {
+        return Ending::Failed(v.count + 1);
     }
-    let v = visit_of(s, value, d, count, 0);
-    examine(
-        task,
-        sets,
-        places,
-        rows,
-        offsets,
-        owners,
-        tables,
-        memory,
-        plan,
-        actions,
-        patterns,
-        variables,
-        bytes,
-        budget,
-        v,
-    )
+    examine(task, sets, places, rows, guide, tables, memory, plan, v)
 }
 
 // The rounds from the value of the start up to the limit.
@@ -99,46 +79,22 @@ fn deepen(
     sets: &[u64; 2048],
     places: &[u16; 4120],
     rows: &[u16; 2048],
-    offsets: &[u32; 8],
-    owners: &[u8; 64],
+    guide: &[u32; 80],
     tables: &[u16],
     memory: &mut [u64; 4096],
     plan: &mut [u8],
     s: u64,
-    actions: usize,
-    patterns: usize,
-    variables: usize,
-    bytes: usize,
     from: u32,
-    limit: u32,
-    budget: u32,
 ) -> Conclusion
-    requires { ⌜ (Guided (now task) (now sets) (now places) (now rows) (now owners) actions patterns variables bytes budget) × (from ≤ limit) × (limit ≤ 32) × (packedValue (now rows) (now offsets) (now tables) patterns variables s ≡ fin from) × (Remembers (packedExamination (now task) (now rows) (now offsets) (now tables) actions patterns variables budget) budget (now memory)) ⌝ }
-    ensures { λ r. ⌜ Concluded (rounds (packedSystem (now (task .entry)) actions) (packedValue (now (rows .entry)) (now (offsets .entry)) (now (tables .entry)) patterns variables) budget limit s (suc (limit - from)) from 0) (now (plan .exit)) r ⌝ }
+    requires { ⌜ (Guided (now task) (now sets) (now places) (now rows) (now guide)) × (Remembers (guidedExamination (now task) (now rows) (now guide) (now tables)) (budgetIn (now guide)) (now memory)) × (from ≤ limitIn (now guide)) × (limitIn (now guide) ≤ 32) × (guidedValue (now rows) (now guide) (now tables) s ≡ fin from) ⌝ }
+    ensures { λ r. ⌜ Concluded (rounds (packedSystem (now (task .entry)) (actionsIn (now (guide .entry)))) (guidedValue (now (rows .entry)) (now (guide .entry)) (now (tables .entry))) (budgetIn (now (guide .entry))) (limitIn (now (guide .entry))) s (suc (limitIn (now (guide .entry)) - from)) from 0) (now (plan .exit)) r ⌝ }
 {
+    let limit = limit_in(guide);
     let mut c = 0u32;
     let mut d = from;
     while d <= limit {
-        match examine_start(
-            task,
-            sets,
-            places,
-            rows,
-            offsets,
-            owners,
-            tables,
-            memory,
-            plan,
-            s,
-            actions,
-            patterns,
-            variables,
-            bytes,
-            from,
-            d,
-            budget,
-            c,
-        ) {
+        let v = visit_of(s, from, d, c, 0);
+        match examine_start(task, sets, places, rows, guide, tables, memory, plan, v) {
             Ending::Stopped(e) => {
                 return Conclusion::Spent(d, e);
             }
@@ -160,92 +116,33 @@ fn conclude(
     sets: &[u64; 2048],
     places: &[u16; 4120],
     rows: &[u16; 2048],
-    offsets: &[u32; 8],
-    owners: &[u8; 64],
+    guide: &[u32; 80],
     tables: &[u16],
     memory: &mut [u64; 4096],
     plan: &mut [u8],
     s: u64,
-    actions: usize,
-    patterns: usize,
-    variables: usize,
-    bytes: usize,
-    limit: u32,
-    budget: u32,
 ) -> Conclusion
-    requires { ⌜ (Guided (now task) (now sets) (now places) (now rows) (now owners) actions patterns variables bytes budget) × (limit ≤ 32) × (Remembers (packedExamination (now task) (now rows) (now offsets) (now tables) actions patterns variables budget) budget (now memory)) ⌝ }
-    ensures { λ r. ⌜ Concluded (packedSearch (now (task .entry)) (now (rows .entry)) (now (offsets .entry)) (now (tables .entry)) actions patterns variables budget limit s) (now (plan .exit)) r ⌝ }
+    requires { ⌜ (Guided (now task) (now sets) (now places) (now rows) (now guide)) × (Remembers (guidedExamination (now task) (now rows) (now guide) (now tables)) (budgetIn (now guide)) (now memory)) × (limitIn (now guide) ≤ 32) ⌝ }
+    ensures { λ r. ⌜ Concluded (guidedSearch (now (task .entry)) (now (rows .entry)) (now (guide .entry)) (now (tables .entry)) s) (now (plan .exit)) r ⌝ }
 {
-    match value_of(rows, offsets, tables, s, patterns, variables) {
+    let patterns = patterns_in(guide);
+    let variables = variables_in(guide);
+    match value_of(rows, guide, tables, s, patterns, variables) {
         Value::Infinite => Conclusion::None,
         Value::Finite(v) => {
-            if limit < v {
+            if limit_in(guide) < v {
                 return Conclusion::Over(0);
             }
-            deepen(
-                task,
-                sets,
-                places,
-                rows,
-                offsets,
-                owners,
-                tables,
-                memory,
-                plan,
-                s,
-                actions,
-                patterns,
-                variables,
-                bytes,
-                v,
-                limit,
-                budget,
-            )
+            deepen(task, sets, places, rows, guide, tables, memory, plan, s, v)
         }
     }
 }
 
-// The search by rounds: the answer, and the buffer as the answer wants it.
-pub(crate) fn run_rounds(
-    task: &[u64; 1282],
-    sets: &[u64; 2048],
-    places: &[u16; 4120],
-    rows: &[u16; 2048],
-    offsets: &[u32; 8],
-    owners: &[u8; 64],
-    tables: &[u16],
-    memory: &mut [u64; 4096],
-    plan: &mut [u8],
-    s: u64,
-    actions: usize,
-    patterns: usize,
-    variables: usize,
-    bytes: usize,
-    limit: u32,
-    budget: u32,
-) -> Answer
-    requires { ⌜ (Guided (now task) (now sets) (now places) (now rows) (now owners) actions patterns variables bytes budget) × (limit ≤ 32) × (Remembers (packedExamination (now task) (now rows) (now offsets) (now tables) actions patterns variables budget) budget (now memory)) ⌝ }
-    ensures answer { λ r. ⌜ r ≡ answerOf (length (now (plan .entry))) (packedSearch (now (task .entry)) (now (rows .entry)) (now (offsets .entry)) (now (tables .entry)) actions patterns variables budget limit s) ⌝ }
-    ensures buffer { λ _. ⌜ now (plan .exit) ≡ bufferOf (length (now (plan .entry))) (packedSearch (now (task .entry)) (now (rows .entry)) (now (offsets .entry)) (now (tables .entry)) actions patterns variables budget limit s) ⌝ }
+// The answer to a conclusion, and the buffer as the answer wants it.
+fn answer_to(plan: &mut [u8], a: Conclusion) -> Answer
+    ensures { λ r. ⌜ ((x : planning.Answer) → Concluded x (now (plan .entry)) a → (r ≡ answerOf (length (now (plan .entry))) x) × (now (plan .exit) ≡ bufferOf (length (now (plan .entry))) x)) ⌝ }
 {
-    match conclude(
-        task,
-        sets,
-        places,
-        rows,
-        offsets,
-        owners,
-        tables,
-        memory,
-        plan,
-        s,
-        actions,
-        patterns,
-        variables,
-        bytes,
-        limit,
-        budget,
-    ) {
+    match a {
         Conclusion::Found(d, c, end) => {
             if plan.len() < end {
                 fill(plan, 0, 255);
@@ -267,4 +164,24 @@ pub(crate) fn run_rounds(
             Answer::None
         }
     }
+}
+
+// The search by rounds.
+pub(crate) fn run_rounds(
+    task: &[u64; 1282],
+    sets: &[u64; 2048],
+    places: &[u16; 4120],
+    rows: &[u16; 2048],
+    guide: &[u32; 80],
+    tables: &[u16],
+    memory: &mut [u64; 4096],
+    plan: &mut [u8],
+    s: u64,
+) -> Answer
+    requires { ⌜ (Guided (now task) (now sets) (now places) (now rows) (now guide)) × (Remembers (guidedExamination (now task) (now rows) (now guide) (now tables)) (budgetIn (now guide)) (now memory)) × (limitIn (now guide) ≤ 32) ⌝ }
+    ensures answer { λ r. ⌜ r ≡ answerOf (length (now (plan .entry))) (guidedSearch (now (task .entry)) (now (rows .entry)) (now (guide .entry)) (now (tables .entry)) s) ⌝ }
+    ensures buffer { λ _. ⌜ now (plan .exit) ≡ bufferOf (length (now (plan .entry))) (guidedSearch (now (task .entry)) (now (rows .entry)) (now (guide .entry)) (now (tables .entry)) s) ⌝ }
+{
+    let a = conclude(task, sets, places, rows, guide, tables, memory, plan, s);
+    answer_to(plan, a)
 }

@@ -76,14 +76,14 @@ fn fill_pattern(rec: &[u8], rows: &mut [u16], p: u8) -> usize
     weight
 }
 
-// The rows of every pattern, and the offsets of their tables.
-pub(crate) fn fill_rows(rec: &[u8], rows: &mut [u16], offsets: &mut [u32])
-    requires { ⌜ (length (now rows) ≡ 2048) × (length (now offsets) ≡ 8) × (Sound (now rec)) × (Small (taskOf (now rec)) (patternsOf (now rec))) ⌝ }
-    ensures { λ _. ⌜ RowsOf (taskOf (now (rec .entry)) .sizes) (patternsOf (now (rec .entry))) (now (rows .exit)) (now (offsets .exit)) ⌝ }
+// The rows of every pattern, and where their tables begin, at the start of the guide.
+pub(crate) fn fill_rows(rec: &[u8], rows: &mut [u16], guide: &mut [u32])
+    requires { ⌜ (length (now rows) ≡ 2048) × (length (now guide) ≡ 80) × (Sound (now rec)) × (Small (taskOf (now rec)) (patternsOf (now rec))) ⌝ }
+    ensures { λ _. ⌜ RowsOf (taskOf (now (rec .entry)) .sizes) (patternsOf (now (rec .entry))) (now (rows .exit)) (now (guide .exit)) ⌝ }
 {
     let mut begin = 0usize;
     for p in 0..pattern_count(rec) {
-        offsets[wide(p)] = begin as u32;
+        guide[wide(p)] = begin as u32;
         begin = begin + fill_pattern(rec, rows, p);
     }
 }

@@ -11,10 +11,10 @@ use Rattle.search.specs.Value.{packedValue, patternSum, valueOf}
 use Rattle.search.proofs.RowSums.{entry-found, value-grows, value-infinite, value-whole, nothing-joins}
 
 abbrev Inv-loop : tie.InvT-loop
-Inv-loop rows offsets tables s patterns variables sum₀ p₀ sum p = (packedValue rows offsets tables patterns variables s ≡ add∞ (fin sum) (patternSum rows offsets tables variables s p (patterns - p))) × (p ≤ patterns) × (sum ≤ 65535 * p)
+Inv-loop rows guide tables s patterns variables sum₀ p₀ sum p = (packedValue rows guide tables patterns variables s ≡ add∞ (fin sum) (patternSum rows guide tables variables s p (patterns - p))) × (p ≤ patterns) × (sum ≤ 65535 * p)
 
 abbrev μ-loop : tie.MeasureT-loop
-μ-loop rows offsets tables s patterns variables sum₀ p₀ sum p = patterns - p
+μ-loop rows guide tables s patterns variables sum₀ p₀ sum p = patterns - p
 
 loop-holds : tie.Need-loop-holds Inv-loop μ-loop
 unfolding packedValue

@@ -13,29 +13,29 @@ use Rattle.patterns.proofs.Reading.{patterns-length, pattern-at}
 use Rattle.search.proofs.RowsFilled.{FillingRows, rows-begin, rows-go-on, rows-end, pattern-small}
 
 abbrev Inv-loop : tie.InvT-loop
-Inv-loop rec rows₀ offsets₀ begin₀ p₀ p-end rows offsets begin p = FillingRows (taskOf rec .sizes) (patternsOf rec) rows offsets begin p × (length rows ≡ 2048)
+Inv-loop rec rows₀ guide₀ begin₀ p₀ p-end rows guide begin p = FillingRows (taskOf rec .sizes) (patternsOf rec) rows guide begin p × (length rows ≡ 2048)
 
 abbrev μ-loop : tie.MeasureT-loop
-μ-loop rec rows₀ offsets₀ begin₀ p₀ p-end rows offsets begin p = patternCount rec - p
+μ-loop rec rows₀ guide₀ begin₀ p₀ p-end rows guide begin p = patternCount rec - p
 
 pattern-count-requires : tie.Need-pattern-count-requires Inv-loop μ-loop
 pattern-count-requires c κs = search needs
 
 loop-holds : tie.Need-loop-holds Inv-loop μ-loop
-loop-holds c = let s = c .before .before .before .before in let r = s .args .rec .now in (rows-begin (taskOf r .sizes) (patternsOf r) (s .args .rows .now) (s .args .offsets .now) (s .pre .1), s .pre .0)
+loop-holds c = let s = c .before .before .before .before in let r = s .args .rec .now in (rows-begin (taskOf r .sizes) (patternsOf r) (s .args .rows .now) (s .args .guide .now) (s .pre .1), s .pre .0)
 
-cast-offsets : tie.Need-cast-offsets Inv-loop μ-loop
-cast-offsets c = let s = c .before .before .before .before .before .before in let r = s .args .rec .now in let l = c .before .loop in let t : l .p < patternCount r = rw (c .before .before .pattern-count .ensures) at (c .loop-test .taken) in
+cast-guide : tie.Need-cast-guide Inv-loop μ-loop
+cast-guide c = let s = c .before .before .before .before .before .before in let r = s .args .rec .now in let l = c .before .loop in let t : l .p < patternCount r = rw (c .before .before .pattern-count .ensures) at (c .loop-test .taken) in
     let k = patterns-right r (s .pre .2) in record { fits = omega (arith, l .inv .0 .bounded) }
 
 wide-requires : tie.Need-wide-requires Inv-loop μ-loop
 wide-requires c κs = search needs
 
-mul-offsets : tie.Need-mul-offsets Inv-loop μ-loop
-mul-offsets c = search needs
+mul-guide : tie.Need-mul-guide Inv-loop μ-loop
+mul-guide c = search needs
 
-slice-write-offsets : tie.Need-slice-write-offsets Inv-loop μ-loop
-slice-write-offsets c = let s = c .before .before .before .before .before .before .before in let r = s .args .rec .now in let l = c .before .before .loop in let t : l .p < patternCount r = rw (c .before .before .before .pattern-count .ensures) at (c .before .loop-test .taken) in
+slice-write-guide : tie.Need-slice-write-guide Inv-loop μ-loop
+slice-write-guide c = let s = c .before .before .before .before .before .before .before in let r = s .args .rec .now in let l = c .before .before .loop in let t : l .p < patternCount r = rw (c .before .before .before .pattern-count .ensures) at (c .before .loop-test .taken) in
     let k = patterns-right r (s .pre .2) in omega (arith, l .inv .0 .long, c .wide .ensures .0)
 
 fill-pattern-requires : tie.Need-fill-pattern-requires Inv-loop μ-loop
@@ -78,10 +78,10 @@ fill-rows-spec =
     μ-loop
     pattern-count-requires
     loop-holds
-    cast-offsets
+    cast-guide
     wide-requires
-    mul-offsets
-    slice-write-offsets
+    mul-guide
+    slice-write-guide
     fill-pattern-requires
     add-begin
     add-p
