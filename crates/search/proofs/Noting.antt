@@ -2,14 +2,18 @@
 use mathlib.Core.Path.{_≡_, refl, sym, ap, _∙_}
 use mathlib.Core.Logic.{_⊎_, inl, inr}
 use mathlib.Core.List.{List}
-use Prim.Native.Nat.{ℕ, _+_, _*_, _/_, _%_, _<_, _≤_}
+use Prim.Native.Nat.{ℕ, zero, suc, _+_, _*_, _/_, _%_, _<_, _≤_}
 use native.Mathlib.Omega.{arith}
 use native.Mathlib.Decide.{ℕ-discrete}
 use lib.ListN.{length, getD, set, replicate, length-set, length-replicate}
 use lib.Seq.{getD-set-same, getD-set-other}
 use Rattle.search.specs.Buffer.{Keeps}
-use Rattle.search.proofs.Remembering.{zeros}
 use Rattle.search.specs.Successes.{Success, success, successIn, epochIn, epochOf, Says, Silent, Dated, SuccessNoted, Forgotten}
+
+pub zeros : (n i : ℕ) → getD {A = ℕ} (replicate n 0) i 0 ≡ 0
+zeros zero i = refl
+zeros (suc n) zero = refl
+zeros (suc n) (suc i) = zeros n i
 
 -- A slot whose words were not touched says what it said.
 module _ (old new : List ℕ) (i : ℕ) (a : getD new (4096 + 3 * i) 0 ≡ getD old (4096 + 3 * i) 0) (b : getD new (4097 + 3 * i) 0 ≡ getD old (4097 + 3 * i) 0) (e : getD new (4098 + 3 * i) 0 ≡ getD old (4098 + 3 * i) 0) where
@@ -141,14 +145,19 @@ module _ (old : List ℕ) (v : Dated old) where
   unfolding epochOf
   epoch-later = getD-set-same old 5632 _ 0 (omega (arith, v .long))
 
-  pub all-forgotten : Forgotten old later
+  pub all-forgotten : (at end : ℕ) → Forgotten old later at end
   unfolding Keeps
-  all-forgotten = record {
+  all-forgotten at end = let s : Silent later = record { silent = λ w h. omega (arith, h .current, epoch-in-later (h .slot) (h .inside), epoch-later, v .past (h .slot) (h .inside)) } in record {
     failures = λ i h. getD-set-other old 5632 i _ 0 (λ e. omega arith);
     dated = record { long = length-set old 5632 _ ∙ v .long; past = λ i h. omega (arith, epoch-in-later i h, epoch-later, v .past i h); early = λ i h. omega (arith, epoch-in-later i h, v .early i h) };
-    silent = record { silent = λ w h. omega (arith, h .current, epoch-in-later (h .slot) (h .inside), epoch-later, v .past (h .slot) (h .inside)) };
+    said = record { said = λ w h. absurd (s .silent w h) };
+    silent = λ n. s;
   }
 
-  pub silent-already : 16777215 ≤ epochOf old → Forgotten old old
+  pub silent-already : (at end : ℕ) → 16777215 ≤ epochOf old → Forgotten old old at end
   unfolding Keeps
-  silent-already l = record { failures = λ i h. refl; dated = v; silent = record { silent = λ w h. omega (arith, h .current, v .early (h .slot) (h .inside)) } }
+  silent-already at end l = record { failures = λ i h. refl; dated = v; said = record { said = λ w h. h }; silent = λ n. record { silent = λ w h. omega (arith, h .current, v .early (h .slot) (h .inside)) } }
+
+  pub nothing-given-up : (at end : ℕ) → at ≡ end → Forgotten old old at end
+  unfolding Keeps
+  nothing-given-up at end e = record { failures = λ i h. refl; dated = v; said = record { said = λ w h. h }; silent = λ n. absurd (n e) }

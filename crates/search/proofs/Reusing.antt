@@ -5,6 +5,7 @@ use mathlib.Core.Logic.{_⊎_, inl, inr, ⊎-elim}
 use mathlib.Core.List.{List}
 use Prim.Native.Nat.{ℕ, suc, _+_, _-_, _<_, _≤_}
 use native.Mathlib.Omega.{arith}
+use native.Mathlib.Decide.{ℕ-discrete}
 use lib.ListN.{length, getD, set, length-set}
 use lib.Seq.{getD-set-other}
 use Rattle.planning.specs.Extended.{ℕ∞}
@@ -15,7 +16,7 @@ use Rattle.planning.proofs.Shift.{succeeded-anywhere}
 use Rattle.search.specs.declared.examine.Ending.the-variants.{Succeeded}
 use Rattle.search.specs.Buffer.{Keeps, Holds}
 use Rattle.search.specs.Examination.{visitCount, bytesOf, endingOf, Examined}
-use Rattle.search.specs.Successes.{Success, success, Says, Silent, Shown, Known, NoMore, Since, Learnt, SuccessNoted, Copied}
+use Rattle.search.specs.Successes.{Success, success, Says, Silent, Shown, Known, NoMore, Since, Learnt, SuccessNoted, Forgotten, Copied}
 use Rattle.search.proofs.Copying.{copy-holds}
 
 plan-has-bytes : (p : Plan) → 1 ≤ length (encode p)
@@ -65,6 +66,14 @@ module _ (r : ℕ → ℕ → ℕ → Result Plan) (budget : ℕ) where
   pub learnt-no-more : {old new buffer : List ℕ} {at : ℕ} → Learnt r budget old new buffer at at → NoMore old new
   learnt-no-more f = record { said = λ w h. ⊎-elim (λ s. s) (λ s. absurd (omega (arith, s .from, s .to, s .shown .sized, plan-has-bytes (s .shown .plan)))) (f .said w h) }
 
+  -- An outcome failed after others, whose bytes are given up.
+  pub given-up : {old mid next new buffer : List ℕ} {at end : ℕ} → Learnt r budget old mid buffer at end → NoMore mid next → Forgotten next new at end → NoMore old new
+  given-up {old} {new = new} {at = at} {end} f g h = by-end (ℕ-discrete end at)
+    where
+      by-end : Dec (end ≡ at) → NoMore old new
+      by-end (yes e) = no-more-trans (learnt-no-more (rw e at f)) (no-more-trans g (h .said))
+      by-end (no e) = silence-says-no-more old (h .silent (λ q. e (sym q)))
+
   pub learnt-on : {old mid new buffer : List ℕ} (written : List ℕ) {at between end : ℕ} → Learnt r budget old mid buffer at between → Learnt r budget mid new written between end →
       length written ≡ length buffer → Keeps between buffer written → at ≤ between → between ≤ end → Learnt r budget old new written at end
   learnt-on {buffer = buffer} written {at} {between} {end} f g l k a b = record {
@@ -74,7 +83,7 @@ module _ (r : ℕ → ℕ → ℕ → Result Plan) (budget : ℕ) where
   }
 
   -- An action's outcomes succeeded and its byte was put before theirs; then the whole was noted.
-  pub success-learnt : {old mid new last buffer : List ℕ} (x : ℕ) {at end : ℕ} {w : Success} → NoMore old mid → Learnt r budget mid new buffer (at + 1) end → SuccessNoted new last w →
+  success-learnt : {old mid new last buffer : List ℕ} (x : ℕ) {at end : ℕ} {w : Success} → NoMore old mid → Learnt r budget mid new buffer (at + 1) end → SuccessNoted new last w →
       w .place ≡ at → w .place + w .size ≡ end → Shown r budget (set buffer at x) w → Learnt r budget old last (set buffer at x) at end
   success-learnt {buffer = buffer} x {at} {end} {w} n f g p q v = record {
     said = λ u h. ⊎-elim
@@ -96,12 +105,12 @@ module _ (r : ℕ → ℕ → ℕ → Result Plan) (budget : ℕ) where
   })
 
 -- An examination that succeeded at one count succeeds at every count, after as many examinations.
-module _ (Y : System ℕ) (h : ℕ → ℕ∞) (budget d s count at e end : ℕ) {old new : List ℕ} where
-  seen : (x : Result Plan) → examination Y h budget d s count ≡ x → Examined encode x count budget at old new (Succeeded e end) → (at ≤ end) × (end - at ≤ e - count) × Shown (examination Y h budget) budget new (success s d (e - count) at (end - at))
+module _ (Y : System ℕ) (h : ℕ → ℕ∞) (budget d s count at e end : ℕ) {old : List ℕ} where
+  success-seen : {new : List ℕ} (x : Result Plan) → examination Y h budget d s count ≡ x → Examined encode x count budget at old new (Succeeded e end) →
+      (at ≤ end) × Shown (examination Y h budget) budget new (success s d (e - count) at (end - at))
   unfolding endingOf bytesOf visitCount
-  seen (succeeded p i) z v = let q = v .ending in let a : e ≡ i = cc in let g : end ≡ at + length (encode p) = cc in let t : i ≡ count + (e - count) = omega (arith, v .counted) in (
+  success-seen (succeeded p i) z v = let q = v .ending in let a : e ≡ i = cc in let g : end ≡ at + length (encode p) = cc in let t : i ≡ count + (e - count) = omega (arith, v .counted) in (
     omega arith,
-    omega (arith, v .counted, v .short),
     record {
       plan = p;
       succeeds = λ c l. succeeded-anywhere Y h budget d s p count (e - count) c (z ∙ ap (succeeded p) t) l;
@@ -110,8 +119,9 @@ module _ (Y : System ℕ) (h : ℕ → ℕ∞) (budget d s count at e end : ℕ)
       holds = v .holds;
     },
   )
-  seen (failed i) z v = let q = v .ending in let t : _≡_ {A = ℕ} 0 1 = cc in absurd (omega arith)
-  seen (stopped i) z v = let q = v .ending in let t : _≡_ {A = ℕ} 0 1 = cc in absurd (omega arith)
+  success-seen (failed i) z v = let q = v .ending in let t : _≡_ {A = ℕ} 0 1 = cc in absurd (omega arith)
+  success-seen (stopped i) z v = let q = v .ending in let t : _≡_ {A = ℕ} 0 1 = cc in absurd (omega arith)
 
-  pub success-seen : Examined encode (examination Y h budget d s count) count budget at old new (Succeeded e end) → (at ≤ end) × (end - at ≤ e - count) × Shown (examination Y h budget) budget new (success s d (e - count) at (end - at))
-  success-seen v = seen (examination Y h budget d s count) refl v
+  pub action-learnt : {first mid new last buffer : List ℕ} (x : ℕ) → Examined encode (examination Y h budget d s count) count budget at old (set buffer at x) (Succeeded e end) → NoMore first mid →
+      Learnt (examination Y h budget) budget mid new buffer (at + 1) end → SuccessNoted new last (success s d (e - count) at (end - at)) → Learnt (examination Y h budget) budget first last (set buffer at x) at end
+  action-learnt x v n f g = let w = success-seen (examination Y h budget d s count) refl v in success-learnt (examination Y h budget) budget x n f g refl (omega (arith, w .0)) (w .1)

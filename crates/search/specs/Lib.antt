@@ -6,8 +6,8 @@ pub mod Rows
 pub mod ByteRows
 pub mod Buffer
 pub mod Examination
-pub mod Memory
 pub mod Successes
+pub mod Memory
 pub mod Packed
 pub mod Answer
 pub mod Entry

@@ -82,16 +82,18 @@ After r budget old new buffer at (Stopped c) = Unit {0}
 After r budget old new buffer at (Failed c) = NoMore old new
 After r budget old new buffer at (Succeeded c end) = Learnt r budget old new buffer at end
 
--- The success w was noted, or nothing; all was forgotten. Neither touches the failures.
+-- The success w was noted, or nothing. The failures are not touched.
 pub record SuccessNoted (old new : List ℕ) (w : Success) : Type 0 where
   pub failures : Keeps 4096 old new
   pub dated : Dated new
   pub said : (v : Success) → Says new v → Says old v ⊎ (v ≡ w)
 
-pub record Forgotten (old new : List ℕ) : Type 0 where
+-- The bytes from `at` to `end` were given up: if there are any, nothing is said any more. The failures are not touched.
+pub record Forgotten (old new : List ℕ) (at end : ℕ) : Type 0 where
   pub failures : Keeps 4096 old new
   pub dated : Dated new
-  pub silent : Silent new
+  pub said : NoMore old new
+  pub silent : (at ≡ end → ⊥) → Silent new
 
 -- n bytes from `from` on stand from `to` on too, as far as the buffer reaches; those before `to` are as they were.
 pub record Copied (from to n : ℕ) (old new : List ℕ) : Type 0 where

@@ -71,11 +71,14 @@ pub(crate) fn note_success(memory: &mut [u64; 5633], s: u64, d: u32, k: u32, at:
     }
 }
 
-// A new epoch begins: bytes of plans that are known may be written over from here on.
-pub(crate) fn forget(memory: &mut [u64; 5633])
+// The bytes from `at` to `end` are given up. If there are any, a new epoch begins: what is known of them, as of others, holds no longer.
+pub(crate) fn forget(memory: &mut [u64; 5633], at: usize, end: usize)
     requires { ⌜ Dated (now memory) ⌝ }
-    ensures { λ _. ⌜ Forgotten (now (memory .entry)) (now (memory .exit)) ⌝ }
+    ensures { λ _. ⌜ Forgotten (now (memory .entry)) (now (memory .exit)) at end ⌝ }
 {
+    if at == end {
+        return;
+    }
     let epoch = memory[5632];
     if epoch < 16777215 {
         memory[5632] = epoch + 1;
