@@ -16,7 +16,7 @@ zeros (suc n) zero = refl
 zeros (suc n) (suc i) = zeros n i
 
 -- A slot whose words were not touched says what it said.
-module _ (old new : List ℕ) (i : ℕ) (a : getD new (4096 + 3 * i) 0 ≡ getD old (4096 + 3 * i) 0) (b : getD new (4097 + 3 * i) 0 ≡ getD old (4097 + 3 * i) 0) (e : getD new (4098 + 3 * i) 0 ≡ getD old (4098 + 3 * i) 0) where
+module _ (old new : List ℕ) (i : ℕ) (a : getD new (2048 + 3 * i) 0 ≡ getD old (2048 + 3 * i) 0) (b : getD new (2049 + 3 * i) 0 ≡ getD old (2049 + 3 * i) 0) (e : getD new (2050 + 3 * i) 0 ≡ getD old (2050 + 3 * i) 0) where
   same-success : successIn new i ≡ successIn old i
   unfolding successIn
   same-success = rw (a, b, e)
@@ -26,12 +26,12 @@ module _ (old new : List ℕ) (i : ℕ) (a : getD new (4096 + 3 * i) 0 ≡ getD 
   same-epoch = rw e
 
 -- Memories that agree from the failures on say the same.
-module _ (old new : List ℕ) (l : length new ≡ length old) (f : (n : ℕ) → 4096 ≤ n → getD new n 0 ≡ getD old n 0) where
+module _ (old new : List ℕ) (l : length new ≡ length old) (f : (n : ℕ) → 2048 ≤ n → getD new n 0 ≡ getD old n 0) where
   pub same-dated : Dated old → Dated new
   unfolding epochOf
   same-dated v = record {
     long = l ∙ v .long;
-    past = λ i h. let a = same-epoch old new i (f _ (omega arith)) (f _ (omega arith)) (f _ (omega arith)) in omega (arith, a, f 5632 (omega arith), v .past i h);
+    past = λ i h. let a = same-epoch old new i (f _ (omega arith)) (f _ (omega arith)) (f _ (omega arith)) in omega (arith, a, f 2432 (omega arith), v .past i h);
     early = λ i h. let a = same-epoch old new i (f _ (omega arith)) (f _ (omega arith)) (f _ (omega arith)) in omega (arith, a, v .early i h);
   }
 
@@ -40,7 +40,7 @@ module _ (old new : List ℕ) (l : length new ≡ length old) (f : (n : ℕ) →
   same-said w h = let i = h .slot in record {
     slot = i;
     inside = h .inside;
-    current = sym (same-epoch old new i (f _ (omega arith)) (f _ (omega arith)) (f _ (omega arith))) ∙ h .current ∙ f 5632 (omega arith);
+    current = sym (same-epoch old new i (f _ (omega arith)) (f _ (omega arith)) (f _ (omega arith))) ∙ h .current ∙ f 2432 (omega arith);
     says = sym (same-success old new i (f _ (omega arith)) (f _ (omega arith)) (f _ (omega arith))) ∙ h .says;
     deep = h .deep;
   }
@@ -48,50 +48,50 @@ module _ (old new : List ℕ) (l : length new ≡ length old) (f : (n : ℕ) →
 -- Words that are 0 say nothing: no depth is 0.
 pub nothing-said : (n : ℕ) → Silent (replicate n 0)
 unfolding successIn
-nothing-said n = record { silent = λ w h. omega (arith, h .deep, ap (λ (v : Success). v .depth) (h .says), zeros n (4097 + 3 * h .slot)) }
+nothing-said n = record { silent = λ w h. omega (arith, h .deep, ap (λ (v : Success). v .depth) (h .says), zeros n (2049 + 3 * h .slot)) }
 
-pub nothing-dated : Dated (replicate 5633 0)
+pub nothing-dated : Dated (replicate 2433 0)
 unfolding epochIn epochOf
 nothing-dated = record {
-  long = length-replicate {A = ℕ} 5633 0;
-  past = λ i h. omega (arith, zeros 5633 (4098 + 3 * i));
-  early = λ i h. omega (arith, zeros 5633 (4098 + 3 * i));
+  long = length-replicate {A = ℕ} 2433 0;
+  past = λ i h. omega (arith, zeros 2433 (2050 + 3 * i));
+  early = λ i h. omega (arith, zeros 2433 (2050 + 3 * i));
 }
 
 -- The words after slot j was given three.
 module _ (old : List ℕ) (j a b x : ℕ) where
   abbrev written : List ℕ
-  written = set (set (set old (4096 + 3 * j) a) (4097 + 3 * j) b) (4098 + 3 * j) x
+  written = set (set (set old (2048 + 3 * j) a) (2049 + 3 * j) b) (2050 + 3 * j) x
 
-  untouched : (n : ℕ) → (n ≡ 4096 + 3 * j → ⊥) → (n ≡ 4097 + 3 * j → ⊥) → (n ≡ 4098 + 3 * j → ⊥) → getD written n 0 ≡ getD old n 0
-  untouched n f g h = getD-set-other (set (set old (4096 + 3 * j) a) (4097 + 3 * j) b) (4098 + 3 * j) n x 0 h
-      ∙ getD-set-other (set old (4096 + 3 * j) a) (4097 + 3 * j) n b 0 g ∙ getD-set-other old (4096 + 3 * j) n a 0 f
+  untouched : (n : ℕ) → (n ≡ 2048 + 3 * j → ⊥) → (n ≡ 2049 + 3 * j → ⊥) → (n ≡ 2050 + 3 * j → ⊥) → getD written n 0 ≡ getD old n 0
+  untouched n f g h = getD-set-other (set (set old (2048 + 3 * j) a) (2049 + 3 * j) b) (2050 + 3 * j) n x 0 h
+      ∙ getD-set-other (set old (2048 + 3 * j) a) (2049 + 3 * j) n b 0 g ∙ getD-set-other old (2048 + 3 * j) n a 0 f
 
   written-long : length written ≡ length old
   written-long = simp length-set
 
-  first-word : 4098 + 3 * j < length old → getD written (4096 + 3 * j) 0 ≡ a
-  first-word h = getD-set-other (set (set old (4096 + 3 * j) a) (4097 + 3 * j) b) (4098 + 3 * j) (4096 + 3 * j) x 0 (λ e. omega arith)
-      ∙ getD-set-other (set old (4096 + 3 * j) a) (4097 + 3 * j) (4096 + 3 * j) b 0 (λ e. omega arith) ∙ getD-set-same old (4096 + 3 * j) a 0 (omega arith)
+  first-word : 2050 + 3 * j < length old → getD written (2048 + 3 * j) 0 ≡ a
+  first-word h = getD-set-other (set (set old (2048 + 3 * j) a) (2049 + 3 * j) b) (2050 + 3 * j) (2048 + 3 * j) x 0 (λ e. omega arith)
+      ∙ getD-set-other (set old (2048 + 3 * j) a) (2049 + 3 * j) (2048 + 3 * j) b 0 (λ e. omega arith) ∙ getD-set-same old (2048 + 3 * j) a 0 (omega arith)
 
-  second-word : 4098 + 3 * j < length old → getD written (4097 + 3 * j) 0 ≡ b
-  second-word h = getD-set-other (set (set old (4096 + 3 * j) a) (4097 + 3 * j) b) (4098 + 3 * j) (4097 + 3 * j) x 0 (λ e. omega arith)
-      ∙ getD-set-same (set old (4096 + 3 * j) a) (4097 + 3 * j) b 0 (simp length-set (omega arith))
+  second-word : 2050 + 3 * j < length old → getD written (2049 + 3 * j) 0 ≡ b
+  second-word h = getD-set-other (set (set old (2048 + 3 * j) a) (2049 + 3 * j) b) (2050 + 3 * j) (2049 + 3 * j) x 0 (λ e. omega arith)
+      ∙ getD-set-same (set old (2048 + 3 * j) a) (2049 + 3 * j) b 0 (simp length-set (omega arith))
 
-  third-word : 4098 + 3 * j < length old → getD written (4098 + 3 * j) 0 ≡ x
-  third-word h = getD-set-same (set (set old (4096 + 3 * j) a) (4097 + 3 * j) b) (4098 + 3 * j) x 0 (simp length-set (omega arith))
+  third-word : 2050 + 3 * j < length old → getD written (2050 + 3 * j) 0 ≡ x
+  third-word h = getD-set-same (set (set old (2048 + 3 * j) a) (2049 + 3 * j) b) (2050 + 3 * j) x 0 (simp length-set (omega arith))
 
 -- Slot j is made to say a success, in the current epoch.
-module _ (old : List ℕ) (j s d k p n : ℕ) (dated : Dated old) (within : j < 512) (early : epochOf old < 16777215) (shallow : d < 64) (near : p < 1048576) (small : n < 1048576) where
+module _ (old : List ℕ) (j s d k p n : ℕ) (dated : Dated old) (within : j < 128) (early : epochOf old < 16777215) (shallow : d < 64) (near : p < 1048576) (small : n < 1048576) where
   abbrev noted : List ℕ
   noted = written old j s (d + 64 * k) (p + 1048576 * n + 1099511627776 * epochOf old)
 
-  reaches : 4098 + 3 * j < length old
+  reaches : 2050 + 3 * j < length old
   reaches = omega (arith, dated .long)
 
   epoch-stays : epochOf noted ≡ epochOf old
   unfolding epochOf
-  epoch-stays = untouched old j _ _ _ 5632 (λ e. omega arith) (λ e. omega arith) (λ e. omega arith)
+  epoch-stays = untouched old j _ _ _ 2432 (λ e. omega arith) (λ e. omega arith) (λ e. omega arith)
 
   noted-epoch : epochIn noted j ≡ epochOf old
   unfolding epochIn
@@ -113,7 +113,7 @@ module _ (old : List ℕ) (j s d k p n : ℕ) (dated : Dated old) (within : j < 
     other-success = same-success old noted i (untouched old j _ _ _ _ (λ e. other (omega arith)) (λ e. omega arith) (λ e. omega arith))
         (untouched old j _ _ _ _ (λ e. omega arith) (λ e. other (omega arith)) (λ e. omega arith)) (untouched old j _ _ _ _ (λ e. omega arith) (λ e. omega arith) (λ e. other (omega arith)))
 
-  epoch-past : (i : ℕ) → Dec (i ≡ j) → i < 512 → (epochIn noted i ≤ epochOf noted) × (epochIn noted i < 16777215)
+  epoch-past : (i : ℕ) → Dec (i ≡ j) → i < 128 → (epochIn noted i ≤ epochOf noted) × (epochIn noted i < 16777215)
   epoch-past i (yes e) h = rw (e, epoch-stays, noted-epoch) (omega arith, early)
   epoch-past i (no e) h = rw (epoch-stays, other-epoch i e) (dated .past i h, dated .early i h)
 
@@ -136,20 +136,20 @@ nothing-noted old w v = record { failures = λ i h. refl; dated = v; said = λ v
 -- A new epoch begins; after the last one that fits none begins, and nothing is of it.
 module _ (old : List ℕ) (v : Dated old) where
   abbrev later : List ℕ
-  later = set old 5632 (epochOf old + 1)
+  later = set old 2432 (epochOf old + 1)
 
-  epoch-in-later : (i : ℕ) → i < 512 → epochIn later i ≡ epochIn old i
-  epoch-in-later i h = same-epoch old later i (getD-set-other old 5632 _ _ 0 (λ e. omega arith)) (getD-set-other old 5632 _ _ 0 (λ e. omega arith)) (getD-set-other old 5632 _ _ 0 (λ e. omega arith))
+  epoch-in-later : (i : ℕ) → i < 128 → epochIn later i ≡ epochIn old i
+  epoch-in-later i h = same-epoch old later i (getD-set-other old 2432 _ _ 0 (λ e. omega arith)) (getD-set-other old 2432 _ _ 0 (λ e. omega arith)) (getD-set-other old 2432 _ _ 0 (λ e. omega arith))
 
   epoch-later : epochOf later ≡ epochOf old + 1
   unfolding epochOf
-  epoch-later = getD-set-same old 5632 _ 0 (omega (arith, v .long))
+  epoch-later = getD-set-same old 2432 _ 0 (omega (arith, v .long))
 
   pub all-forgotten : (at end : ℕ) → Forgotten old later at end
   unfolding Keeps
   all-forgotten at end = let s : Silent later = record { silent = λ w h. omega (arith, h .current, epoch-in-later (h .slot) (h .inside), epoch-later, v .past (h .slot) (h .inside)) } in record {
-    failures = λ i h. getD-set-other old 5632 i _ 0 (λ e. omega arith);
-    dated = record { long = length-set old 5632 _ ∙ v .long; past = λ i h. omega (arith, epoch-in-later i h, epoch-later, v .past i h); early = λ i h. omega (arith, epoch-in-later i h, v .early i h) };
+    failures = λ i h. getD-set-other old 2432 i _ 0 (λ e. omega arith);
+    dated = record { long = length-set old 2432 _ ∙ v .long; past = λ i h. omega (arith, epoch-in-later i h, epoch-later, v .past i h); early = λ i h. omega (arith, epoch-in-later i h, v .early i h) };
     said = record { said = λ w h. absurd (s .silent w h) };
     silent = λ n. s;
   }

@@ -42,9 +42,9 @@ module _ (old : List ℕ) (j s w : ℕ) where
 
 module _ (r : ℕ → ℕ → ℕ → Result Plan) (budget : ℕ) where
   -- Words that are 0 say nothing.
-  pub nothing-remembered : Remembers r budget (replicate 5633 0)
+  pub nothing-remembered : Remembers r budget (replicate 2433 0)
   unfolding depthIn
-  nothing-remembered = record { dated = nothing-dated; fails = λ i c b l h. let e = zeros 5633 (2 * i + 1) in absurd (omega (arith, l, e)) }
+  nothing-remembered = record { dated = nothing-dated; fails = λ i c b l h. let e = zeros 2433 (2 * i + 1) in absurd (omega (arith, l, e)) }
 
   -- What some slot says may be gone by.
   pub held-fails : (memory : List ℕ) (s d k : ℕ) → Remembers r budget memory → Held memory s d k → 1 ≤ d → (c : ℕ) → c + k ≤ budget → r d s c ≡ failed (c + k)
@@ -59,14 +59,14 @@ module _ (r : ℕ → ℕ → ℕ → Result Plan) (budget : ℕ) where
         rw (w, own-state old j s (d + 64 * k) h, p, q) (f c (omega (arith, b, w)))
     noted-here c (no h) a b = let w = no-word old j s (d + 64 * k) (omega (arith, h)) in absurd (omega (arith, a, w))
 
-    noted-elsewhere : (i c : ℕ) → i < 2048 → (i ≡ j → ⊥) → 1 ≤ depthIn (after old j s (d + 64 * k)) i → c + madeIn (after old j s (d + 64 * k)) i ≤ budget →
+    noted-elsewhere : (i c : ℕ) → i < 1024 → (i ≡ j → ⊥) → 1 ≤ depthIn (after old j s (d + 64 * k)) i → c + madeIn (after old j s (d + 64 * k)) i ≤ budget →
         r (depthIn (after old j s (d + 64 * k)) i) (stateIn (after old j s (d + 64 * k)) i) c ≡ failed (c + madeIn (after old j s (d + 64 * k)) i)
     unfolding stateIn depthIn madeIn
     noted-elsewhere i c t n a b = let v = other-word old j s (d + 64 * k) (2 * i) (λ e. n (omega (arith, e))) (λ e. omega (arith, e)) in
         let w = other-word old j s (d + 64 * k) (2 * i + 1) (λ e. omega (arith, e)) (λ e. n (omega (arith, e))) in
         rw (v, w) (m .fails i c t (omega (arith, a, w)) (omega (arith, b, w)))
 
-    noted-at : (i c : ℕ) → i < 2048 → 1 ≤ depthIn (after old j s (d + 64 * k)) i → c + madeIn (after old j s (d + 64 * k)) i ≤ budget →
+    noted-at : (i c : ℕ) → i < 1024 → 1 ≤ depthIn (after old j s (d + 64 * k)) i → c + madeIn (after old j s (d + 64 * k)) i ≤ budget →
         r (depthIn (after old j s (d + 64 * k)) i) (stateIn (after old j s (d + 64 * k)) i) c ≡ failed (c + madeIn (after old j s (d + 64 * k)) i)
     noted-at i c q = by-test (eqb i j) (λ t. rw (eqb-true i j t) (noted-here c (decLt (2 * j + 1) (length old)))) (λ t. noted-elsewhere i c q (eqb-false i j t))
 
@@ -78,7 +78,7 @@ module _ (r : ℕ → ℕ → ℕ → Result Plan) (budget : ℕ) where
   })
 
   -- The words of successes may change.
-  pub failures-kept : (old new : List ℕ) → Remembers r budget old → Keeps 4096 old new → Dated new → Remembers r budget new
+  pub failures-kept : (old new : List ℕ) → Remembers r budget old → Keeps 2048 old new → Dated new → Remembers r budget new
   unfolding Keeps stateIn depthIn madeIn
   failures-kept old new m k v = record { dated = v; fails = λ i c b. rw (k (2 * i) (omega arith), k (2 * i + 1) (omega arith)) (m .fails i c b) }
 

@@ -18,16 +18,16 @@ depthIn memory i = getD memory (2 * i + 1) 0 % 64
 unfoldable pub madeIn : List ℕ → ℕ → ℕ
 madeIn memory i = getD memory (2 * i + 1) 0 / 64
 
--- What the 2,048 slots say is so, of examinations by r: the state fails with that depth after as many examinations, from whatever count the
+-- What the 1,024 slots say is so, of examinations by r: the state fails with that depth after as many examinations, from whatever count the
 -- budget lets it make them. The words after the slots hold successes.
 pub record Remembers (r : ℕ → ℕ → ℕ → Result Plan) (budget : ℕ) (memory : List ℕ) : Type 0 where
   pub dated : Dated memory
-  pub fails : (i c : ℕ) → i < 2048 → 1 ≤ depthIn memory i → c + madeIn memory i ≤ budget → r (depthIn memory i) (stateIn memory i) c ≡ failed (c + madeIn memory i)
+  pub fails : (i c : ℕ) → i < 1024 → 1 ≤ depthIn memory i → c + madeIn memory i ≤ budget → r (depthIn memory i) (stateIn memory i) c ≡ failed (c + madeIn memory i)
 
 -- Some slot says that state s fails with depth d after k examinations.
 pub record Held (memory : List ℕ) (s d k : ℕ) : Type 0 where
   pub slot : ℕ
-  pub inside : slot < 2048
+  pub inside : slot < 1024
   pub state : stateIn memory slot ≡ s
   pub depth : depthIn memory slot ≡ d
   pub made : madeIn memory slot ≡ k
@@ -35,5 +35,5 @@ pub record Held (memory : List ℕ) (s d k : ℕ) : Type 0 where
 -- Some slot was made to say so, and nothing else was changed.
 pub record Noted (old new : List ℕ) (s d k : ℕ) : Type 0 where
   pub slot : ℕ
-  pub inside : slot < 2048
+  pub inside : slot < 1024
   pub words : new ≡ set (set old (2 * slot) s) (2 * slot + 1) (d + 64 * k)

@@ -1,4 +1,4 @@
--- A memory of successes beside that of failures: slot i of three words, from 4096 + 3 i on, says of a state that examining it with a depth
+-- A memory of successes beside that of failures: slot i of three words, from 2048 + 3 i on, says of a state that examining it with a depth
 -- succeeds, after how many examinations, and where the plan's bytes stand in the buffer. It counts only while its epoch is the current one,
 -- the last word: a new epoch begins where bytes may be written over. Assumes nothing.
 use mathlib.Core.Path.{_≡_}
@@ -24,19 +24,19 @@ abbrev pub success : ℕ → ℕ → ℕ → ℕ → ℕ → Success
 success s d k p n = record { state = s; depth = d; made = k; place = p; size = n }
 
 unfoldable pub successIn : List ℕ → ℕ → Success
-successIn memory i = success (getD memory (4096 + 3 * i) 0) (getD memory (4097 + 3 * i) 0 % 64) (getD memory (4097 + 3 * i) 0 / 64)
-    (getD memory (4098 + 3 * i) 0 % 1048576) (getD memory (4098 + 3 * i) 0 / 1048576 % 1048576)
+successIn memory i = success (getD memory (2048 + 3 * i) 0) (getD memory (2049 + 3 * i) 0 % 64) (getD memory (2049 + 3 * i) 0 / 64)
+    (getD memory (2050 + 3 * i) 0 % 1048576) (getD memory (2050 + 3 * i) 0 / 1048576 % 1048576)
 
 unfoldable pub epochIn : List ℕ → ℕ → ℕ
-epochIn memory i = getD memory (4098 + 3 * i) 0 / 1099511627776
+epochIn memory i = getD memory (2050 + 3 * i) 0 / 1099511627776
 
 unfoldable pub epochOf : List ℕ → ℕ
-epochOf memory = getD memory 5632 0
+epochOf memory = getD memory 2432 0
 
 -- Some slot of the current epoch says so.
 pub record Says (memory : List ℕ) (w : Success) : Type 0 where
   pub slot : ℕ
-  pub inside : slot < 512
+  pub inside : slot < 128
   pub current : epochIn memory slot ≡ epochOf memory
   pub says : successIn memory slot ≡ w
   pub deep : 1 ≤ w .depth
@@ -46,9 +46,9 @@ pub record Silent (memory : List ℕ) : Type 0 where
 
 -- The memory has its length, no slot is of a later epoch, and none of the last one, in which nothing is noted.
 pub record Dated (memory : List ℕ) : Type 0 where
-  pub long : length memory ≡ 5633
-  pub past : (i : ℕ) → i < 512 → epochIn memory i ≤ epochOf memory
-  pub early : (i : ℕ) → i < 512 → epochIn memory i < 16777215
+  pub long : length memory ≡ 2433
+  pub past : (i : ℕ) → i < 128 → epochIn memory i ≤ epochOf memory
+  pub early : (i : ℕ) → i < 128 → epochIn memory i < 16777215
 
 -- What is said is so, of examinations by r: they succeed with a plan from whatever count the budget lets them be made, and its bytes stand there.
 pub record Shown (r : ℕ → ℕ → ℕ → Result Plan) (budget : ℕ) (buffer : List ℕ) (w : Success) : Type 0 where
@@ -84,13 +84,13 @@ After r budget old new buffer at (Succeeded c end) = Learnt r budget old new buf
 
 -- The success w was noted, or nothing. The failures are not touched.
 pub record SuccessNoted (old new : List ℕ) (w : Success) : Type 0 where
-  pub failures : Keeps 4096 old new
+  pub failures : Keeps 2048 old new
   pub dated : Dated new
   pub said : (v : Success) → Says new v → Says old v ⊎ (v ≡ w)
 
 -- The bytes from `at` to `end` were given up: if there are any, nothing is said any more. The failures are not touched.
 pub record Forgotten (old new : List ℕ) (at end : ℕ) : Type 0 where
-  pub failures : Keeps 4096 old new
+  pub failures : Keeps 2048 old new
   pub dated : Dated new
   pub said : NoMore old new
   pub silent : (at ≡ end → ⊥) → Silent new

@@ -132,7 +132,7 @@ pub(crate) fn examine(
     rows: &[u16; 2048],
     guide: &[u32; 80],
     tables: &[u16],
-    memory: &mut [u64; 5633],
+    memory: &mut [u64; 2433],
     plan: &mut [u8],
     v: Visit,
 ) -> Ending
@@ -173,7 +173,7 @@ pub(crate) fn outcomes(
     rows: &[u16; 2048],
     guide: &[u32; 80],
     tables: &[u16],
-    memory: &mut [u64; 5633],
+    memory: &mut [u64; 2433],
     plan: &mut [u8],
     m: usize,
     v: Visit,
@@ -216,7 +216,7 @@ pub(crate) fn follow(
     rows: &[u16; 2048],
     guide: &[u32; 80],
     tables: &[u16],
-    memory: &mut [u64; 5633],
+    memory: &mut [u64; 2433],
     plan: &mut [u8],
     v: Visit,
 ) -> Ending

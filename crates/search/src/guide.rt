@@ -63,6 +63,7 @@ fn number(x: u8) -> u32
     x as u32
 }
 
+// Copies the owners, which are filled as bytes.
 fn put_owners(owners: &[u8; 64], guide: &mut [u32])
     requires { ⌜ length (now guide) ≡ 80 ⌝ }
     ensures { λ _. ⌜ OwnersPut (now (owners .entry)) (now (guide .entry)) (now (guide .exit)) ⌝ }
@@ -72,6 +73,7 @@ fn put_owners(owners: &[u8; 64], guide: &mut [u32])
     }
 }
 
+// Writes the record's numbers.
 fn put_sizes(rec: &[u8], guide: &mut [u32])
     requires { ⌜ length (now guide) ≡ 80 ⌝ }
     ensures sized { λ _. ⌜ Sized (now (rec .entry)) (now (guide .exit)) ⌝ }
@@ -80,15 +82,16 @@ fn put_sizes(rec: &[u8], guide: &mut [u32])
     let patterns = number(pattern_count(rec));
     let variables = number(variable_count(rec));
     let actions = number(action_count(rec));
-    let most = number(limit(rec));
-    let spent = budget(rec);
+    let depth = number(limit(rec));
+    let examinations = budget(rec);
     guide[8] = patterns;
     guide[9] = variables;
     guide[10] = actions;
-    guide[11] = spent;
-    guide[12] = most;
+    guide[11] = examinations;
+    guide[12] = depth;
 }
 
+// The whole guide but for the tables' places, which it leaves as they are.
 pub(crate) fn fill_guide(rec: &[u8], task: &[u64; 1282], guide: &mut [u32])
     requires { ⌜ (length (now guide) ≡ 80) × (Sound (now rec)) × (Additive (taskOf (now rec)) (patternsOf (now rec))) × (now task ≡ compiled (taskOf (now rec))) ⌝ }
     ensures sized { λ _. ⌜ Sized (now (rec .entry)) (now (guide .exit)) ⌝ }

@@ -53,7 +53,7 @@ fn examine_start(
     rows: &[u16; 2048],
     guide: &[u32; 80],
     tables: &[u16],
-    memory: &mut [u64; 5633],
+    memory: &mut [u64; 2433],
     plan: &mut [u8],
     v: Visit,
 ) -> Ending
@@ -83,7 +83,7 @@ fn deepen(
     rows: &[u16; 2048],
     guide: &[u32; 80],
     tables: &[u16],
-    memory: &mut [u64; 5633],
+    memory: &mut [u64; 2433],
     plan: &mut [u8],
     s: u64,
     from: u32,
@@ -120,7 +120,7 @@ fn conclude(
     rows: &[u16; 2048],
     guide: &[u32; 80],
     tables: &[u16],
-    memory: &mut [u64; 5633],
+    memory: &mut [u64; 2433],
     plan: &mut [u8],
     s: u64,
 ) -> Conclusion
@@ -176,7 +176,7 @@ pub(crate) fn run_rounds(
     rows: &[u16; 2048],
     guide: &[u32; 80],
     tables: &[u16],
-    memory: &mut [u64; 5633],
+    memory: &mut [u64; 2433],
     plan: &mut [u8],
     s: u64,
 ) -> Answer

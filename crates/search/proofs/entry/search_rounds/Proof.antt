@@ -15,7 +15,7 @@ start-word-requires c κs = search needs
 
 run-rounds-requires : tie.Need-run-rounds-requires
 run-rounds-requires c κs = let p = c .before .before .before .before .before .before .pre in let l = limit-right _ (p .0) in
-    (p .4, nothing-remembered _ _, omega (arith, l, p .5 .limit), nothing-said 5633)
+    (p .4, nothing-remembered _ _, omega (arith, l, p .5 .limit), nothing-said 2433)
 
 same-length : tie.Need-same-length
 same-length c = search needs
