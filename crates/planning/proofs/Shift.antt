@@ -1,5 +1,5 @@
 -- An examination makes the same examinations whatever the count it begins with, as long as the budget reaches: begun at another count it
--- ends alike, with its count moved by as much. So a failure that is known holds at every count. Assumes nothing.
+-- ends alike, with its count moved by as much. So a failure that is known holds at every count, and so does a success. Assumes nothing.
 use mathlib.Core.Path.{_≡_, refl, sym, ap, subst}
 use mathlib.Core.Bool.{Bool, true, false, not, _&&_}
 use mathlib.Core.List.{List, [], _∷_}
@@ -104,3 +104,14 @@ failure-moves b c c′ k (too-long r q n) w l = let z : countOf r ≡ c + k = ap
 pub failed-anywhere : {S : Type 0} (Y : System S) (h : S → ℕ∞) (budget d : ℕ) (s : S) (c k c′ : ℕ) → examination Y h budget d s c ≡ failed (c + k) → c′ + k ≤ budget → examination Y h budget d s c′ ≡ failed (c′ + k)
 unfolding examination
 failed-anywhere Y h budget d s c k c′ e l = failure-moves budget c c′ k (examination-moves Y h budget (suc d) d s c c′) e l
+
+success-moves : {A : Type 0} (b c c′ k : ℕ) (a : A) {r q : Result A} → Moved b c c′ r q → r ≡ succeeded a (c + k) → c′ + k ≤ b → q ≡ succeeded a (c′ + k)
+success-moves b c c′ k a (moved-success a′ x y e) w l = let z : x ≡ c + k = ap countOf w in let v : y ≡ c′ + k = omega (arith, e, z) in cc
+success-moves b c c′ k a (moved-failure x y e) w l = let z : _≡_ {A = ℕ} 0 1 = cc in absurd (omega arith)
+success-moves b c c′ k a (was-stopped x q) w l = let z : _≡_ {A = ℕ} 0 1 = cc in absurd (omega arith)
+success-moves b c c′ k a (too-long r q n) w l = let z : countOf r ≡ c + k = ap countOf w in absurd (omega (arith, n, z, l))
+
+-- An examination that succeeds after k examinations succeeds with the same plan after k examinations at every count that leaves so many.
+pub succeeded-anywhere : {S : Type 0} (Y : System S) (h : S → ℕ∞) (budget d : ℕ) (s : S) (p : Plan) (c k c′ : ℕ) → examination Y h budget d s c ≡ succeeded p (c + k) → c′ + k ≤ budget → examination Y h budget d s c′ ≡ succeeded p (c′ + k)
+unfolding examination
+succeeded-anywhere Y h budget d s p c k c′ e l = success-moves budget c c′ k p (examination-moves Y h budget (suc d) d s c c′) e l

@@ -52,6 +52,12 @@ module _ {A : Type 0} {f : A → List ℕ} {c b at : ℕ} {old new : List ℕ} w
   succeeded-range (failed i) e end h l = let q = h .ending in let z : _≡_ {A = ℕ} 0 1 = cc in absurd (omega arith)
   succeeded-range (stopped i) e end h l = let q = h .ending in let z : _≡_ {A = ℕ} 0 1 = cc in absurd (omega arith)
 
+  pub succeeded-place : (x : Result A) (e end : ℕ) → Examined f x c b at old new (Succeeded e end) → at ≤ end
+  unfolding endingOf
+  succeeded-place (succeeded a i) e end h = let q = h .ending in let g : end ≡ at + length (f a) = cc in omega arith
+  succeeded-place (failed i) e end h = let q = h .ending in let z : _≡_ {A = ℕ} 0 1 = cc in absurd (omega arith)
+  succeeded-place (stopped i) e end h = let q = h .ending in let z : _≡_ {A = ℕ} 0 1 = cc in absurd (omega arith)
+
   pub failed-range : (x : Result A) (e : ℕ) → Examined f x c b at old new (Failed e) → (e ≤ b) × (c ≤ e)
   unfolding endingOf visitCount
   failed-range (succeeded a i) e h = let q = h .ending in let z : _≡_ {A = ℕ} 0 1 = cc in absurd (omega arith)

@@ -16,5 +16,8 @@ pub mod Bytes
 pub mod Carrying
 pub mod Trying
 pub mod Endings
+pub mod Noting
 pub mod Remembering
+pub mod Copying
+pub mod Reusing
 pub mod Conclusions

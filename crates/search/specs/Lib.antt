@@ -6,6 +6,7 @@ pub mod Rows
 pub mod ByteRows
 pub mod Buffer
 pub mod Examination
+pub mod Successes
 pub mod Memory
 pub mod Packed
 pub mod Answer

@@ -70,7 +70,7 @@ fn search_rounds(
     ensures answer { λ r. ⌜ r ≡ answerOf (length (now (plan .entry))) (taskAnswer (now (rec .entry))) ⌝ }
     ensures buffer { λ _. ⌜ now (plan .exit) ≡ bufferOf (length (now (plan .entry))) (taskAnswer (now (rec .entry))) ⌝ }
 {
-    let mut memory = [0u64; 2048];
+    let mut memory = [0u64; 2433];
     let s = start_word(rec);
     run_rounds(
         task,

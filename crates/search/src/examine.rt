@@ -1,6 +1,6 @@
 // Examining a state and examining an action's outcomes call each other, and the depth left falls. The tests that end an examination at
 // once stand before the call, so that a leaf of the search costs none. The count of examinations is carried in every ending.
-// A failure is remembered and not examined again.
+// A failure is remembered and not examined again, and a success is noted and its plan's bytes are copied.
 // The value of a state is carried: an outcome changes it in the action's owner only. Asks for what the search goes by (`Guided`: every weight 1,
 // at most 8 outcomes, the sets of applying actions, the guide), a count within the budget and a depth of at most 32.
 ghost use mathlib.Core.Path.{_≡_};
@@ -15,6 +15,7 @@ ghost use Rattle.search.specs.Guide.{actionsIn, budgetIn};
 ghost use Rattle.search.specs.Value.{Estimated};
 ghost use Rattle.search.specs.Examination.{openingOf, Examined, Guided};
 ghost use Rattle.search.specs.Memory.{Remembers};
+ghost use Rattle.search.specs.Successes.{Known, After};
 ghost use Rattle.search.specs.Packed.{guidedExamination, guidedOpening, guidedOutcomes, guidedValue};
 ghost use Rattle.search.specs.declared.examine.Opening.{Opening};
 use crate::buffer::put;
@@ -27,6 +28,10 @@ use crate::guide::budget_in;
 use crate::guide::bytes_in;
 use crate::memory::recall;
 use crate::memory::remember;
+use crate::successes::copy;
+use crate::successes::forget;
+use crate::successes::note_success;
+use crate::successes::recall_success;
 use tables::applying::applying;
 
 // How an examination begins.
@@ -127,13 +132,14 @@ pub(crate) fn examine(
     rows: &[u16; 2048],
     guide: &[u32; 80],
     tables: &[u16],
-    memory: &mut [u64; 2048],
+    memory: &mut [u64; 2433],
     plan: &mut [u8],
     v: Visit,
 ) -> Ending
-    requires { ⌜ (Guided (now task) (now sets) (now places) (now rows) (now guide)) × (Remembers (guidedExamination (now task) (now rows) (now guide) (now tables)) (budgetIn (now guide)) (now memory)) × (v .count ≤ budgetIn (now guide)) × (v .at ≤ v .count) × (v .d ≤ 32) × (guidedValue (now rows) (now guide) (now tables) (v .s) ≡ fin (v .value)) × (guidedOpening (now task) (now rows) (now guide) (now tables) (v .d) (v .s) (v .count) ≡ Opening.Expand) ⌝ }
+    requires { ⌜ (Guided (now task) (now sets) (now places) (now rows) (now guide)) × (Remembers (guidedExamination (now task) (now rows) (now guide) (now tables)) (budgetIn (now guide)) (now memory)) × (v .count ≤ budgetIn (now guide)) × (v .at ≤ v .count) × (v .d ≤ 32) × (guidedValue (now rows) (now guide) (now tables) (v .s) ≡ fin (v .value)) × (guidedOpening (now task) (now rows) (now guide) (now tables) (v .d) (v .s) (v .count) ≡ Opening.Expand) × (Known (guidedExamination (now task) (now rows) (now guide) (now tables)) (budgetIn (now guide)) (now memory) (now plan) (v .at)) ⌝ }
     ensures examined { λ r. ⌜ Examined encode (guidedExamination (now (task .entry)) (now (rows .entry)) (now (guide .entry)) (now (tables .entry)) (v .d) (v .s) (v .count)) (v .count) (budgetIn (now (guide .entry))) (v .at) (now (plan .entry)) (now (plan .exit)) r ⌝ }
     ensures remembers { λ _. ⌜ Remembers (guidedExamination (now (task .entry)) (now (rows .entry)) (now (guide .entry)) (now (tables .entry))) (budgetIn (now (guide .entry))) (now (memory .exit)) ⌝ }
+    ensures successes { λ r. ⌜ After (guidedExamination (now (task .entry)) (now (rows .entry)) (now (guide .entry)) (now (tables .entry))) (budgetIn (now (guide .entry))) (now (memory .entry)) (now (memory .exit)) (now (plan .exit)) (v .at) r ⌝ }
 {
     let mut c = v.count + 1;
     let mut set = applying(sets, v.s, bytes_in(guide));
@@ -149,6 +155,7 @@ pub(crate) fn examine(
             }
             Ending::Succeeded(e, end) => {
                 put(plan, v.at, byte_of(m));
+                note_success(memory, v.s, v.d, e - v.count, v.at, end - v.at);
                 return Ending::Succeeded(e, end);
             }
         }
@@ -166,14 +173,15 @@ pub(crate) fn outcomes(
     rows: &[u16; 2048],
     guide: &[u32; 80],
     tables: &[u16],
-    memory: &mut [u64; 2048],
+    memory: &mut [u64; 2433],
     plan: &mut [u8],
     m: usize,
     v: Visit,
 ) -> Ending
-    requires { ⌜ (Guided (now task) (now sets) (now places) (now rows) (now guide)) × (Remembers (guidedExamination (now task) (now rows) (now guide) (now tables)) (budgetIn (now guide)) (now memory)) × (v .count ≤ budgetIn (now guide)) × (v .at ≤ v .count) × (v .d ≤ 32) × (guidedValue (now rows) (now guide) (now tables) (v .s) ≡ fin (v .value)) × (v .value ≤ 32) × (m < actionsIn (now guide)) ⌝ }
+    requires { ⌜ (Guided (now task) (now sets) (now places) (now rows) (now guide)) × (Remembers (guidedExamination (now task) (now rows) (now guide) (now tables)) (budgetIn (now guide)) (now memory)) × (v .count ≤ budgetIn (now guide)) × (v .at ≤ v .count) × (v .d ≤ 32) × (guidedValue (now rows) (now guide) (now tables) (v .s) ≡ fin (v .value)) × (v .value ≤ 32) × (m < actionsIn (now guide)) × (Known (guidedExamination (now task) (now rows) (now guide) (now tables)) (budgetIn (now guide)) (now memory) (now plan) (v .at)) ⌝ }
     ensures examined { λ r. ⌜ Examined encodes (guidedOutcomes (now (task .entry)) (now (rows .entry)) (now (guide .entry)) (now (tables .entry)) (v .d) (v .s) m (v .count)) (v .count) (budgetIn (now (guide .entry))) (v .at) (now (plan .entry)) (now (plan .exit)) r ⌝ }
     ensures remembers { λ _. ⌜ Remembers (guidedExamination (now (task .entry)) (now (rows .entry)) (now (guide .entry)) (now (tables .entry))) (budgetIn (now (guide .entry))) (now (memory .exit)) ⌝ }
+    ensures successes { λ r. ⌜ After (guidedExamination (now (task .entry)) (now (rows .entry)) (now (guide .entry)) (now (tables .entry))) (budgetIn (now (guide .entry))) (now (memory .entry)) (now (memory .exit)) (now (plan .exit)) (v .at) r ⌝ }
 {
     let n = place_of(outcome_count(task, m));
     let rest = rest_of(places, rows, guide, tables, v.s, m, v.value);
@@ -188,6 +196,7 @@ pub(crate) fn outcomes(
                 return Ending::Stopped(e);
             }
             Ending::Failed(e) => {
+                forget(memory, v.at, end);
                 return Ending::Failed(e);
             }
             Ending::Succeeded(e, after) => {
@@ -199,7 +208,7 @@ pub(crate) fn outcomes(
     Ending::Succeeded(c, end)
 }
 
-// Examines the state after an outcome, unless it is decided at once or remembered to fail.
+// Examines the state after an outcome, unless it is decided at once, remembered to fail or known to succeed.
 pub(crate) fn follow(
     task: &[u64; 1282],
     sets: &[u64; 2048],
@@ -207,13 +216,14 @@ pub(crate) fn follow(
     rows: &[u16; 2048],
     guide: &[u32; 80],
     tables: &[u16],
-    memory: &mut [u64; 2048],
+    memory: &mut [u64; 2433],
     plan: &mut [u8],
     v: Visit,
 ) -> Ending
-    requires { ⌜ (Guided (now task) (now sets) (now places) (now rows) (now guide)) × (Remembers (guidedExamination (now task) (now rows) (now guide) (now tables)) (budgetIn (now guide)) (now memory)) × (v .count ≤ budgetIn (now guide)) × (v .at ≤ v .count) × (v .d ≤ 32) × (Estimated (guidedValue (now rows) (now guide) (now tables) (v .s)) (v .value)) ⌝ }
+    requires { ⌜ (Guided (now task) (now sets) (now places) (now rows) (now guide)) × (Remembers (guidedExamination (now task) (now rows) (now guide) (now tables)) (budgetIn (now guide)) (now memory)) × (v .count ≤ budgetIn (now guide)) × (v .at ≤ v .count) × (v .d ≤ 32) × (Estimated (guidedValue (now rows) (now guide) (now tables) (v .s)) (v .value)) × (Known (guidedExamination (now task) (now rows) (now guide) (now tables)) (budgetIn (now guide)) (now memory) (now plan) (v .at)) ⌝ }
     ensures examined { λ r. ⌜ Examined encode (guidedExamination (now (task .entry)) (now (rows .entry)) (now (guide .entry)) (now (tables .entry)) (v .d) (v .s) (v .count)) (v .count) (budgetIn (now (guide .entry))) (v .at) (now (plan .entry)) (now (plan .exit)) r ⌝ }
     ensures remembers { λ _. ⌜ Remembers (guidedExamination (now (task .entry)) (now (rows .entry)) (now (guide .entry)) (now (tables .entry))) (budgetIn (now (guide .entry))) (now (memory .exit)) ⌝ }
+    ensures successes { λ r. ⌜ After (guidedExamination (now (task .entry)) (now (rows .entry)) (now (guide .entry)) (now (tables .entry))) (budgetIn (now (guide .entry))) (now (memory .entry)) (now (memory .exit)) (now (plan .exit)) (v .at) r ⌝ }
 {
     let budget = budget_in(guide);
     match open_state(task, v.s, v.value, v.d, budget, v.count) {
@@ -227,6 +237,11 @@ pub(crate) fn follow(
             let k = recall(memory, v.s, v.d, budget - v.count);
             if k != 0 {
                 return Ending::Failed(v.count + k);
+            }
+            let known = recall_success(memory, v.s, v.d, budget - v.count);
+            if known.made != 0 {
+                copy(plan, known.from, v.at, known.size);
+                return Ending::Succeeded(v.count + known.made, v.at + known.size);
             }
             examine(task, sets, places, rows, guide, tables, memory, plan, v)
         }

@@ -11,3 +11,4 @@ mod memory;
 mod owners;
 mod rounds;
 mod rows;
+mod successes;

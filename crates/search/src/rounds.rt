@@ -1,5 +1,5 @@
 // Rounds of examinations from the start, one more depth each, from the value of the start up to the limit; then the plan's buffer is filled
-// up with 255. Asks for what the search goes by (`Guided`), a limit of at most 32 and a memory that is true; the buffer may have any length.
+// up with 255. Asks for what the search goes by (`Guided`), a limit of at most 32 and a memory that is true and knows no success; the buffer may have any length.
 ghost use mathlib.Core.Path.{_≡_};
 ghost use Prim.Native.Nat.{suc, _-_, _≤_};
 ghost use lib.ListN.{length};
@@ -11,6 +11,7 @@ ghost use Rattle.tables.specs.Packed.{packedSystem};
 ghost use Rattle.search.specs.Examination.{Examined, Guided};
 ghost use Rattle.search.specs.Guide.{actionsIn, budgetIn, limitIn};
 ghost use Rattle.search.specs.Memory.{Remembers};
+ghost use Rattle.search.specs.Successes.{Silent, Known, After};
 ghost use Rattle.search.specs.Packed.{guidedExamination, guidedValue};
 ghost use Rattle.search.specs.Answer.{Concluded, answerOf, bufferOf, guidedSearch};
 use crate::buffer::fill;
@@ -52,13 +53,14 @@ fn examine_start(
     rows: &[u16; 2048],
     guide: &[u32; 80],
     tables: &[u16],
-    memory: &mut [u64; 2048],
+    memory: &mut [u64; 2433],
     plan: &mut [u8],
     v: Visit,
 ) -> Ending
-    requires { ⌜ (Guided (now task) (now sets) (now places) (now rows) (now guide)) × (Remembers (guidedExamination (now task) (now rows) (now guide) (now tables)) (budgetIn (now guide)) (now memory)) × (v .count ≤ budgetIn (now guide)) × (v .at ≤ v .count) × (v .d ≤ 32) × (guidedValue (now rows) (now guide) (now tables) (v .s) ≡ fin (v .value)) × (v .value ≤ v .d) ⌝ }
+    requires { ⌜ (Guided (now task) (now sets) (now places) (now rows) (now guide)) × (Remembers (guidedExamination (now task) (now rows) (now guide) (now tables)) (budgetIn (now guide)) (now memory)) × (v .count ≤ budgetIn (now guide)) × (v .at ≤ v .count) × (v .d ≤ 32) × (guidedValue (now rows) (now guide) (now tables) (v .s) ≡ fin (v .value)) × (v .value ≤ v .d) × (Known (guidedExamination (now task) (now rows) (now guide) (now tables)) (budgetIn (now guide)) (now memory) (now plan) (v .at)) ⌝ }
     ensures examined { λ r. ⌜ Examined encode (guidedExamination (now (task .entry)) (now (rows .entry)) (now (guide .entry)) (now (tables .entry)) (v .d) (v .s) (v .count)) (v .count) (budgetIn (now (guide .entry))) (v .at) (now (plan .entry)) (now (plan .exit)) r ⌝ }
     ensures remembers { λ _. ⌜ Remembers (guidedExamination (now (task .entry)) (now (rows .entry)) (now (guide .entry)) (now (tables .entry))) (budgetIn (now (guide .entry))) (now (memory .exit)) ⌝ }
+    ensures successes { λ r. ⌜ After (guidedExamination (now (task .entry)) (now (rows .entry)) (now (guide .entry)) (now (tables .entry))) (budgetIn (now (guide .entry))) (now (memory .entry)) (now (memory .exit)) (now (plan .exit)) (v .at) r ⌝ }
 {
     if v.count == budget_in(guide) {
         return Ending::Stopped(v.count);
@@ -81,12 +83,12 @@ fn deepen(
     rows: &[u16; 2048],
     guide: &[u32; 80],
     tables: &[u16],
-    memory: &mut [u64; 2048],
+    memory: &mut [u64; 2433],
     plan: &mut [u8],
     s: u64,
     from: u32,
 ) -> Conclusion
-    requires { ⌜ (Guided (now task) (now sets) (now places) (now rows) (now guide)) × (Remembers (guidedExamination (now task) (now rows) (now guide) (now tables)) (budgetIn (now guide)) (now memory)) × (from ≤ limitIn (now guide)) × (limitIn (now guide) ≤ 32) × (guidedValue (now rows) (now guide) (now tables) s ≡ fin from) ⌝ }
+    requires { ⌜ (Guided (now task) (now sets) (now places) (now rows) (now guide)) × (Remembers (guidedExamination (now task) (now rows) (now guide) (now tables)) (budgetIn (now guide)) (now memory)) × (from ≤ limitIn (now guide)) × (limitIn (now guide) ≤ 32) × (guidedValue (now rows) (now guide) (now tables) s ≡ fin from) × (Silent (now memory)) ⌝ }
     ensures { λ r. ⌜ Concluded (rounds (packedSystem (now (task .entry)) (actionsIn (now (guide .entry)))) (guidedValue (now (rows .entry)) (now (guide .entry)) (now (tables .entry))) (budgetIn (now (guide .entry))) (limitIn (now (guide .entry))) s (suc (limitIn (now (guide .entry)) - from)) from 0) (now (plan .exit)) r ⌝ }
 {
     let limit = limit_in(guide);
@@ -118,11 +120,11 @@ fn conclude(
     rows: &[u16; 2048],
     guide: &[u32; 80],
     tables: &[u16],
-    memory: &mut [u64; 2048],
+    memory: &mut [u64; 2433],
     plan: &mut [u8],
     s: u64,
 ) -> Conclusion
-    requires { ⌜ (Guided (now task) (now sets) (now places) (now rows) (now guide)) × (Remembers (guidedExamination (now task) (now rows) (now guide) (now tables)) (budgetIn (now guide)) (now memory)) × (limitIn (now guide) ≤ 32) ⌝ }
+    requires { ⌜ (Guided (now task) (now sets) (now places) (now rows) (now guide)) × (Remembers (guidedExamination (now task) (now rows) (now guide) (now tables)) (budgetIn (now guide)) (now memory)) × (limitIn (now guide) ≤ 32) × (Silent (now memory)) ⌝ }
     ensures { λ r. ⌜ Concluded (guidedSearch (now (task .entry)) (now (rows .entry)) (now (guide .entry)) (now (tables .entry)) s) (now (plan .exit)) r ⌝ }
 {
     let patterns = patterns_in(guide);
@@ -174,11 +176,11 @@ pub(crate) fn run_rounds(
     rows: &[u16; 2048],
     guide: &[u32; 80],
     tables: &[u16],
-    memory: &mut [u64; 2048],
+    memory: &mut [u64; 2433],
     plan: &mut [u8],
     s: u64,
 ) -> Answer
-    requires { ⌜ (Guided (now task) (now sets) (now places) (now rows) (now guide)) × (Remembers (guidedExamination (now task) (now rows) (now guide) (now tables)) (budgetIn (now guide)) (now memory)) × (limitIn (now guide) ≤ 32) ⌝ }
+    requires { ⌜ (Guided (now task) (now sets) (now places) (now rows) (now guide)) × (Remembers (guidedExamination (now task) (now rows) (now guide) (now tables)) (budgetIn (now guide)) (now memory)) × (limitIn (now guide) ≤ 32) × (Silent (now memory)) ⌝ }
     ensures answer { λ r. ⌜ r ≡ answerOf (length (now (plan .entry))) (guidedSearch (now (task .entry)) (now (rows .entry)) (now (guide .entry)) (now (tables .entry)) s) ⌝ }
     ensures buffer { λ _. ⌜ now (plan .exit) ≡ bufferOf (length (now (plan .entry))) (guidedSearch (now (task .entry)) (now (rows .entry)) (now (guide .entry)) (now (tables .entry)) s) ⌝ }
 {

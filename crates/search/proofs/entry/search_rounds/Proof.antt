@@ -7,6 +7,7 @@ use native.Mathlib.Omega.{arith}
 use lib.ListN.{length}
 use Rattle.search.specs.Answer.{answerOf, bufferOf}
 use Rattle.search.proofs.RecordSearch.{limit-right, searched}
+use Rattle.search.proofs.Noting.{nothing-said}
 use Rattle.search.proofs.Remembering.{nothing-remembered}
 
 start-word-requires : tie.Need-start-word-requires
@@ -14,7 +15,7 @@ start-word-requires c κs = search needs
 
 run-rounds-requires : tie.Need-run-rounds-requires
 run-rounds-requires c κs = let p = c .before .before .before .before .before .before .pre in let l = limit-right _ (p .0) in
-    (p .4, nothing-remembered _ _ 2048, omega (arith, l, p .5 .limit))
+    (p .4, nothing-remembered _ _, omega (arith, l, p .5 .limit), nothing-said 2433)
 
 same-length : tie.Need-same-length
 same-length c = search needs

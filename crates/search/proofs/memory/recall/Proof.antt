@@ -46,7 +46,7 @@ cast-result c = search needs
 
 returns-4 : tie.Need-returns-4
 unfolding stateIn depthIn madeIn
-returns-4 c = λ n. (record { slot = c .before .before .before .before .before .slot-of .result; state = c .before .before .before .if1 .left; depth = c .before .if2 .left; made = refl }, c .if3 .left)
+returns-4 c = λ n. (record { slot = c .before .before .before .before .before .slot-of .result; inside = c .before .before .before .before .before .slot-of .ensures; state = c .before .before .before .if1 .left; depth = c .before .if2 .left; made = refl }, c .if3 .left)
 
 pub recall-spec : {M : Type 1} → statement M
 recall-spec =

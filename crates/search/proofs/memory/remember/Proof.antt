@@ -38,7 +38,7 @@ element-write-memory-2 : tie.Need-element-write-memory-2
 element-write-memory-2 c = search needs
 
 returns : tie.Need-returns
-returns c = record { slot = c .slot-of .result; words = refl }
+returns c = record { slot = c .slot-of .result; inside = c .slot-of .ensures; words = refl }
 
 pub remember-spec : {M : Type 1} → statement M
 remember-spec =
