@@ -1,4 +1,5 @@
-// The search of a record's task (`entry`): its rows, the estimate of a packed state, examining states and outcomes, rounds.
+// The search of a record's task (`entry`): its rows, the estimate of a packed state, examining states and outcomes (`examine`), what is remembered of them (`memory`,
+// `successes`), rounds.
 mod buffer;
 mod byte_rows;
 mod carried;
