@@ -10,6 +10,7 @@ mod patterns;
 mod plan;
 mod record;
 mod search;
+mod successes;
 mod table;
 mod text;
 

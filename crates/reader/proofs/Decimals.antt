@@ -1,6 +1,6 @@
 -- Digits and their value from an index on, and what a well-formed number is known for.
 -- Assumes nothing.
-use mathlib.Core.Path.{_≡_, refl, sym, _∙_}
+use mathlib.Core.Path.{_≡_, refl}
 use mathlib.Core.Bool.{Bool, true, false, not, _&&_, _||_, false≢true}
 use mathlib.Core.List.{List}
 use Prim.Native.Nat.{ℕ, _+_, _-_, _*_, _^_, _≤_, _<_}
@@ -37,33 +37,24 @@ and-right : (a b : Bool) → (a && b) ≡ true → b ≡ true
 and-right true b e = e
 and-right false b e = absurd (false≢true e)
 
--- of a list of digits, each is one and the rest are
-pub digit-bounds : (s : List ℕ) (i : ℕ) → i < length s → digits (drop i s) ≡ true → (48 ≤ getD s i 0) × (getD s i 0 ≤ 57)
-digit-bounds s i h e =
-    let x = getD s i 0 in
-    let d = and-left (digit x) (digits (drop (i + 1) s)) (sym (digits-step s i h) ∙ e) in
-    (leb-true 48 x (and-left (leb 48 x) (leb x 57) d), leb-true x 57 (and-right (leb 48 x) (leb x 57) d))
-
-pub digits-rest : (s : List ℕ) (i : ℕ) → i < length s → digits (drop i s) ≡ true → digits (drop (i + 1) s) ≡ true
-digits-rest s i h e = and-right (digit (getD s i 0)) (digits (drop (i + 1) s)) (sym (digits-step s i h) ∙ e)
-
--- a well-formed number has at most 7 bytes, and each is a digit
-module _ (s : List ℕ) (e : wellFormed s ≡ true) where
+-- a number has 1 to 7 bytes, and where it is well formed each is a digit
+module _ (s : List ℕ) where
   abbrev count : Bool
   count = leb 1 (length s) && leb (length s) 7
 
   abbrev lead : Bool
   lead = leb (length s) 1 || not (eqb (getD s 0 0) 48)
 
-  parts : ((count && lead) && digits s) ≡ true
+  pub framed-short : (count && lead) ≡ true → length s ≤ 7
+  framed-short e = leb-true (length s) 7 (and-right (leb 1 (length s)) (leb (length s) 7) (and-left count lead e))
+
+  pub formed-some : wellFormed s ≡ true → 1 ≤ length s
   unfolding wellFormed
-  parts = e
+  formed-some e = leb-true 1 (length s) (and-left (leb 1 (length s)) (leb (length s) 7) (and-left count lead (and-left (count && lead) (digits s) e)))
 
-  pub formed-short : length s ≤ 7
-  formed-short = leb-true (length s) 7 (and-right (leb 1 (length s)) (leb (length s) 7) (and-left count lead (and-left (count && lead) (digits s) parts)))
-
-  pub formed-digits : digits s ≡ true
-  formed-digits = and-right (count && lead) (digits s) parts
+  pub formed-digits : wellFormed s ≡ true → digits s ≡ true
+  unfolding wellFormed
+  formed-digits e = and-right (count && lead) (digits s) e
 
 -- a bound for one digit more
 pub ten-step : (i : ℕ) → 10 ^ (i + 1) ≡ 10 ^ i * 10

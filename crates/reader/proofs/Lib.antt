@@ -28,4 +28,5 @@ pub mod QuickNumbers
 pub mod QuickLists
 pub mod QuickLines
 pub mod QuickOrder
+pub mod QuickBudget
 pub mod Sample

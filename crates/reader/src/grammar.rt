@@ -2,7 +2,9 @@
 // of a refused text is thrown away. Assumes nothing.
 ghost use mathlib.Core.Path.{_≡_};
 ghost use Prim.Native.Nat.{_<_};
-ghost use Rattle.reader.specs.Grammar.{goOn, told, takeNumber, takeBudget, takeList, numberLine, budgetLine, listLine, takeLine};
+ghost use lib.Seq.{sets};
+ghost use Rattle.task_record.specs.Layout.{atBudget};
+ghost use Rattle.reader.specs.Grammar.{goOn, told, budgetBytes, takeNumber, takeBudget, takeList, numberLine, budgetLine, listLine, takeLine};
 ghost use Rattle.reader.specs.Lists.{gathered};
 use crate::decimal::Decimal;
 use crate::decimal::number;
@@ -66,6 +68,16 @@ fn take_number(rec: &mut [u8], due: Due, lo: usize, hi: usize, at: usize, d: Dec
 }
 
 // The budget, lowest byte first.
+pub(crate) fn put_budget(rec: &mut [u8], n: usize)
+    ensures { λ _. ⌜ now (rec .exit) ≡ sets (now (rec .entry)) atBudget (budgetBytes n) ⌝ }
+{
+    put(rec, AT_BUDGET, (n % 256) as u8);
+    put(rec, AT_BUDGET + 1, (n / 256 % 256) as u8);
+    put(rec, AT_BUDGET + 2, (n / 65536 % 256) as u8);
+    put(rec, AT_BUDGET + 3, (n / 16777216 % 256) as u8);
+}
+
+// A number up to 1,000,000 is the budget.
 fn take_budget(rec: &mut [u8], due: Due, d: Decimal) -> Taken
     ensures { λ r. ⌜ takeBudget (now (rec .entry)) due d ≡ told r (now (rec .exit)) ⌝ }
 {
@@ -75,10 +87,7 @@ fn take_budget(rec: &mut [u8], due: Due, d: Decimal) -> Taken
             if 1000000 < n {
                 return Taken::Faulty(3);
             }
-            put(rec, AT_BUDGET, (n % 256) as u8);
-            put(rec, AT_BUDGET + 1, (n / 256 % 256) as u8);
-            put(rec, AT_BUDGET + 2, (n / 65536 % 256) as u8);
-            put(rec, AT_BUDGET + 3, (n / 16777216 % 256) as u8);
+            put_budget(rec, n);
             go_on(rec, due)
         }
     }
@@ -127,7 +136,7 @@ fn number_line(
 }
 
 // The line with the budget.
-pub(crate) fn budget_line(rec: &mut [u8], due: Due, line: &[u8], key: &[u8]) -> Taken
+fn budget_line(rec: &mut [u8], due: Due, line: &[u8], key: &[u8]) -> Taken
     ensures { λ r. ⌜ budgetLine (now (rec .entry)) due (now (line .entry)) (now (key .entry)) ≡ told r (now (rec .exit)) ⌝ }
 {
     if has_key(line, key) {

@@ -123,7 +123,7 @@ pub(crate) fn quick_pair(text: &[u8], at: usize) -> Item
     }
 }
 
-// The item of another kind at a place, where `next` is the variable that comes next.
+// A value or a member, where `next` is the variable that comes next. Pairs are read by `quick_pair` alone.
 pub(crate) fn quick_item(text: &[u8], at: usize, kind: Kind, next: usize) -> Item
     requires { ⌜ (at + 2 ≤ length (now text)) × (next < 256) ⌝ }
     ensures { λ r. ⌜ (r .variable < 256) × (r .value < 256) × (r .end ≤ at + 2) ⌝ }

@@ -1,11 +1,10 @@
 // Good lines, read where they stand in the text, and the cells written in place. Each function answers the place of the next line, or 0 where it
 // does not know the line for good; then the record may hold anything. Assumes room for the cells.
 ghost use mathlib.Core.Path.{_≡_};
-ghost use mathlib.Core.Bool.{true};
+ghost use mathlib.Core.Bool.{true, false};
 ghost use Prim.Native.Nat.{_+_, _<_, _≤_};
 ghost use lib.ListN.{length, getD, drop, set};
 ghost use Rattle.reader.specs.Text.{hasKey};
-ghost use mathlib.Core.Bool.{false};
 ghost use Rattle.reader.specs.Lists.{pairFits, isValues};
 ghost use Rattle.reader.specs.Quick.{ListAt, NumberAt};
 use crate::lists::Kind;
@@ -77,7 +76,7 @@ fn is_empty(text: &[u8], at: usize, kind: Kind) -> bool
     !is_values(kind)
 }
 
-// A list up to the end of its line, for a record of n variables.
+// A list of values or of members up to the end of its line, for a record of n variables.
 fn quick_list(text: &[u8], at: usize, rec: &mut [u8], kind: Kind, n: usize, row: usize) -> usize
     requires { ⌜ (at ≤ length (now text)) × (24 ≤ row) × (row + 16 ≤ length (now rec)) × (n ≡ getD (now rec) 0 0) × (n ≤ 16) ⌝ }
     ensures { λ r. ⌜ (r ≤ length (now (text .entry))) ⌝ }

@@ -1,21 +1,20 @@
 // The lines of a good text in their order, each read once. Every function answers the place of the next line, or 0 where it does not know the
 // lines for good; then the record may hold anything. Assumes a record of full length, and that the counts it cites are read.
 ghost use mathlib.Core.Path.{_≡_};
-ghost use mathlib.Core.Bool.{true, cond};
+ghost use mathlib.Core.Bool.{true};
 ghost use Prim.Native.Nat.{_+_, _<_, _≤_};
-ghost use lib.Dec.{ltb};
 ghost use lib.ListN.{length, getD};
 ghost use Rattle.task_record.specs.Layout.{recordSize, atAction};
-ghost use Rattle.reader.specs.Text.{linesOf};
-ghost use Rattle.reader.specs.Grammar.{actionFrom, patternFrom, readFrom, complete};
+ghost use Rattle.reader.specs.Text.{linesOf, numberOf};
+ghost use Rattle.reader.specs.Grammar.{actionFrom, patternFrom, goOn, takeBudget, readFrom, complete};
 ghost use Rattle.reader.specs.Quick.{Leads};
-use crate::grammar::Taken;
-use crate::grammar::budget_line;
+use crate::decimal::Decimal;
+use crate::decimal::number;
+use crate::grammar::put_budget;
 use crate::lists::Kind;
 use crate::order::Due;
-use crate::order::is_end;
 use crate::pieces::LINE_BREAK;
-use crate::pieces::find;
+use crate::pieces::key_at;
 use crate::places::at_action;
 use crate::places::at_outcome;
 use crate::places::at_pattern;
@@ -207,6 +206,34 @@ fn quick_lines(text: &[u8], rec: &mut [u8]) -> usize
     quick_tail(text, b, rec, n)
 }
 
+// The place where the last line of a text ends: before the line break at the text's end, or there.
+fn last_end(text: &[u8]) -> usize
+    requires { ⌜ 1 ≤ length (now text) ⌝ }
+    ensures { λ r. ⌜ (r ≤ length (now (text .entry))) × (length (now (text .entry)) ≤ r + 1) × (r < length (now (text .entry)) → getD (now (text .entry)) r 0 ≡ 10) ⌝ }
+{
+    let last = text.len() - 1;
+    if text[last] == LINE_BREAK {
+        return last;
+    }
+    last + 1
+}
+
+// Whether a budget stands there; then the record has it.
+fn quick_budget(rec: &mut [u8], s: &[u8]) -> bool
+    ensures { λ r. ⌜ (r ≡ true → takeBudget (now (rec .entry)) Due.Budget (numberOf (now (s .entry))) ≡ goOn Due.Budget (now (rec .exit))) ⌝ }
+{
+    match number(s) {
+        Decimal::Malformed => false,
+        Decimal::Value(n) => {
+            if 1000000 < n {
+                return false;
+            }
+            put_budget(rec, n);
+            true
+        }
+    }
+}
+
 // Whether the text is known for good; then the record is what it says.
 pub(crate) fn is_good(text: &[u8], rec: &mut [u8]) -> bool
     requires { ⌜ length (now rec) ≡ recordSize ⌝ }
@@ -216,16 +243,12 @@ pub(crate) fn is_good(text: &[u8], rec: &mut [u8]) -> bool
     if at == 0 {
         return false;
     }
-    if text.len() <= at {
+    if text.len() < at + 8 {
         return false;
     }
-    let rest = &text[at..];
-    let k = find(rest, LINE_BREAK);
-    if k + 1 < rest.len() {
+    if !key_at(text, at, b"budget=") {
         return false;
     }
-    match budget_line(rec, Due::Budget, &rest[..k], b"budget=") {
-        Taken::Faulty(_) => false,
-        Taken::Next(next) => is_end(next),
-    }
+    let end = last_end(text);
+    quick_budget(rec, &text[at + 7..end])
 }

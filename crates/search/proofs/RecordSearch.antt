@@ -27,8 +27,9 @@ use Rattle.tables.specs.Packed.{packBy, low, cellsOf, packedSystem, compiled}
 use Rattle.patterns.proofs.Built.{unit-weights}
 use Rattle.tables.proofs.Packing.{cells-pack}
 use Rattle.patterns.proofs.Reading.{patterns-length, actions-length}
-use Rattle.tables.specs.Sets.{spread, SetsOf}
+use Rattle.tables.specs.Sets.{spread, SetsOf, setsFilled}
 use Rattle.tables.proofs.ApplyingSets.{applying-enabled, spread-wide}
+use Rattle.tables.proofs.SetsFilled.{filled-sets}
 use Rattle.tables.proofs.Simulating.{PackedState, packed-state, packed-simulates}
 use Rattle.tables.proofs.SoundPacked.{sound-packable, compiled-weight, compiled-outcomes-few}
 use Rattle.search.specs.Value.{packedValue}
@@ -113,11 +114,11 @@ module _ (r : List ℕ) (sound : Sound r) where
   }
 
   -- Sets that are filled for its words hold the actions that apply.
-  pub sets-applying : {task sets : List ℕ} {actions variables : ℕ} → task ≡ compiled (taskOf r) → actions ≡ actionCount r → variables ≡ variableCount r →
-      (actions ≤ 64 → SetsOf task 18446744073709551615 actions (spread ((variables + 1) / 2)) sets) →
+  pub sets-applying : (old : List ℕ) {task sets : List ℕ} {actions variables : ℕ} → task ≡ compiled (taskOf r) → actions ≡ actionCount r → variables ≡ variableCount r →
+      sets ≡ setsFilled task 18446744073709551615 actions ((variables + 1) / 2) old →
       Applying task sets (actionCount r) ((variableCount r + 1) / 2)
   unfolding packedSystem
-  sets-applying {task} {sets} e a v f = record {
+  sets-applying old {task} {sets} {actions} {variables} e a v f = record {
     set-is = λ s. rw (e, ← actions-length r) (applying-enabled (taskOf r) (sound-packable r sound)
         (2 * spread ((variableCount r + 1) / 2)) wide ((variableCount r + 1) / 2) sets refl filled s);
   }
@@ -127,7 +128,9 @@ module _ (r : List ℕ) (sound : Sound r) where
           let h = spread-wide ((variableCount r + 1) / 2) (variableCount r) (omega arith) k in omega arith
 
       filled : SetsOf (compiled (taskOf r)) 18446744073709551615 (length (taskOf r .actions)) (spread ((variableCount r + 1) / 2)) sets
-      filled = let l = actions-right r sound in rw (actions-length r) (rw (e, a, v) at (f (omega arith)))
+      filled = let l = actions-right r sound in
+          let g : SetsOf task 18446744073709551615 actions (spread ((variables + 1) / 2)) sets = rw f (filled-sets task old 18446744073709551615 actions ((variables + 1) / 2) (omega (arith, a, l))) in
+          rw (actions-length r) (rw (e, a, v) at g)
 
   module _ (small : Small (taskOf r) (patternsOf r)) (rows offsets tabs : List ℕ) (f : RowsOf (taskOf r .sizes) (patternsOf r) rows offsets)
       (b : HoldsTables r tabs) where

@@ -17,7 +17,7 @@ use Rattle.patterns.proofs.Reading.{actions-length}
 use Rattle.tables.specs.Sets.{setFrom, spread}
 use Rattle.tables.specs.Packed.{packBy, low, picking, compiled}
 use Rattle.tables.specs.Packable.{Packable}
-use Rattle.tables.specs.Steps.{weightsFrom, Space, space, idles, Steps, none, started, Sized, Settled}
+use Rattle.tables.specs.Steps.{weightsFrom, Space, space, idles, none, started, Sized, Settled}
 use Rattle.tables.specs.Certified.{Indexed, Lookable, Finished, tested, stepped}
 use Rattle.tables.specs.Built.{Built}
 use Rattle.tables.proofs.Abstracted.{weigh-index}

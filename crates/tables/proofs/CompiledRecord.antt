@@ -22,10 +22,10 @@ pub part-few : (c : List ℕ) → length (take 16 c) ≤ 16
 part-few c = rw length-take (omega arith)
 
 pub no-actions : (r old : List ℕ) → ActionsCompiled r old old 0
-no-actions r old = record { long = refl; words = λ m i l k. absurd (omega arith) }
+no-actions r old = record { long = refl; words = λ m i l k. absurd (omega arith); others = λ i l. refl }
 
 pub next-action : (r old now new : List ℕ) (m : ℕ) → ActionsCompiled r old now m → ActionCompiled now new m (actionOf r m) → ActionsCompiled r old new (m + 1)
-next-action r old now new m h a = record { long = a .long ∙ h .long; words = λ j i l k. word j i (decLt j m) l k }
+next-action r old now new m h a = record { long = a .long ∙ h .long; words = λ j i l k. word j i (decLt j m) l k; others = λ i l. a .others i (inr (omega arith)) ∙ h .others i (omega arith) }
   where
     word : (j i : ℕ) → Dec (j < m) → j < m + 1 → i < 20 → getD new (20 * j + i) 0 ≡ getD (actionWords (actionOf r j)) i 0
     word j i (yes b) l k = a .others (20 * j + i) (inl (omega arith)) ∙ h .words j i b k
@@ -45,21 +45,21 @@ next-cleared old now new from i f l e h = rw e (record {
     zero-at j k (yes b) u = getD-set-other now i j 0 0 (λ z. omega arith) ∙ h .zeros j k b
     zero-at j k (no b) u = let z : j ≡ i = omega arith in rw z (getD-set-same now i 0 0 (omega (arith, h .long)))
 
-module _ (r : List ℕ) (sound : Sound r) (old actions cleared new : List ℕ) (whole : length old ≡ 1282)
-    (a : ActionsCompiled r old actions (actionCount r)) (z : Cleared actions cleared (20 * actionCount r) 1280)
-    (e : new ≡ set (set cleared 1280 (packBy (digitBy 0) (cellsAt r atGoal))) 1281 (packBy (digitBy 2) (cellsAt r atGoal))) where
-  long : length cleared ≡ 1282
-  long = z .long ∙ a .long ∙ whole
+module _ (r : List ℕ) (sound : Sound r) (old actions new : List ℕ) (whole : length old ≡ 1282)
+    (z : (i : ℕ) → 20 * actionCount r ≤ i → i < 1280 → getD old i 0 ≡ 0) (a : ActionsCompiled r old actions (actionCount r))
+    (e : new ≡ set (set actions 1280 (packBy (digitBy 0) (cellsAt r atGoal))) 1281 (packBy (digitBy 2) (cellsAt r atGoal))) where
+  long : length actions ≡ 1282
+  long = a .long ∙ whole
 
-  kept : (i : ℕ) → i < 1280 → getD new i 0 ≡ getD cleared i 0
-  kept i l = rw e (getD-set-other (set cleared 1280 (packBy (digitBy 0) (cellsAt r atGoal))) 1281 i (packBy (digitBy 2) (cellsAt r atGoal)) 0 (λ q. omega arith)
-      ∙ getD-set-other cleared 1280 i (packBy (digitBy 0) (cellsAt r atGoal)) 0 (λ q. omega arith))
+  kept : (i : ℕ) → i < 1280 → getD new i 0 ≡ getD actions i 0
+  kept i l = rw e (getD-set-other (set actions 1280 (packBy (digitBy 0) (cellsAt r atGoal))) 1281 i (packBy (digitBy 2) (cellsAt r atGoal)) 0 (λ q. omega arith)
+      ∙ getD-set-other actions 1280 i (packBy (digitBy 0) (cellsAt r atGoal)) 0 (λ q. omega arith))
 
   pub record-compiled : new ≡ compiled (taskOf r)
   unfolding taskOf digitBy
   record-compiled = let n = actions-right r sound in let c = actions-length r in
-      words-are-compiled (taskOf r) (rw c n) new (rw e (length-set (set cleared 1280 _) 1281 _ ∙ length-set cleared 1280 _ ∙ long))
-      (λ m i l k. let b : m < actionCount r = rw c at l in kept (20 * m + i) (omega arith) ∙ z .others (20 * m + i) (inl (omega arith)) ∙ a .words m i b k ∙ sym (ap (λ x. getD (actionWords x) i 0) (action-at r m b)))
-      (λ i k l. kept i l ∙ z .zeros i (rw c at k) l)
-      (rw e (getD-set-other (set cleared 1280 _) 1281 1280 _ 0 (λ q. omega arith) ∙ getD-set-same cleared 1280 _ 0 (omega (arith, long))))
-      (rw e (getD-set-same (set cleared 1280 _) 1281 _ 0 (rw length-set (omega (arith, long)))))
+      words-are-compiled (taskOf r) (rw c n) new (rw e (length-set (set actions 1280 _) 1281 _ ∙ length-set actions 1280 _ ∙ long))
+      (λ m i l k. let b : m < actionCount r = rw c at l in kept (20 * m + i) (omega arith) ∙ a .words m i b k ∙ sym (ap (λ x. getD (actionWords x) i 0) (action-at r m b)))
+      (λ i k l. kept i l ∙ a .others i (rw c at k) ∙ z i (rw c at k) l)
+      (rw e (getD-set-other (set actions 1280 _) 1281 1280 _ 0 (λ q. omega arith) ∙ getD-set-same actions 1280 _ 0 (omega (arith, long))))
+      (rw e (getD-set-same (set actions 1280 _) 1281 _ 0 (rw length-set (omega (arith, long)))))

@@ -165,3 +165,12 @@ pub pack-snoc : (g : ℕ → ℕ) (s : List ℕ) (x : ℕ) → packBy g (s ++ (x
 unfolding packBy
 pack-snoc g [] x = omega arith
 pack-snoc g (y ∷ s) x = let h = pack-snoc g s x in let p = pow-suc 16 (length s) in let q : g x * 16 ^ suc (length s) ≡ (g x * 16 ^ length s) * 16 = rw p (omega arith) in omega arith
+
+-- Every digit is named or left.
+named-or-left : (c : List ℕ) → packBy naming c + packBy leaving c + 1 ≡ 16 ^ length c
+unfolding packBy
+named-or-left [] = refl
+named-or-left (x ∷ c) = let h = named-or-left c in let p = pow-suc 16 (length c) in by-test (eqb x 255) (λ e. rw e (omega arith)) (λ e. rw e (omega arith))
+
+pub left-are-not-named : (c : List ℕ) → length c ≡ 16 → 18446744073709551615 - packBy leaving c ≡ packBy naming c
+left-are-not-named c l = let h : packBy naming c + packBy leaving c + 1 ≡ 16 ^ 16 = rw l at (named-or-left c) in omega arith

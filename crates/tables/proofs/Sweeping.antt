@@ -1,6 +1,6 @@
 -- Laws for the loops of a sweep: one turn and the end of each. Assumes nothing.
 use mathlib.Core.Path.{_≡_, refl, sym, ap, _∙_}
-use mathlib.Core.Bool.{Bool, true, false, cond}
+use mathlib.Core.Bool.{Bool, true, false, not, cond}
 use mathlib.Core.List.{List, [], _∷_}
 use Prim.Native.Nat.{ℕ, zero, suc, _+_, _*_, _-_, _/_, _%_, _^_, _≤_, _<_, max}
 use native.Mathlib.Nat.{pow-suc}
@@ -9,6 +9,7 @@ use native.Mathlib.Omega.{arith}
 use native.Mathlib.Decide.{decLt}
 use borrow.Author.Tests.{ltb-true, ltb-false, eq-eqb, ne-eqb}
 use lib.Bits.{bitAnd}
+use lib.Count.{trailingZeros}
 use lib.Dec.{eqb, ltb}
 use lib.ListN.{length, getD, set, drop, length-set, drop-of-length-le, List·getD-eq-default}
 use lib.Seq.{drop-cons, ext-getD, getD-set-same, getD-set-other}
@@ -16,8 +17,10 @@ use Rattle.planning.specs.Finite.{anyFrom}
 use Rattle.planning.proofs.Test.{T-true, and-l, and-r, by-test}
 use Rattle.planning.proofs.Finite.{length-tabulate, getD-tabulate}
 use Rattle.tables.specs.Packed.{outcomeCount, keepMask}
-use Rattle.tables.specs.Steps.{weigh, Space, isGoal, permitted, idles, worst, raised, Below, offer, offerAt, permittedAt, Steps, none, more, started, total, lowers, relaxed, RowSwept, RowPassed, Swept, Settled, Tried}
+use Rattle.tables.specs.Sets.{setFrom}
+use Rattle.tables.specs.Steps.{weigh, Space, isGoal, permitted, idles, worst, raised, Below, offer, offerAt, permittedAt, Steps, none, more, started, total, lowers, relaxed, RowSwept, Swept}
 use Rattle.tables.proofs.Settled.{then, steps-length}
+use Rattle.tables.proofs.SetWords.{Left, left-all, Next, next-left, none-left}
 
 -- The index of a word, digit by digit.
 pub weigh-zero : (w : List ℕ) → weigh w 0 ≡ 0
@@ -203,13 +206,6 @@ row-end {x} {m} {t₀} {t} v l = record {
   less = v .less;
 }
 
--- An action that may leave every state as it is is passed over.
-pub passed-over : (x : Space) (m : ℕ) (t : List ℕ) → idles (x .task) (x .mask) m ≡ true → RowPassed x m t t false
-passed-over x m t e = record { steps = none; still = λ q. (refl, λ i b h. false-true (sym h ∙ e)); less = λ q. false-true q }
-
-pub passed-through : {x : Space} {m : ℕ} {t new : List ℕ} {changed : Bool} → RowSwept x m t new changed → RowPassed x m t new changed
-passed-through r = record { steps = r .steps; still = λ e. (r .still e .0, λ i b h. r .still e .1 i b); less = r .less }
-
 -- A pass over the actions that has come to action m.
 pub record Pass (x : Space) (t₀ t : List ℕ) (changed : Bool) (m : ℕ) : Type 0 where
   pub at : m ≤ x .actions
@@ -219,7 +215,7 @@ pub record Pass (x : Space) (t₀ t : List ℕ) (changed : Bool) (m : ℕ) : Typ
   pub less : changed ≡ true → total t < total t₀
   pub most : total t ≤ total t₀
 
-pub pass-start : (x : Space) (t : List ℕ) → Pass x t t false 0
+pass-start : (x : Space) (t : List ℕ) → Pass x t t false 0
 pass-start x t = record { at = omega arith; long = refl; steps = none; same = λ e. (refl, λ j i l. absurd (omega arith)); less = λ e. false-true e; most = omega arith }
 
 module _ {x : Space} {t₀ t : List ℕ} {changed : Bool} {m : ℕ} (v : Pass x t₀ t changed m) (l : m < x .actions) where
@@ -240,10 +236,10 @@ module _ {x : Space} {t₀ t : List ℕ} {changed : Bool} {m : ℕ} (v : Pass x 
     most = v .most;
   }
 
-  pub pass-still : {new : List ℕ} → RowPassed x m t new false → Pass x t₀ new changed (m + 1)
-  pass-still r = let h = r .still refl in rw (h .0) (next (h .1))
+  pass-still : {new : List ℕ} → RowSwept x m t new false → Pass x t₀ new changed (m + 1)
+  pass-still r = let h = r .still refl in rw (h .0) (next (λ i b q. h .1 i b))
 
-  pub pass-hit : {new : List ℕ} → RowPassed x m t new true → Pass x t₀ new true (m + 1)
+  pass-hit : {new : List ℕ} → RowSwept x m t new true → Pass x t₀ new true (m + 1)
   pass-hit r = record {
     at = omega arith;
     long = steps-length (r .steps) ∙ v .long;
@@ -253,35 +249,46 @@ module _ {x : Space} {t₀ t : List ℕ} {changed : Bool} {m : ℕ} (v : Pass x 
     most = omega (arith, r .less refl, v .most);
   }
 
-pub pass-end : {x : Space} {t₀ t : List ℕ} {changed : Bool} {m : ℕ} → Pass x t₀ t changed m → x .actions ≤ m → Swept x t₀ t changed
+pass-end : {x : Space} {t₀ t : List ℕ} {changed : Bool} {m : ℕ} → Pass x t₀ t changed m → x .actions ≤ m → Swept x t₀ t changed
 pass-end v l = record {
   steps = v .steps;
   still = λ e. (v .same e .0, record { low = λ j i b c q p. v .same e .1 j i (omega arith) c q p });
   less = v .less;
 }
 
--- Tries after each other.
-pub tried-none : (x : Space) (t queue counts : List ℕ) → Tried x t t queue queue counts counts
-tried-none x t queue counts = record { steps = none; entries-long = refl; queue-long = refl; counts-long = refl }
+-- Actions that may leave every state as it is are passed over.
+pass-over : {x : Space} {t₀ t : List ℕ} {changed : Bool} {m : ℕ} → Pass x t₀ t changed m → (k : ℕ) → k ≤ x .actions → ((j : ℕ) → m ≤ j → j < k → not (idles (x .task) (x .mask) j) ≡ false) → Pass x t₀ t changed k
+pass-over {x} {t₀} {t} {changed} {m} v k b idle = record { at = b; long = v .long; steps = v .steps; same = λ e. (v .same e .0, λ j i u l q. low (v .same e .1) j i (decLt j m) u l q); less = v .less; most = v .most }
+  where
+    low : ((j i : ℕ) → j < m → i < length t → idles (x .task) (x .mask) j ≡ false → permittedAt x j i ≡ true → getD t i 0 ≤ offerAt x t j i) → (j i : ℕ) → Dec (j < m) → j < k → i < length t → idles (x .task) (x .mask) j ≡ false → permittedAt x j i ≡ true → getD t i 0 ≤ offerAt x t j i
+    low f j i (yes p) u l q = f j i p l q
+    low f j i (no p) u l q = false-true (sym (rw q at (idle j (omega arith) u)))
 
-pub tried-then : {x : Space} {t u w q q₁ q₂ c c₁ c₂ : List ℕ} → Tried x t u q q₁ c c₁ → Tried x u w q₁ q₂ c₁ c₂ → Tried x t w q q₂ c c₂
-tried-then a b = record { steps = then (a .steps) (b .steps); entries-long = b .entries-long ∙ a .entries-long; queue-long = b .queue-long ∙ a .queue-long; counts-long = b .counts-long ∙ a .counts-long }
+-- A pass over the actions of a set, those that may not leave every state as it is: what is left of the set.
+pub record Passing (x : Space) (t₀ t : List ℕ) (changed : Bool) (rest : ℕ) : Type 0 where
+  pub from : ℕ
+  pub left : Left (λ m. not (idles (x .task) (x .mask) m)) from (x .actions) rest
+  pub pass : Pass x t₀ t changed from
 
-pub tried-steps : {x : Space} {t u q q₁ c c₁ : List ℕ} → Steps x t u → length q₁ ≡ length q → length c₁ ≡ length c → Tried x t u q q₁ c c₁
-tried-steps s q c = record { steps = s; entries-long = steps-length s; queue-long = q; counts-long = c }
+pub passing-start : (x : Space) (t : List ℕ) (live : ℕ) → live ≡ setFrom (λ m. not (idles (x .task) (x .mask) m)) 0 (x .actions) → Passing x t t false live
+passing-start x t live e = record { from = 0; left = left-all (λ m. not (idles (x .task) (x .mask) m)) (x .actions) live e; pass = pass-start x t }
 
-pub try-misses : (x : Space) (t new : List ℕ) (m i : ℕ) → new ≡ relaxed (x .task) (x .mask) (x .weights) t m i (getD (x .states) i 0) → lowers (x .task) (x .mask) (x .weights) t m i (getD (x .states) i 0) ≡ false → Steps x t new
-unfolding relaxed
-try-misses x t new m i p q = let n = rw q at p in rw n none
+module _ {x : Space} {t₀ t : List ℕ} {changed : Bool} {rest : ℕ} (few : x .actions ≤ 64) (v : Passing x t₀ t changed rest) (some : rest ≡ 0 → ⊥) where
+  here : Next (λ m. not (idles (x .task) (x .mask) m)) (v .from) (x .actions) rest
+  here = next-left (λ m. not (idles (x .task) (x .mask) m)) (v .from) (x .actions) rest few (v .left) some
 
-pub try-hits : (x : Space) (t new : List ℕ) (m i : ℕ) → m < x .actions → i < length t → new ≡ relaxed (x .task) (x .mask) (x .weights) t m i (getD (x .states) i 0) → lowers (x .task) (x .mask) (x .weights) t m i (getD (x .states) i 0) ≡ true → Steps x t new
-unfolding relaxed lowers offerAt permittedAt
-try-hits x t new m i b l p q =
-    let s = getD (x .states) i 0 in
-    let d = offer (x .task) (x .mask) (x .weights) t m s in
-    let a : permitted (x .task) (x .mask) m s ≡ true = T-true (permitted (x .task) (x .mask) m s) (and-l (permitted (x .task) (x .mask) m s) (ltb d (getD t i 0)) (rw q tt)) in
-    let h : d < getD t i 0 = ltb-true d (getD t i 0) (T-true (ltb d (getD t i 0)) (and-r (permitted (x .task) (x .mask) m s) (ltb d (getD t i 0)) (rw q tt))) in
-    let n = rw q at p in rw n (more m i b l a h none)
+  pub passing-known : trailingZeros 64 rest < x .actions
+  passing-known = here .within
 
-pub settled-after : {x : Space} {t u w q q₁ c c₁ : List ℕ} → Tried x t u q q₁ c c₁ → Settled x u w → Settled x t w
-settled-after a b = record { steps = then (a .steps) (b .steps); stable = b .stable }
+  come : Pass x t₀ t changed (trailingZeros 64 rest)
+  come = pass-over (v .pass) (trailingZeros 64 rest) (omega (arith, here .within)) (here .first)
+
+  pub passing-still : {new : List ℕ} → RowSwept x (trailingZeros 64 rest) t new false → Passing x t₀ new changed (bitAnd rest (rest - 1))
+  passing-still r = record { from = trailingZeros 64 rest + 1; left = here .left; pass = pass-still come (here .within) r }
+
+  pub passing-hit : {new : List ℕ} → RowSwept x (trailingZeros 64 rest) t new true → Passing x t₀ new true (bitAnd rest (rest - 1))
+  passing-hit r = record { from = trailingZeros 64 rest + 1; left = here .left; pass = pass-hit come (here .within) r }
+
+pub passing-end : {x : Space} {t₀ t : List ℕ} {changed : Bool} {rest : ℕ} → Passing x t₀ t changed rest → rest ≡ 0 → Swept x t₀ t changed
+passing-end {x} {t₀} {t} {changed} {rest} v z =
+    pass-end (pass-over (v .pass) (x .actions) (omega arith) (λ j a b. none-left (λ m. not (idles (x .task) (x .mask) m)) (v .from) (x .actions) rest (v .left) z j a b)) (omega arith)

@@ -22,10 +22,11 @@ pub record ActionCompiled (old new : List ℕ) (m : ℕ) (a : Action) : Type 0 w
   pub words : (i : ℕ) → i < 20 → getD new (20 * m + i) 0 ≡ getD (actionWords a) i 0
   pub others : (i : ℕ) → (i < 20 * m) ⊎ (20 * m + 20 ≤ i) → getD new i 0 ≡ getD old i 0
 
--- The words of the actions before n are there.
+-- The words of the actions before n are there, and those after them as they were.
 pub record ActionsCompiled (r old new : List ℕ) (n : ℕ) : Type 0 where
   pub long : length new ≡ length old
   pub words : (m i : ℕ) → m < n → i < 20 → getD new (20 * m + i) 0 ≡ getD (actionWords (actionOf r m)) i 0
+  pub others : (i : ℕ) → 20 * n ≤ i → getD new i 0 ≡ getD old i 0
 
 -- The words from one on and before another are 0, and the others as they were.
 pub record Cleared (old new : List ℕ) (from end : ℕ) : Type 0 where

@@ -3,10 +3,11 @@
 use mathlib.Core.Path.{_≡_}
 use mathlib.Core.Bool.{Bool, cond, _&&_, _||_}
 use mathlib.Core.List.{List}
-use Prim.Native.Nat.{ℕ, zero, suc, _+_, _*_, _/_, _%_, _<_}
+use Prim.Native.Nat.{ℕ, zero, suc, _+_, _*_, _/_, _%_, _<_, _≤_}
 use lib.Bits.{bitAnd, bitOr}
-use lib.Dec.{eqb, leb}
-use lib.ListN.{getD}
+use lib.Dec.{eqb, leb, ltb}
+use lib.ListN.{length, getD}
+use Rattle.planning.specs.Finite.{tabulate}
 use Rattle.tables.specs.Packed.{preMask, preValue}
 
 -- The numbers m, m + 1, ..., n of them, that pass a test: the lowest binary digit stands for m.
@@ -41,6 +42,13 @@ pub record SetsOf (task : List ℕ) (mask actions bytes : ℕ) (sets : List ℕ)
 unfoldable pub spread : ℕ → ℕ
 spread bytes = cond (leb bytes 2) 2 (cond (leb bytes 4) 4 8)
 
+-- 2,048 words with the sets of the bytes that are looked at; the words after them are as they were. More than 64 actions have no sets.
+unfoldable pub setWord : List ℕ → ℕ → ℕ → ℕ → List ℕ → ℕ → ℕ
+setWord task mask actions bytes old i = cond (ltb i (256 * bytes)) (setFrom (byteSuits task mask (i / 256) (i % 256)) 0 actions) (getD old i 0)
+
+unfoldable pub setsFilled : List ℕ → ℕ → ℕ → ℕ → List ℕ → List ℕ
+setsFilled task mask actions bytes old = cond (leb actions 64) (tabulate (setWord task mask actions (spread bytes) old) 0 2048) old
+
 -- The sets of n bytes of a state from number b on, met.
 unfoldable pub meetFrom : List ℕ → ℕ → ℕ → ℕ → ℕ
 meetFrom sets b zero s = 18446744073709551615
@@ -61,3 +69,10 @@ slotMeet slots b h l = bitAnd (bitOr (getD slots (34 * b + l) 0) (getD slots (34
 pub record RowFilled (slots old new : List ℕ) (q : ℕ) : Type 0 where
   pub row : (l : ℕ) → l < 16 → getD new (16 * q + l) 0 ≡ slotMeet slots (q / 16) (q % 16) l
   pub kept : (i : ℕ) → i < 16 * q → getD new i 0 ≡ getD old i 0
+  pub rest : (i : ℕ) → 16 * q + 16 ≤ i → getD new i 0 ≡ getD old i 0
+
+-- The rows of so many bytes are filled, and nothing after them is changed.
+pub record RowsFilled (slots old new : List ℕ) (bytes : ℕ) : Type 0 where
+  pub long : length new ≡ 2048
+  pub rows : (b x : ℕ) → b < bytes → x < 256 → getD new (256 * b + x) 0 ≡ slotMeet slots b (x / 16) (x % 16)
+  pub rest : (i : ℕ) → 256 * bytes ≤ i → getD new i 0 ≡ getD old i 0

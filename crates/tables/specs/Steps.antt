@@ -109,12 +109,6 @@ pub record RowSwept (x : Space) (m : ℕ) (t new : List ℕ) (changed : Bool) : 
   pub still : changed ≡ false → (new ≡ t) × ((i : ℕ) → i < length t → permittedAt x m i ≡ true → getD t i 0 ≤ offerAt x t m i)
   pub less : changed ≡ true → total new < total t
 
--- The same where an action that may leave every state as it is is passed over.
-pub record RowPassed (x : Space) (m : ℕ) (t new : List ℕ) (changed : Bool) : Type 0 where
-  pub steps : Steps x t new
-  pub still : changed ≡ false → (new ≡ t) × ((i : ℕ) → i < length t → idles (x .task) (x .mask) m ≡ false → permittedAt x m i ≡ true → getD t i 0 ≤ offerAt x t m i)
-  pub less : changed ≡ true → total new < total t
-
 pub record Swept (x : Space) (t new : List ℕ) (changed : Bool) : Type 0 where
   pub steps : Steps x t new
   pub still : changed ≡ false → (new ≡ t) × Stable x new
@@ -136,10 +130,3 @@ pub record Sized (sizes p : List ℕ) (n : ℕ) : Type 0 where
 pub record Extended (old new : List ℕ) (w end place : ℕ) : Type 0 where
   pub long : length new ≡ length old
   pub words : (f : ℕ → ℕ) → ((k : ℕ) → k < w → getD old k 0 ≡ f k) → ((k : ℕ) → k + w < end → f (k + w) ≡ f k + place) → ((k : ℕ) → f k < 18446744073709551616) → w ≤ end → (k : ℕ) → k < end → getD new k 0 ≡ f k
-
--- What the order of tries may do to what is lent: entries fall by steps, and each slice keeps its length.
-pub record Tried (x : Space) (t new queue queue₁ counts counts₁ : List ℕ) : Type 0 where
-  pub steps : Steps x t new
-  pub entries-long : length new ≡ length t
-  pub queue-long : length queue₁ ≡ length queue
-  pub counts-long : length counts₁ ≡ length counts

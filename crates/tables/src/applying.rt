@@ -4,7 +4,7 @@ ghost use mathlib.Core.Path.{_≡_};
 ghost use Prim.Native.Nat.{ℕ, _+_, _*_, _/_, _%_, _≤_, _<_};
 ghost use lib.ListN.{length, getD};
 ghost use lib.Bits.{bitAnd};
-ghost use Rattle.tables.specs.Sets.{lowestNeed, spread, meetFrom, slotMeet, Entered, SlotsOf, RowFilled, SetsOf};
+ghost use Rattle.tables.specs.Sets.{lowestNeed, spread, meetFrom, Entered, SlotsOf, RowFilled, RowsFilled, setsFilled};
 
 fn lowest_need(need: u64, value: u64) -> usize
     ensures { λ r. ⌜ (r ≡ lowestNeed need value) × (r < 17) ⌝ }
@@ -71,7 +71,7 @@ fn spread_of(bytes: usize) -> usize
 
 fn fill_rows(slots: &[u64; 272], sets: &mut [u64], bytes: usize)
     requires { ⌜ (length (now sets) ≡ 2048) × (bytes ≤ 8) ⌝ }
-    ensures { λ _. ⌜ ((b x : ℕ) → b < bytes → x < 256 → getD (now (sets .exit)) (256 * b + x) 0 ≡ slotMeet (now (slots .entry)) b (x / 16) (x % 16)) ⌝ }
+    ensures { λ _. ⌜ RowsFilled (now (slots .entry)) (now (sets .entry)) (now (sets .exit)) bytes ⌝ }
 {
     for q in 0..16 * bytes {
         fill_row(slots, sets, q);
@@ -86,7 +86,7 @@ pub fn fill_sets(
     bytes: usize,
     sets: &mut [u64; 2048],
 )
-    ensures { λ _. ⌜ (actions ≤ 64 → SetsOf (now (task .entry)) mask actions (spread bytes) (now (sets .exit))) ⌝ }
+    ensures { λ _. ⌜ now (sets .exit) ≡ setsFilled (now (task .entry)) mask actions bytes (now (sets .entry)) ⌝ }
 {
     if actions > 64 {
         return;

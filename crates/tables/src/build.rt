@@ -10,11 +10,11 @@ ghost use Rattle.tables.specs.Steps.{space, idles, Readable, Sized};
 ghost use Rattle.tables.specs.Certified.{Indexed, Lookable, Finished};
 ghost use Rattle.tables.specs.Built.{Built};
 use crate::certify::is_certified;
-use crate::certify::lively;
 use crate::packed::PICKING;
 use crate::packed::pack;
 use crate::ranking::fill_states;
 use crate::ranking::weights_of;
+use crate::sweep::lively;
 use crate::sweep::settle;
 use crate::sweep::start;
 use crate::worklist::candidate;
@@ -37,7 +37,7 @@ fn finish(
         return;
     }
     start(task, mask, states, entries);
-    settle(task, mask, weights, states, actions, entries);
+    settle(task, mask, weights, states, actions, live, entries);
 }
 
 // A table over the states' words: from the goals backwards, and tested. Where every action may leave each state as it is, only the goals count.
@@ -79,8 +79,9 @@ fn build_small(
     fill_states(sizes, pattern, n, &mut states);
     let weights = weights_of(sizes, pattern, n);
     let mask = pack(PICKING, &pattern);
+    let live = lively(task, mask, actions);
     start(task, mask, &states, entries);
-    settle(task, mask, &weights, &states, actions, entries);
+    settle(task, mask, &weights, &states, actions, live, entries);
 }
 
 // A table of any size, with room for the words of its states.

@@ -1,8 +1,7 @@
 // The test of a table that was made in any way: whether each entry is what the entries say of it. Then it is the table of the pattern.
 ghost use mathlib.Core.Path.{_≡_};
-ghost use mathlib.Core.Bool.{true, not, cond};
+ghost use mathlib.Core.Bool.{true, not};
 ghost use Prim.Native.Nat.{ℕ, _+_, _*_, _≤_, _<_};
-ghost use lib.Bits.{bitOr};
 ghost use lib.ListN.{length, getD};
 ghost use Rattle.tables.specs.Packed.{outcomeCount};
 ghost use Rattle.tables.specs.Sets.{setFrom, SetsOf, spread};
@@ -13,7 +12,6 @@ use crate::applying::fill_sets;
 use crate::sweep::at_goal;
 use crate::sweep::entry_at;
 use crate::sweep::index_of;
-use crate::sweep::may_idle;
 use crate::sweep::raise;
 use crate::sweep::state_after;
 use crate::sweep::times;
@@ -142,29 +140,6 @@ fn is_said(
     attained
 }
 
-fn joined(set: u64, bit: u64, wanted: bool) -> u64
-    ensures { λ r. ⌜ r ≡ cond wanted (bitOr set bit) set ⌝ }
-{
-    if wanted {
-        return set | bit;
-    }
-    set
-}
-
-// The actions of which no outcome leaves every state as it is.
-pub(crate) fn lively(task: &[u64; 1282], mask: u64, actions: usize) -> u64
-    requires { ⌜ Readable (now task) actions ⌝ }
-    ensures { λ r. ⌜ r ≡ setFrom (λ m. not (idles (now (task .entry)) mask m)) 0 actions ⌝ }
-{
-    let mut set = 0u64;
-    let mut bit = 1u64;
-    for m in 0..actions {
-        set = joined(set, bit, !may_idle(task, mask, m));
-        bit = bit % 9223372036854775808 * 2;
-    }
-    set
-}
-
 // Whether entry i is what the entries say of it.
 fn is_exact(
     task: &[u64; 1282],
@@ -242,30 +217,45 @@ fn guess_of(step: u64, i: usize, s: u64) -> usize
         (s >> (step / 281474976710656 % 64)) % 16,
         (step / 65536 % 65536) as u16,
     );
-    let two = times(
-        (s >> (step / 18014398509481984 % 64)) % 16,
-        (step / 4294967296 % 65536) as u16,
-    );
-    (i + (step % 65536) as usize + 2097152 - one - two) % 65536
+    let to = i + (step % 65536) as usize + 2097152 - one;
+    let weight = (step / 4294967296 % 65536) as u16;
+    if weight == 0 {
+        return to % 65536;
+    }
+    let two = times((s >> (step / 18014398509481984 % 64)) % 16, weight);
+    (to - two) % 65536
 }
 
+// The steps of action m.
+fn put_steps(task: &[u64; 1282], mask: u64, weights: &[u16; 16], m: usize, steps: &mut [u64; 512])
+    requires { ⌜ (m < 64) × (outcomeCount (now task) m ≤ 8) ⌝ }
+{
+    let n = task[20 * m + 2] as usize;
+    let mut o = 0usize;
+    while o < n {
+        steps[8 * m + o] = step_of(task, mask, weights, m, o);
+        o += 1;
+    }
+}
+
+// The steps of the actions in a set.
 fn fill_steps(
     task: &[u64; 1282],
     mask: u64,
     weights: &[u16; 16],
     actions: usize,
+    set: u64,
     steps: &mut [u64; 512],
 )
     requires { ⌜ Readable (now task) actions ⌝ }
 {
+    let mut rest = set;
     let mut m = 0usize;
     while m < actions {
-        let n = task[20 * m + 2] as usize;
-        let mut o = 0usize;
-        while o < n {
-            steps[8 * m + o] = step_of(task, mask, weights, m, o);
-            o += 1;
+        if rest % 2 == 1 {
+            put_steps(task, mask, weights, m, steps);
         }
+        rest = rest / 2;
         m += 1;
     }
 }
@@ -285,7 +275,7 @@ pub(crate) fn is_certified(
     ensures { λ r. ⌜ (r ≡ true → Certified (space (now (task .entry)) mask (now (weights .entry)) (now (states .entry)) actions) (now (entries .entry))) ⌝ }
 {
     let mut steps = [0u64; 512];
-    fill_steps(task, mask, weights, actions, &mut steps);
+    fill_steps(task, mask, weights, actions, live, &mut steps);
     let mut sets = [0u64; 2048];
     fill_sets(task, mask, actions, bytes, &mut sets);
     let mut i = 0usize;

@@ -7,7 +7,6 @@ ghost use Rattle.task_record.specs.TaskOf.{actionOf};
 ghost use Rattle.tables.specs.Packed.{packBy, digitBy};
 ghost use Rattle.tables.specs.Compiling.{outcomeWord, ActionCompiled};
 use crate::packed::NAMING;
-use crate::packed::SETTING;
 use crate::packed::pack;
 use crate::ranking::wide;
 use crate::words::Words;
@@ -45,15 +44,26 @@ fn put_outcome(rec: &[u8], m: u8, k: u8, task: &mut [u64], at: usize)
     put(task, at + 1, words.value);
 }
 
+// The digits that a precondition or a goal names, given those that it does not name.
+pub(crate) fn named_digits(pre: &[u8], keep: u64) -> u64
+    requires { ⌜ (length (now pre) ≤ 16) × (keep ≡ packBy (digitBy 1) (now pre)) ⌝ }
+    ensures { λ r. ⌜ r ≡ packBy (digitBy 0) (now (pre .entry)) ⌝ }
+{
+    if pre.len() == 16 {
+        return 18446744073709551615 - keep;
+    }
+    pack(NAMING, pre)
+}
+
 // The four words before the outcomes.
 fn put_head(pre: &[u8], count: u64, task: &mut [u64], at: usize)
     requires { ⌜ (length (now pre) ≤ 16) × (at + 3 < length (now task)) × (at < 2000) ⌝ }
     ensures { λ _. ⌜ now (task .exit) ≡ set (set (set (set (now (task .entry)) at (packBy (digitBy 0) (now (pre .entry)))) (at + 1) (packBy (digitBy 2) (now (pre .entry)))) (at + 2) count) (at + 3) 1 ⌝ }
 {
-    let mask = pack(NAMING, pre);
-    let value = pack(SETTING, pre);
+    let words = words_of(pre);
+    let mask = named_digits(pre, words.keep);
     put(task, at, mask);
-    put(task, at + 1, value);
+    put(task, at + 1, words.value);
     put(task, at + 2, count);
     put(task, at + 3, WEIGHT);
 }

@@ -1,18 +1,17 @@
 // The compiled task of a record.
 ghost use mathlib.Core.Path.{_≡_};
-ghost use Prim.Native.Nat.{_≤_, _<_};
-ghost use lib.ListN.{length};
+ghost use Prim.Native.Nat.{ℕ, _*_, _≤_, _<_};
+ghost use lib.ListN.{length, getD};
 ghost use Rattle.task_record.specs.Numbers.{actionCount};
 ghost use Rattle.task_record.specs.Record.{Sound};
 ghost use Rattle.task_record.specs.TaskOf.{taskOf};
 ghost use Rattle.tables.specs.Packed.{compiled};
 ghost use Rattle.tables.specs.Compiling.{ActionsCompiled, Cleared};
 use crate::compile::compile_action;
+use crate::compile::named_digits;
 use crate::compile::put;
-use crate::packed::NAMING;
-use crate::packed::SETTING;
-use crate::packed::pack;
 use crate::ranking::wide;
+use crate::words::words_of;
 use task_record::cells::action_count;
 use task_record::cells::goal_cells;
 
@@ -41,15 +40,24 @@ fn clear_from(task: &mut [u64], from: usize)
     }
 }
 
+// The compiled task in words that are 0, those of the actions and of the goal aside.
+pub(crate) fn compile_cleared(rec: &[u8], task: &mut [u64; 1282])
+    requires { ⌜ (Sound (now rec)) × ((i : ℕ) → 20 * actionCount (now rec) ≤ i → i < 1280 → getD (now task) i 0 ≡ 0) ⌝ }
+    ensures { λ _. ⌜ now (task .exit) ≡ compiled (taskOf (now (rec .entry))) ⌝ }
+{
+    compile_actions(rec, task);
+    let goal = goal_cells(rec);
+    let words = words_of(goal);
+    let mask = named_digits(goal, words.keep);
+    put(task, 1280, mask);
+    put(task, 1281, words.value);
+}
+
+// The compiled task in words that are lent.
 pub(crate) fn compile_record(rec: &[u8], task: &mut [u64; 1282])
     requires { ⌜ Sound (now rec) ⌝ }
     ensures { λ _. ⌜ now (task .exit) ≡ compiled (taskOf (now (rec .entry))) ⌝ }
 {
-    compile_actions(rec, task);
     clear_from(task, 20 * wide(action_count(rec)));
-    let goal = goal_cells(rec);
-    let mask = pack(NAMING, goal);
-    let value = pack(SETTING, goal);
-    put(task, 1280, mask);
-    put(task, 1281, value);
+    compile_cleared(rec, task);
 }

@@ -1,6 +1,6 @@
 // Tables of a task's patterns: packed states (`packed`, `words`), the compiled task (`compile`, `compile_record`), the actions that apply in a state as
 // a set (`applying`), the abstract states of a pattern (`ranking`), a candidate for its table from the goals backwards (`worklist`, and what that
-// needs: `places`, `offsets`, `edges`, `incoming`, `visits`), the test of a candidate (`certify`), passes that need none (`sweep`), the table of one
+// needs: `places`, `offsets`, `edges`, `incoming`, `visits`, `queue`), the test of a candidate (`certify`), passes that need none (`sweep`), the table of one
 // pattern (`build`), all tables of a record (`record_tables`).
 pub mod applying;
 mod build;
@@ -12,6 +12,7 @@ mod incoming;
 mod offsets;
 pub mod packed;
 mod places;
+mod queue;
 mod ranking;
 pub mod record_tables;
 mod sweep;

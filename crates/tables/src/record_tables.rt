@@ -13,6 +13,7 @@ ghost use Rattle.patterns.specs.Estimate.{estimateCheck};
 ghost use Rattle.tables.specs.Packed.{compiled};
 ghost use Rattle.tables.specs.RecordTables.{Buildable, tableBuild, builtOver, tablesBuilt, tablesPrepared, wordsPrepared};
 use crate::build::build_table;
+use crate::compile_record::compile_cleared;
 use crate::compile_record::compile_record;
 use crate::ranking::state_count;
 use crate::ranking::wide;
@@ -74,7 +75,7 @@ fn build_checked(rec: &[u8], tables: &mut [u16])
         return;
     }
     let mut task = [0u64; 1282];
-    compile_record(rec, &mut task);
+    compile_cleared(rec, &mut task);
     build_all(rec, &task, tables);
 }
 

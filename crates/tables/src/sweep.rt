@@ -1,11 +1,13 @@
 // Passes over the entries of a pattern's table: each entry falls to what an action says of it, until no action says less of any.
 ghost use mathlib.Core.Path.{_≡_};
-ghost use mathlib.Core.Bool.{cond};
+ghost use mathlib.Core.Bool.{not, cond};
 ghost use Prim.Native.Nat.{ℕ, _+_, _*_, _/_, _%_, _≤_, _<_};
+ghost use lib.Bits.{bitOr};
 ghost use lib.Dec.{eqb};
 ghost use lib.ListN.{length, getD};
 ghost use Rattle.tables.specs.Packed.{outcomeCount};
-ghost use Rattle.tables.specs.Steps.{weigh, space, isGoal, permitted, after, idles, worst, raised, outcomeEntry, Below, offer, lowers, relaxed, started, Readable, RowSwept, RowPassed, Swept, Settled};
+ghost use Rattle.tables.specs.Sets.{setFrom};
+ghost use Rattle.tables.specs.Steps.{weigh, space, isGoal, permitted, after, idles, worst, raised, outcomeEntry, Below, offer, lowers, relaxed, started, Readable, RowSwept, Swept, Settled};
 
 pub(crate) fn wide(x: u16) -> usize
     ensures { λ r. ⌜ (r ≡ x) × (r < 65536) ⌝ }
@@ -193,7 +195,7 @@ fn sweep_action(
 
 // Whether an outcome names no variable of the pattern. It leads from each abstract state to itself, so the action never says less of an
 // entry.
-pub(crate) fn may_idle(task: &[u64; 1282], mask: u64, m: usize) -> bool
+fn may_idle(task: &[u64; 1282], mask: u64, m: usize) -> bool
     requires { ⌜ (m < 64) × (outcomeCount (now task) m ≤ 8) ⌝ }
     ensures { λ r. ⌜ r ≡ idles (now (task .entry)) mask m ⌝ }
 {
@@ -208,61 +210,68 @@ pub(crate) fn may_idle(task: &[u64; 1282], mask: u64, m: usize) -> bool
     false
 }
 
-// The same, where an action that may leave every state as it is is passed over.
-fn pass_action(
-    task: &[u64; 1282],
-    mask: u64,
-    weights: &[u16; 16],
-    states: &[u64],
-    actions: usize,
-    entries: &mut [u16],
-    m: usize,
-) -> bool
-    requires { ⌜ (Readable (now task) actions) × (m < actions) × (length (now entries) ≤ length (now states)) ⌝ }
-    ensures { λ r. ⌜ RowPassed (space (now (task .entry)) mask (now (weights .entry)) (now (states .entry)) actions) m (now (entries .entry)) (now (entries .exit)) r ⌝ }
+fn joined(set: u64, bit: u64, wanted: bool) -> u64
+    ensures { λ r. ⌜ r ≡ cond wanted (bitOr set bit) set ⌝ }
 {
-    if may_idle(task, mask, m) {
-        return false;
+    if wanted {
+        return set | bit;
     }
-    sweep_action(task, mask, weights, states, actions, entries, m)
+    set
 }
 
-// One pass with every action.
+// The actions of which no outcome leaves every state as it is.
+pub(crate) fn lively(task: &[u64; 1282], mask: u64, actions: usize) -> u64
+    requires { ⌜ Readable (now task) actions ⌝ }
+    ensures { λ r. ⌜ r ≡ setFrom (λ m. not (idles (now (task .entry)) mask m)) 0 actions ⌝ }
+{
+    let mut set = 0u64;
+    let mut bit = 1u64;
+    for m in 0..actions {
+        set = joined(set, bit, !may_idle(task, mask, m));
+        bit = bit % 9223372036854775808 * 2;
+    }
+    set
+}
+
+// One pass with every action of a set.
 fn sweep(
     task: &[u64; 1282],
     mask: u64,
     weights: &[u16; 16],
     states: &[u64],
     actions: usize,
+    live: u64,
     entries: &mut [u16],
 ) -> bool
-    requires { ⌜ (Readable (now task) actions) × (length (now entries) ≤ length (now states)) ⌝ }
+    requires { ⌜ (Readable (now task) actions) × (live ≡ setFrom (λ m. not (idles (now task) mask m)) 0 actions) × (length (now entries) ≤ length (now states)) ⌝ }
     ensures { λ r. ⌜ Swept (space (now (task .entry)) mask (now (weights .entry)) (now (states .entry)) actions) (now (entries .entry)) (now (entries .exit)) r ⌝ }
 {
     let mut changed = false;
-    let mut m = 0usize;
-    while m < actions {
-        if pass_action(task, mask, weights, states, actions, entries, m) {
+    let mut rest = live;
+    while rest != 0 {
+        let m = u64::trailing_zeros(rest) as usize;
+        if sweep_action(task, mask, weights, states, actions, entries, m) {
             changed = true;
         }
-        m += 1;
+        rest = rest & (rest - 1);
     }
     changed
 }
 
-// Passes until one changes nothing.
+// Passes until one changes nothing, with the actions of which no outcome leaves every state as it is: the others never say less of an entry.
 pub(crate) fn settle(
     task: &[u64; 1282],
     mask: u64,
     weights: &[u16; 16],
     states: &[u64],
     actions: usize,
+    live: u64,
     entries: &mut [u16],
 )
-    requires { ⌜ (Readable (now task) actions) × (length (now entries) ≤ length (now states)) ⌝ }
+    requires { ⌜ (Readable (now task) actions) × (live ≡ setFrom (λ m. not (idles (now task) mask m)) 0 actions) × (length (now entries) ≤ length (now states)) ⌝ }
     ensures { λ _. ⌜ Settled (space (now (task .entry)) mask (now (weights .entry)) (now (states .entry)) actions) (now (entries .entry)) (now (entries .exit)) ⌝ }
 {
-    while sweep(task, mask, weights, states, actions, entries) {}
+    while sweep(task, mask, weights, states, actions, live, entries) {}
 }
 
 // The entry of a state before the first pass.

@@ -1,5 +1,5 @@
-// The two words of an outcome from its sixteen cells, eight cells at once: where every cell is a value or 255, its high digit tells whether
-// it names a value, and its low digit which.
+// The two words of an outcome or a precondition from its sixteen cells, eight cells at once: where every cell is a value or 255, its high digit tells
+// whether it names a value, and its low digit which.
 ghost use mathlib.Core.Path.{_≡_};
 ghost use mathlib.Core.Bool.{true};
 ghost use Prim.Native.Nat.{_+_, _≤_, _<_};
@@ -12,7 +12,7 @@ use crate::packed::LEAVING;
 use crate::packed::SETTING;
 use crate::packed::pack;
 
-// What an outcome keeps, and what it sets.
+// What an outcome keeps, and what it sets; of a precondition the digits that it does not name, and the values that it names.
 pub(crate) struct Words {
     pub(crate) keep: u64,
     pub(crate) value: u64,

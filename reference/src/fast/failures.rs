@@ -16,10 +16,11 @@ struct Failure {
 
 pub struct Failures(Vec<Failure>);
 
-fn slot(state: u64, depth: u32) -> usize {
-    let folded = state ^ (state >> 32);
-    let folded = folded ^ (folded >> 12) ^ (folded >> 23) ^ (u64::from(depth) << 5);
-    folded as usize % SLOTS
+/// A number for a state with a depth, spread over 16 bits.
+pub fn spread(state: u64, depth: u32) -> usize {
+    const SPREAD: u64 = 0x9e37_79b9_7f4a_7c15;
+    let mixed = state.wrapping_mul(SPREAD) ^ u64::from(depth).wrapping_mul(SPREAD << 32);
+    (mixed >> 48) as usize
 }
 
 impl Failures {
@@ -30,12 +31,12 @@ impl Failures {
     /// How many examinations the state's failure takes, if it is known.
     #[inline(always)]
     pub fn known(&self, state: u64, depth: u32) -> Option<u32> {
-        let failure = self.0[slot(state, depth)];
+        let failure = self.0[spread(state, depth) % SLOTS];
         (failure.state == state && failure.depth == depth).then_some(failure.examinations)
     }
 
     #[inline(always)]
     pub fn note(&mut self, state: u64, depth: u32, examinations: u32) {
-        self.0[slot(state, depth)] = Failure { state, depth, examinations };
+        self.0[spread(state, depth) % SLOTS] = Failure { state, depth, examinations };
     }
 }

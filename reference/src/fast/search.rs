@@ -1,10 +1,12 @@
 //! The search: rounds of a depth-first examination with a stack of its own,
-//! on a task made of words. Failures are remembered over all rounds.
+//! on a task made of words. Failures are remembered over all rounds, successes as
+//! long as their plans stand.
 
 use super::compiled::{Compiled, Step};
 use super::failures::Failures;
 use super::patterns::Spaces;
 use super::record::Record;
+use super::successes::{Success, Successes};
 use crate::answer::{Reason, Refusal};
 
 const ARRIVED: u8 = 254;
@@ -82,6 +84,7 @@ struct Search<'a> {
     task: &'a Compiled,
     plan: &'a mut [u8],
     failures: Failures,
+    successes: Successes,
     left: u32,
 }
 
@@ -115,16 +118,33 @@ impl Search<'_> {
         }
     }
 
+    /// Writes the plan of a known success once more, as far as there is room.
+    fn copy(&mut self, known: Success, to: u32) {
+        let room = self.plan.len();
+        let (begin, end, to) = (known.begin as usize, known.end as usize, to as usize);
+        let length = (end - begin).min(room.saturating_sub(to));
+        if length > 0 {
+            self.plan.copy_within(begin..begin + length, to);
+        }
+    }
+
     /// The next outcome after one that succeeded, of the action or of one it
     /// was tried for; none if the whole plan is written.
     #[inline(always)]
-    fn go_on(&mut self, mut node: Node, path: &mut Path) -> Option<Node> {
+    fn go_on(&mut self, mut node: Node, path: &mut Path, end: u32, left: u32) -> Option<Node> {
         loop {
             node.outcome += 1;
             if node.outcome < self.task.step(node.action).end {
                 return Some(node);
             }
             self.put(node.at, node.action);
+            self.successes.note(Success {
+                state: node.state,
+                depth: path.depth + 1,
+                examinations: node.left - left,
+                begin: node.at,
+                end,
+            });
             node = path.pop()?;
         }
     }
@@ -146,11 +166,15 @@ impl Search<'_> {
             if node.untried == 0 {
                 self.failures.note(node.state, path.depth + 1, node.left - left);
                 let Some(below) = path.pop() else { break Round::Failed };
+                if node.at > below.at + 1 {
+                    self.successes.forget();
+                }
                 node = below;
                 continue;
             }
             let mut step = node.take(task);
             let mut end = node.at + 1;
+            // Until an outcome fails at once.
             loop {
                 if left == 0 {
                     break 'node Round::Spent;
@@ -161,30 +185,40 @@ impl Search<'_> {
                 let rest = u32::from(node.value) - cost(step.field, node.state);
                 let value = rest + cost(step.field, state);
                 if value > path.depth {
-                    continue 'node;
+                    break;
                 }
                 // Only a state of value 0 is a goal.
                 if value == 0 && task.is_goal(state) {
                     self.put(end, ARRIVED);
                     end += 1;
-                    let Some(next) = self.go_on(node, &mut path) else {
-                        break 'node Round::Found(end as usize);
+                } else {
+                    let untried = if path.depth == 0 { 0 } else { task.applying::<GROUPS>(state) };
+                    if untried == 0 {
+                        break;
+                    }
+                    let failure = self.failures.known(state, path.depth);
+                    if let Some(rest) = failure.and_then(|made| before.checked_sub(made)) {
+                        left = rest;
+                        break;
+                    }
+                    let success = self.successes.known(state, path.depth);
+                    let success = success.filter(|success| success.examinations <= before);
+                    let Some(success) = success else {
+                        path.push(node);
+                        node = Node::of(state, untried, before, value as u8, end);
+                        continue 'node;
                     };
-                    (node, step) = (next, task.step(next.action));
-                    continue;
+                    left = before - success.examinations;
+                    self.copy(success, end);
+                    end += success.end - success.begin;
                 }
-                let untried = if path.depth == 0 { 0 } else { task.applying::<GROUPS>(state) };
-                if untried == 0 {
-                    continue 'node;
-                }
-                let known = self.failures.known(state, path.depth);
-                if let Some(rest) = known.and_then(|made| before.checked_sub(made)) {
-                    left = rest;
-                    continue 'node;
-                }
-                path.push(node);
-                node = Node::of(state, untried, before, value as u8, end);
-                continue 'node;
+                let Some(next) = self.go_on(node, &mut path, end, left) else {
+                    break 'node Round::Found(end as usize);
+                };
+                (node, step) = (next, task.step(next.action));
+            }
+            if end > node.at + 1 {
+                self.successes.forget();
             }
         };
         self.left = left;
@@ -216,8 +250,13 @@ pub fn run(
         None => (if value.is_none() { Ending::None } else { Ending::Over }, 0, record.budget()),
         Some(value) => {
             let (task, start) = Compiled::of(record, spaces, tables);
-            let failures = Failures::none();
-            let mut search = Search { task: &task, plan, failures, left: record.budget() };
+            let mut search = Search {
+                task: &task,
+                plan,
+                failures: Failures::none(),
+                successes: Successes::none(),
+                left: record.budget(),
+            };
             let (ending, written) = rounds(&mut search, start, value as u8, record.limit());
             (ending, written, search.left)
         }

@@ -56,7 +56,7 @@ fill-sets-requires c κs = search needs
 
 search-rounds-requires : tie.Need-search-rounds-requires
 search-rounds-requires c κs = let p = c .before .before .before .before .before .before .before .before .before .before .before .before .before .before .before .before .before .before .before .before .before .before .before .before .before .before .before .before .before .before .pre in let r = c .before .before .before .before .before .before .before .before .before .before .before .before .before .before .before .before .before .before .before .before .before .before .before .before .before .before .before .before .before .before .args .rec .now in let z = c .before .before .before .before .before .before .before .before .before .before .before .before .before .before .before .before .before .before .before .before .fill-guide .ensures .0 in let b = patterns-right r (p .0) in let n = patterns-length r in
-    let a = sets-applying _ (p .0) (p .3) (c .before .before .before .before .before .before .before .before .before .wide .ensures .0 ∙ c .before .before .before .before .before .before .before .before .before .before .action-count .ensures) (z .variables) (rw (c .before .before .before .before .before .before .before .bytes-in .ensures) at (c .before .before .before .before .before .fill-sets .ensures)) in (
+    let a = sets-applying _ (p .0) _ (p .3) (c .before .before .before .before .before .before .before .before .before .wide .ensures .0 ∙ c .before .before .before .before .before .before .before .before .before .before .action-count .ensures) (z .variables) (rw (c .before .before .before .before .before .before .before .bytes-in .ensures) at (c .before .before .before .before .before .fill-sets .ensures)) in (
       p .0,
       p .1,
       p .3,

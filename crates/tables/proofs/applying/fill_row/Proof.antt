@@ -79,7 +79,7 @@ loop-less c = search needs
 
 loop-again : tie.Need-loop-again Inv-loop μ-loop
 unfolding slotMeet
-loop-again c = let l = c .before .before .loop in let p = c .before .before .before .before .before .before .pre .1 in (omega arith, row-goes-on (l .inv .1) _ refl (omega arith))
+loop-again c = let l = c .before .before .loop in let p = c .before .before .before .before .before .before .pre .1 in (omega arith, row-goes-on (l .inv .1) _ refl (omega arith) (omega arith))
 
 same-length : tie.Need-same-length Inv-loop μ-loop
 same-length c = c .before .loop .inv .1 .long ∙ sym (c .before .before .before .before .before .pre .0)

@@ -9,7 +9,7 @@ use lib.ListN.{length}
 use Rattle.tables.proofs.SetsFilled.{FillingRows, rows-start, rows-go-on, rows-end}
 
 abbrev Inv-loop : tie.InvT-loop
-Inv-loop slots sets₀ bytes q₀ q-end sets q = (q ≤ 16 * bytes) × (length sets ≡ 2048) × FillingRows slots sets q
+Inv-loop slots sets₀ bytes q₀ q-end sets q = (q ≤ 16 * bytes) × (length sets ≡ 2048) × FillingRows slots sets₀ sets q
 
 abbrev μ-loop : tie.MeasureT-loop
 μ-loop slots sets₀ bytes q₀ q-end sets q = 16 * bytes - q
@@ -36,7 +36,7 @@ same-length : tie.Need-same-length Inv-loop μ-loop
 same-length c = c .before .loop .inv .1 ∙ sym (c .before .before .before .pre .0)
 
 returns : tie.Need-returns Inv-loop μ-loop
-returns c = λ b x. rows-end (c .before .loop .inv .2) (c .before .before .before .args .bytes) b x (c .loop-test .left)
+returns c = rows-end (c .before .loop .inv .2) (c .before .before .before .args .bytes) (c .before .loop .inv .0) (c .loop-test .left) (c .before .loop .inv .1)
 
 pub fill-rows-spec : {M : Type 1} → statement M
 fill-rows-spec =

@@ -1,14 +1,17 @@
 -- `tables::applying::fill_sets` meets its contract. Assumes nothing.
-use borrow.Author.Needs.{needs}
 use Rattle.tables.proofs.applying.fill_sets.Statement.{statement}
 use Rattle.tables.proofs.applying.fill_sets.Tie as tie
 use borrow.Author.Needs.{needs}
 use mathlib.Core.Path.{refl}
 use native.Mathlib.Omega.{arith}
-use Rattle.tables.proofs.SetsFilled.{sets-filled, zeros}
+use lib.Dec.{leb, leb→le}
+use Rattle.planning.proofs.Test.{not-T-false}
+use Rattle.tables.specs.Sets.{setsFilled}
+use Rattle.tables.proofs.SetsFilled.{filled-as-defined, zeros}
 
 returns : tie.Need-returns
-returns c = λ h. absurd (omega arith)
+unfolding setsFilled
+returns c = rw (not-T-false (leb (c .before .args .actions) 64) (λ t. absurd (omega (arith, leb→le (c .before .args .actions) 64 t))))
 
 spread-of-requires : tie.Need-spread-of-requires
 spread-of-requires c κs = search needs
@@ -26,7 +29,7 @@ fill-rows-requires : tie.Need-fill-rows-requires
 fill-rows-requires c κs = search needs
 
 returns-2 : tie.Need-returns-2
-returns-2 c = λ h. rw (← c .before .before .before .before .before .before .spread-of .ensures .0) (sets-filled _ _ _ _ _ _ (c .before .before .before .before .enter-all .ensures) (c .fill-rows .ensures))
+returns-2 c = let e = c .before .before .before .before .before .before .spread-of .ensures .0 in filled-as-defined _ _ _ _ _ _ _ (omega arith) (rw e at (c .before .before .before .before .enter-all .ensures)) (rw e at (c .fill-rows .ensures))
 
 pub fill-sets-spec : {M : Type 1} → statement M
 fill-sets-spec =

@@ -1,7 +1,7 @@
 -- `tables::build::build_small` meets its contract. Assumes nothing.
+use borrow.Author.Needs.{needs}
 use Rattle.tables.proofs.build.build_small.Statement.{statement}
 use Rattle.tables.proofs.build.build_small.Tie as tie
-use borrow.Author.Needs.{needs}
 use Rattle.tables.specs.Packed.{digitBy}
 use Rattle.tables.proofs.Building.{parts-settled}
 
@@ -20,6 +20,9 @@ slice-aggregate-pack c = search needs
 pack-requires : tie.Need-pack-requires
 pack-requires c κs = search needs
 
+lively-requires : tie.Need-lively-requires
+lively-requires c κs = search needs
+
 slice-aggregate-start : tie.Need-slice-aggregate-start
 slice-aggregate-start c = search needs
 
@@ -37,8 +40,8 @@ same-length c = search needs
 
 returns : tie.Need-returns
 unfolding digitBy
-returns c = let a = c .before .before .before .before .before .before .before .before .before .before .before .before .before .before .before .before .before .before in
-    parts-settled (a .args .task .now) (a .args .actions) (a .args .n) (c .before .before .before .before .before .before .before .before .before .before .before .pack .result) (a .args .sizes) (a .args .t5) (c .before .before .before .before .before .before .before .before .before .before .before .before .before .weights-of .result) _ _ (c .before .before .before .before .before .before .before .before .before .before .before .pack .ensures) (c .before .before .before .before .before .before .before .before .before .before .before .before .before .weights-of .ensures) (c .before .before .before .before .before .before .before .before .before .before .before .before .before .before .before .fill-states .ensures) _ (rw (a .pre .2) at (c .before .before .before .before .before .before .before .before .start .ensures)) (c .before .before .settle .ensures)
+returns c = let a = c .before .before .before .before .before .before .before .before .before .before .before .before .before .before .before .before .before .before .before in
+    parts-settled (a .args .task .now) (a .args .actions) (a .args .n) (c .before .before .before .before .before .before .before .before .before .before .before .before .pack .result) (a .args .sizes) (a .args .t5) (c .before .before .before .before .before .before .before .before .before .before .before .before .before .before .weights-of .result) _ _ (c .before .before .before .before .before .before .before .before .before .before .before .before .pack .ensures) (c .before .before .before .before .before .before .before .before .before .before .before .before .before .before .weights-of .ensures) (c .before .before .before .before .before .before .before .before .before .before .before .before .before .before .before .before .fill-states .ensures) _ (rw (a .pre .2) at (c .before .before .before .before .before .before .before .before .start .ensures)) (c .before .before .settle .ensures)
 
 pub build-small-spec : {M : Type 1} → statement M
 build-small-spec =
@@ -49,6 +52,7 @@ build-small-spec =
     weights-of-requires
     slice-aggregate-pack
     pack-requires
+    lively-requires
     slice-aggregate-start
     start-requires
     slice-aggregate-settle

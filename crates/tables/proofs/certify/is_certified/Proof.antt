@@ -8,6 +8,7 @@ use native.Mathlib.Omega.{arith}
 use borrow.Author.Tests.{not-false}
 use lib.ListN.{length}
 use Rattle.tables.specs.Steps.{space}
+use Rattle.tables.proofs.SetsFilled.{filled-sets}
 use Rattle.tables.proofs.Certifying.{ExactTo, exact-next, exact-all}
 use Rattle.tables.proofs.Sweeping.{false-true}
 
@@ -27,7 +28,7 @@ loop-holds : tie.Need-loop-holds Inv-loop μ-loop
 loop-holds c = (omega arith, λ j l. absurd (omega arith))
 
 is-exact-requires : tie.Need-is-exact-requires Inv-loop μ-loop
-is-exact-requires c κs = let a = c .before .before .before .before .before .before .before .before .before .before in (a .pre .0, a .pre .1, c .before .before .before .before .fill-sets .ensures (a .pre .0 .actions-few), a .pre .2, c .before .before .loop-test .taken, a .pre .3, a .pre .4)
+is-exact-requires c κs = let a = c .before .before .before .before .before .before .before .before .before .before in (a .pre .0, a .pre .1, rw (c .before .before .before .before .fill-sets .ensures) (filled-sets _ _ _ _ _ (a .pre .0 .actions-few)), a .pre .2, c .before .before .loop-test .taken, a .pre .3, a .pre .4)
 
 returns : tie.Need-returns Inv-loop μ-loop
 returns c = λ q. false-true q

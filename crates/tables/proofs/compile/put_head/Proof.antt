@@ -4,11 +4,11 @@ use Rattle.tables.proofs.compile.put_head.Statement.{statement}
 use Rattle.tables.proofs.compile.put_head.Tie as tie
 use mathlib.Core.Path.{_∙_}
 
-pack-requires : tie.Need-pack-requires
-pack-requires c κs = search needs
+words-of-requires : tie.Need-words-of-requires
+words-of-requires c κs = search needs
 
-pack-requires-2 : tie.Need-pack-requires-2
-pack-requires-2 c κs = search needs
+named-digits-requires : tie.Need-named-digits-requires
+named-digits-requires c κs = search needs
 
 put-requires : tie.Need-put-requires
 put-requires c κs = search needs
@@ -37,14 +37,14 @@ same-length c = search needs
 returns : tie.Need-returns
 returns c = let third = c .before .before .before .before .before .before in let second = third .before .before .before .before in let first = second .before .before .before .before in
     c .before .before .put4 .ensures
-    ∙ rw (third .put3 .ensures, second .put2 .ensures, first .put .ensures, first .before .before .before .pack .ensures, first .before .before .pack2 .ensures)
+    ∙ rw (third .put3 .ensures, second .put2 .ensures, first .put .ensures, first .before .before .named-digits .ensures, first .before .before .before .words-of .ensures .1)
 
 pub put-head-spec : {M : Type 1} → statement M
 put-head-spec =
     tie.close
     (tie.spec
-    pack-requires
-    pack-requires-2
+    words-of-requires
+    named-digits-requires
     put-requires
     add-put
     put-requires-2

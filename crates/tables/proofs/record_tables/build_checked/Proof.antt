@@ -4,6 +4,7 @@ use Rattle.tables.proofs.record_tables.build_checked.Statement.{stateme
 use Rattle.tables.proofs.record_tables.build_checked.Tie as tie
 use mathlib.Core.Path.{sym, _∙_}
 use Rattle.tables.proofs.TableChain.{none-to-build}
+use Rattle.tables.proofs.SetsFilled.{zeros}
 
 pattern-count-requires : tie.Need-pattern-count-requires
 pattern-count-requires c κs = search needs
@@ -11,8 +12,8 @@ pattern-count-requires c κs = search needs
 returns : tie.Need-returns
 returns c = let a = c .before .before .before .before .args in none-to-build (a .rec .now) (a .tables .now) (sym (c .before .pattern-count .ensures) ∙ c .if1 .taken)
 
-compile-record-requires : tie.Need-compile-record-requires
-compile-record-requires c κs = search needs
+compile-cleared-requires : tie.Need-compile-cleared-requires
+compile-cleared-requires c κs = (search needs, λ i k l. zeros 1282 i)
 
 build-all-requires : tie.Need-build-all-requires
 build-all-requires c κs = search needs
@@ -29,7 +30,7 @@ build-checked-spec =
     (tie.spec
     pattern-count-requires
     returns
-    compile-record-requires
+    compile-cleared-requires
     build-all-requires
     same-length
     returns-2)

@@ -9,16 +9,16 @@ use Rattle.tables.specs.Steps.{space, Steps, none, total}
 use Rattle.tables.proofs.Settled.{then, steps-length}
 
 abbrev Inv-loop : tie.InvT-loop
-Inv-loop task mask weights states actions entries₀ entries = Steps (space task mask weights states actions) entries₀ entries × (length entries ≡ length entries₀)
+Inv-loop task mask weights states actions live entries₀ entries = Steps (space task mask weights states actions) entries₀ entries × (length entries ≡ length entries₀)
 
 abbrev μ-loop : tie.MeasureT-loop
-μ-loop task mask weights states actions entries₀ entries = total entries
+μ-loop task mask weights states actions live entries₀ entries = total entries
 
 loop-holds : tie.Need-loop-holds Inv-loop μ-loop
 loop-holds c = (none, refl)
 
 sweep-requires : tie.Need-sweep-requires Inv-loop μ-loop
-sweep-requires c κs = let p = c .before .before .before .before .pre in (p .0, omega (arith, p .1, c .before .loop .inv .1))
+sweep-requires c κs = let p = c .before .before .before .before .pre in (p .0, p .1, omega (arith, p .2, c .before .loop .inv .1))
 
 loop-less : tie.Need-loop-less Inv-loop μ-loop
 loop-less c = c .before .before .before .sweep .ensures .less (c .if1 .taken)

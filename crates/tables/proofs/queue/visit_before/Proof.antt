@@ -1,6 +1,6 @@
--- `tables::worklist::visit_before` meets its contract. Assumes nothing.
-use Rattle.tables.proofs.worklist.visit_before.Statement.{statement}
-use Rattle.tables.proofs.worklist.visit_before.Tie as tie
+-- `tables::queue::visit_before` meets its contract. Assumes nothing.
+use Rattle.tables.proofs.queue.visit_before.Statement.{statement}
+use Rattle.tables.proofs.queue.visit_before.Tie as tie
 use Prim.Native.Nat.{_≤_, _*_, _-_}
 use borrow.Author.Needs.{needs}
 use lib.ListN.{length}

@@ -1,6 +1,6 @@
--- `tables::certify::joined` meets its contract. Assumes nothing.
-use Rattle.tables.proofs.certify.joined.Statement.{statement}
-use Rattle.tables.proofs.certify.joined.Tie as tie
+-- `tables::sweep::joined` meets its contract. Assumes nothing.
+use Rattle.tables.proofs.sweep.joined.Statement.{statement}
+use Rattle.tables.proofs.sweep.joined.Tie as tie
 use borrow.Author.Needs.{needs}
 
 returns : tie.Need-returns

@@ -1,16 +1,16 @@
--- `tables::worklist::settle_few` meets its contract. Assumes nothing.
-use Rattle.tables.proofs.worklist.settle_few.Statement.{statement}
-use Rattle.tables.proofs.worklist.settle_few.Tie as tie
+-- `tables::queue::settle_many` meets its contract. Assumes nothing.
+use Rattle.tables.proofs.queue.settle_many.Statement.{statement}
+use Rattle.tables.proofs.queue.settle_many.Tie as tie
 use Prim.Native.Nat.{_≤_, _-_}
 use borrow.Author.Needs.{needs}
 use lib.ListN.{length}
 use mathlib.Core.Path.{_≡_}
 
 abbrev Inv-loop : tie.InvT-loop
-Inv-loop edges offsets sets entries₀ queue₀ counters₀ goals states end₀ head₀ entries queue counters end head = (head ≤ 4096) × (length entries ≡ length entries₀) × (length queue ≡ length queue₀) × (length counters ≡ length counters₀)
+Inv-loop edges offsets sets entries₀ queue₀ counters₀ stride words goals states end₀ head₀ entries queue counters end head = (head ≤ 4096) × (length entries ≡ length entries₀) × (length queue ≡ length queue₀) × (length counters ≡ length counters₀)
 
 abbrev μ-loop : tie.MeasureT-loop
-μ-loop edges offsets sets entries₀ queue₀ counters₀ goals states end₀ head₀ entries queue counters end head = 4096 - head
+μ-loop edges offsets sets entries₀ queue₀ counters₀ stride words goals states end₀ head₀ entries queue counters end head = 4096 - head
 
 loop-holds : tie.Need-loop-holds Inv-loop μ-loop
 loop-holds c = search needs
@@ -30,8 +30,8 @@ returns c = search needs
 place-at-requires : tie.Need-place-at-requires Inv-loop μ-loop
 place-at-requires c κs = search needs
 
-visit-few-requires : tie.Need-visit-few-requires Inv-loop μ-loop
-visit-few-requires c κs = search needs
+visit-before-requires : tie.Need-visit-before-requires Inv-loop μ-loop
+visit-before-requires c κs = search needs
 
 add-head : tie.Need-add-head Inv-loop μ-loop
 add-head c = search needs
@@ -54,8 +54,8 @@ same-length-6 c = search needs
 returns-2 : tie.Need-returns-2 Inv-loop μ-loop
 returns-2 c = search needs
 
-pub settle-few-spec : {M : Type 1} → statement M
-settle-few-spec =
+pub settle-many-spec : {M : Type 1} → statement M
+settle-many-spec =
     tie.close
     (tie.spec
     Inv-loop
@@ -66,7 +66,7 @@ settle-few-spec =
     same-length-3
     returns
     place-at-requires
-    visit-few-requires
+    visit-before-requires
     add-head
     loop-less
     loop-again

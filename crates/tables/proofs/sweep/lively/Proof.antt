@@ -1,6 +1,6 @@
--- `tables::certify::lively` meets its contract. Assumes nothing.
-use Rattle.tables.proofs.certify.lively.Statement.{statement}
-use Rattle.tables.proofs.certify.lively.Tie as tie
+-- `tables::sweep::lively` meets its contract. Assumes nothing.
+use Rattle.tables.proofs.sweep.lively.Statement.{statement}
+use Rattle.tables.proofs.sweep.lively.Tie as tie
 use borrow.Author.Needs.{needs}
 use mathlib.Core.Path.{_≡_, refl, sym, ap, _∙_}
 use mathlib.Core.Bool.{Bool, not, cond}
