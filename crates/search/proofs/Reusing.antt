@@ -1,12 +1,12 @@
 -- Laws of a memory of successes: what it says stays so as the search goes on, a success that was seen may be noted, and what is noted may be
 -- gone by. Assumes nothing.
 use mathlib.Core.Path.{_≡_, refl, sym, ap, _∙_}
-use mathlib.Core.Logic.{_⊎_, inl, inr, ⊎-elim}
+use mathlib.Core.Logic.{inl, inr, ⊎-elim}
 use mathlib.Core.List.{List}
-use Prim.Native.Nat.{ℕ, suc, _+_, _-_, _<_, _≤_}
+use Prim.Native.Nat.{ℕ, _+_, _-_, _≤_}
 use native.Mathlib.Omega.{arith}
 use native.Mathlib.Decide.{ℕ-discrete}
-use lib.ListN.{length, getD, set, length-set}
+use lib.ListN.{length, set, length-set}
 use lib.Seq.{getD-set-other}
 use Rattle.planning.specs.Extended.{ℕ∞}
 use Rattle.planning.specs.Plan.{Plan, arrived, act, encode}
@@ -16,7 +16,7 @@ use Rattle.planning.proofs.Shift.{succeeded-anywhere}
 use Rattle.search.specs.declared.examine.Ending.the-variants.{Succeeded}
 use Rattle.search.specs.Buffer.{Keeps, Holds}
 use Rattle.search.specs.Examination.{visitCount, bytesOf, endingOf, Examined}
-use Rattle.search.specs.Successes.{Success, success, Says, Silent, Shown, Known, NoMore, Since, Learnt, SuccessNoted, Forgotten, Copied}
+use Rattle.search.specs.Successes.{Success, success, Says, Silent, Shown, Known, NoMore, Learnt, SuccessNoted, Forgotten, Copied}
 use Rattle.search.proofs.Copying.{copy-holds}
 
 plan-has-bytes : (p : Plan) → 1 ≤ length (encode p)
@@ -30,7 +30,7 @@ no-more-itself memory = record { said = λ w h. h }
 pub no-more-trans : {old mid new : List ℕ} → NoMore old mid → NoMore mid new → NoMore old new
 no-more-trans f g = record { said = λ w h. f .said w (g .said w h) }
 
-pub silence-says-no-more : (old : List ℕ) {new : List ℕ} → Silent new → NoMore old new
+silence-says-no-more : (old : List ℕ) {new : List ℕ} → Silent new → NoMore old new
 silence-says-no-more old f = record { said = λ w h. absurd (f .silent w h) }
 
 pub silence-stays : {old new : List ℕ} → Silent old → NoMore old new → Silent new
@@ -63,7 +63,7 @@ module _ (r : ℕ → ℕ → ℕ → Result Plan) (budget : ℕ) where
   nothing-learnt buffer at end f = record { said = λ w h. inl (f .said w h) }
 
   -- No bytes stand between a place and itself.
-  pub learnt-no-more : {old new buffer : List ℕ} {at : ℕ} → Learnt r budget old new buffer at at → NoMore old new
+  learnt-no-more : {old new buffer : List ℕ} {at : ℕ} → Learnt r budget old new buffer at at → NoMore old new
   learnt-no-more f = record { said = λ w h. ⊎-elim (λ s. s) (λ s. absurd (omega (arith, s .from, s .to, s .shown .sized, plan-has-bytes (s .shown .plan)))) (f .said w h) }
 
   -- An outcome failed after others, whose bytes are given up.

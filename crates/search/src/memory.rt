@@ -1,11 +1,11 @@
 // A memory of failures: examining a state with a depth fails after as many examinations wherever it is made again. 1,024 slots of two
-// words, before those of successes: the state; and the depth with 64 times the number of examinations. A slot whose second word is 0 holds nothing, and a
-// failure that finds its slot taken replaces what is there.
+// words, before those of successes: the state; and the depth with 64 times the number of examinations. A slot whose second word is 0
+// holds nothing, and a failure that finds its slot taken replaces what is there.
 ghost use mathlib.Core.Path.{_≡_};
 ghost use Prim.Native.Nat.{_≤_, _<_};
 ghost use Rattle.search.specs.Memory.{Held, Noted};
 
-// The slot of a state with a depth: any place will do, since a slot is asked for both.
+// The slot of a state with a depth: any place will do, since a slot is asked for both. The products spread the states well.
 pub(crate) fn slot_of(s: u64, d: u32) -> usize
     ensures { λ r. ⌜ r < 1024 ⌝ }
 {
