@@ -3,6 +3,8 @@
 //! copied from where they stand. Bytes that are thrown away make everything
 //! that was noted before them worthless. The newest success of a slot is kept.
 
+use super::failures::spread;
+
 const SLOTS: usize = 512;
 
 /// That a state succeeds with a depth, after so many examinations, and where
@@ -35,14 +37,14 @@ impl Successes {
 
     #[inline(always)]
     pub fn known(&self, state: u64, depth: u32) -> Option<Success> {
-        let Noted { success, era } = self.noted[super::failures::spread(state, depth) % SLOTS];
+        let Noted { success, era } = self.noted[spread(state, depth) % SLOTS];
         let same = era == self.era && success.state == state && success.depth == depth;
         same.then_some(success)
     }
 
     #[inline(always)]
     pub fn note(&mut self, success: Success) {
-        let slot = super::failures::spread(success.state, success.depth) % SLOTS;
+        let slot = spread(success.state, success.depth) % SLOTS;
         self.noted[slot] = Noted { success, era: self.era };
     }
 
