@@ -1,7 +1,8 @@
 /* The planner for car-parking towers, for C.
  *
  * Link with target/staticlib/libplanner.a (rt staticlib planner), which has every function below, or with libplan_check.a (rt staticlib
- * plan_check), which has planner_check_plan alone. Link one of the two; neither needs another library.
+ * plan_check), which has planner_check_plan alone. Link one of the two. Neither needs another library than C's own, of which they call
+ * memcpy and memset at most.
  *
  * Every slice is a pointer and a length in elements: bytes, but for tables, whose elements are uint16_t. The caller owns all memory: a call
  * reads the slices while it runs, writes to those that its declaration does not mark const and as it says there, touches nothing past their
@@ -25,8 +26,25 @@
 extern "C" {
 #endif
 
-/* The bytes of a record: a task in the form that every call but the reader takes. What a longer slice holds after them is ignored. */
+/* The bytes of a record: a task in the form that every call but the reader takes. What a longer slice holds after them is ignored.
+ *
+ * offset  bytes                what stands there
+ *    0    1                    N, the number of variables, 1 to 16
+ *    1    1                    M, the number of moves, 0 to 64
+ *    2    1                    P, the number of patterns, 0 to 8
+ *    3    1                    the limit, 0 to 32
+ *    4    4                    the budget, 0 to 1000000, lowest byte first
+ *    8    16                   the size of each variable, 2 to 16; 0 from N on
+ *   24    16                   the goal: the value of each variable that it names, else 255
+ *   40    16                   the start, a state: a value for each variable, 255 from N on
+ *   56    8 times 16           each pattern: 1 for a variable that is in it, else 0
+ *  184    64 times 145         each move: the number of its outcomes, 1 to 8, its need (16) and eight outcomes (16 each), written as the
+ *                              goal is; of outcomes that it does not have every byte is 255, of moves from M on the number is 0 and
+ *                              every other byte 255 */
 #define PLANNER_RECORD_SIZE 9464
+
+/* Where the start stands in a record: PLANNER_STATE_SIZE bytes. */
+#define PLANNER_START 40
 
 /* The bytes of a state: a value for each of the N variables, 255 after them. */
 #define PLANNER_STATE_SIZE 16
@@ -69,10 +87,10 @@ extern "C" {
  * 17      a move after 32 moves on the path                         its offset in the plan
  * 14      a move does not apply: its need is not met, or the state  its offset in the plan
  *         there is a goal
- * 16      there are bytes after the plan                            the offset of the first of them
+ * 16      there are bytes after the plan, whatever they are         the offset of the first of them
  *
- * A call tests, in this order, those that are named at its declaration; planner_read_text tests 5 first. Those from 12 to 14 are tested at
- * each byte of a plan, from left to right. */
+ * A call tests, in this order, those that are named at its declaration; planner_read_text tests 5 first. The lines from 12 down to 14 are
+ * tested at each byte of a plan, from left to right, and 16 where the plan has ended. */
 struct planner_answer {
     uint64_t number;
     uint64_t kind;
@@ -123,13 +141,16 @@ struct planner_answer planner_value(const uint8_t *record, size_t record_length,
 
 /* Searches a cheapest strong plan from the record's start, up to its limit, with its budget of examinations. Refusals 5 to 9 and 11.
  *
- * tables  as for planner_build_tables, which the search calls: what they held before does not matter
+ * tables  as for planner_build_tables: the search builds them anew, and what they held before does not matter
  * plan    the buffer for the plan
+ *
+ * The count is that of a search that examines every state anew; what is known from an earlier examination is counted as if it were made
+ * again.
  *
  * kind 0  found: first is the cost, second the count of examinations, third the plan's length. No strong plan from the start costs less
  * kind 1  over: second is the count. Every strong plan from the start costs more than the limit
  * kind 2  spent: first is the round in which the budget ran out, second the count. Every strong plan from the start costs at least first
- * kind 3  none: second is 0. There is no strong plan from the start
+ * kind 3  none: second is the count, 0. There is no strong plan from the start
  *
  * After an answer and after refusal 11 the tables are as planner_build_tables leaves them, and the buffer holds PLANNER_NO_BYTE
  * throughout, but for a plan found, which stands at its start. */

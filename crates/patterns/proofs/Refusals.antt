@@ -13,7 +13,7 @@ use Rattle.planning.specs.Pattern.{Verdict, additive, conflict, verdict}
 use Rattle.planning.proofs.Test.{by-test}
 use Rattle.task_record.specs.Record.{recordCheck, firstBad, Sound}
 use Rattle.task_record.specs.State.{judgeState, firstBadValue, stateCheck}
-use Rattle.task_record.specs.State as reader-state
+use Rattle.task_record.specs.State as of-states
 use Rattle.task_record.specs.TaskOf.{taskOf, patternsOf}
 use Rattle.task_record.specs.declared.record.RecordCheck.{RecordCheck}
 use Rattle.task_record.specs.declared.record.RecordCheck.the-variants as of-record
@@ -93,13 +93,13 @@ state-number r s n x h = by-test (eqb (length s) 16)
     (λ e. let g = rw e at h in let k : 10 ≡ n = cc in omega arith)
 
 -- What the check of a state says of the record and of the state.
-split-good : (a : RecordCheck) (j : StateCheck) → reader-state.afterRecord a j ≡ of-state.Good → (a ≡ of-record.Sound) × (j ≡ of-state.Good)
-unfolding reader-state.afterRecord
+split-good : (a : RecordCheck) (j : StateCheck) → of-states.afterRecord a j ≡ of-state.Good → (a ≡ of-record.Sound) × (j ≡ of-state.Good)
+unfolding of-states.afterRecord
 split-good of-record.Sound j h = (refl, h)
 split-good (of-record.Refused n x) j h = let z : _≡_ {A = ℕ} 0 1 = cc in absurd (omega arith)
 
-split-refused : (a : RecordCheck) (j : StateCheck) (n x : ℕ) → reader-state.afterRecord a j ≡ of-state.Refused n x → (a ≡ of-record.Refused n x) ⊎ ((a ≡ of-record.Sound) × (j ≡ of-state.Refused n x))
-unfolding reader-state.afterRecord
+split-refused : (a : RecordCheck) (j : StateCheck) (n x : ℕ) → of-states.afterRecord a j ≡ of-state.Refused n x → (a ≡ of-record.Refused n x) ⊎ ((a ≡ of-record.Sound) × (j ≡ of-state.Refused n x))
+unfolding of-states.afterRecord
 split-refused of-record.Sound j n x h = inr (refl, h)
 split-refused (of-record.Refused m y) j n x h = let a : m ≡ n = cc in let b : y ≡ x = cc in inl (rw (a, b))
 
@@ -132,8 +132,8 @@ no-refusal n x (finite k) h = let z : _≡_ {A = ℕ} 0 1 = cc in absurd (omega 
 no-refusal n x infinite h = let z : _≡_ {A = ℕ} 0 1 = cc in absurd (omega arith)
 
 tests-passed : (a : RecordCheck) (e : EstimateCheck) (j : StateCheck) (w v : StateValue) → Answers v → afterRecord a (afterEstimate e (afterState j w)) ≡ v →
-    (reader-state.afterRecord a j ≡ of-state.Good) × (e ≡ of-estimate.Ready) × (w ≡ v)
-unfolding afterRecord afterEstimate afterState reader-state.afterRecord
+    (of-states.afterRecord a j ≡ of-state.Good) × (e ≡ of-estimate.Ready) × (w ≡ v)
+unfolding afterRecord afterEstimate afterState of-states.afterRecord
 tests-passed of-record.Sound of-estimate.Ready of-state.Good w v k h = (refl, refl, h)
 tests-passed of-record.Sound of-estimate.Ready (of-state.Refused n x) w v k h = no-refusal n x k h
 tests-passed of-record.Sound (of-estimate.Refused n x) j w v k h = no-refusal n x k h

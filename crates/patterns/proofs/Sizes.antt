@@ -8,7 +8,7 @@ use lib.ListN.{length, getD, take, drop}
 use lib.Seq.{ext-getD, getD-take, length-take-le}
 use Rattle.planning.specs.Task.{inSizes}
 use Rattle.planning.proofs.Test.{and-r}
-use Rattle.task_record.specs.Layout.{atSizes, atPattern}
+use Rattle.task_record.specs.Layout.{atPattern}
 use Rattle.task_record.specs.Numbers.{variableCount, patternCount, sizeOf}
 use Rattle.task_record.specs.Record.{Sound}
 use Rattle.task_record.specs.TaskOf.{cellsAt, taskOf}

@@ -4,8 +4,8 @@ use mathlib.Core.List.{List}
 use mathlib.Core.Logic.{_↔_}
 use Prim.Native.Nat.{ℕ}
 use native.Mathlib.Omega.{arith}
-use Rattle.planning.specs.Pattern.{Additive, Verdict, additive, conflict, verdict}
-use Rattle.planning.proofs.Verdict.{FirstConflict, verdict-additive, verdict-conflict}
+use Rattle.planning.specs.Pattern.{Additive, Verdict, additive, conflict, verdict, FirstConflict}
+use Rattle.planning.proofs.Verdict.{verdict-additive, verdict-conflict}
 use Rattle.task_record.specs.Record.{Sound}
 use Rattle.task_record.specs.TaskOf.{taskOf, patternsOf}
 use Rattle.patterns.specs.Additivity.{additivityOf, afterRecord, additivity}

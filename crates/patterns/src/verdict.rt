@@ -21,7 +21,7 @@ use task_record::cells::pattern_cells;
 use task_record::cells::pattern_count;
 use task_record::layout::ACTION_SIZE;
 use task_record::layout::AT_ACTIONS;
-use task_record::layout::ROW_SIZE;
+use task_record::layout::IN_OUTCOMES;
 use task_record::record::RecordCheck;
 use task_record::record::check_record;
 
@@ -109,7 +109,7 @@ fn touched_set(rec: &[u8], members: [u8; 16], m: u8) -> u8
     requires { ⌜ (Sound (now rec)) × (Sixteen (memberSet (now rec)) members) × (m < actionCount (now rec)) ⌝ }
     ensures { λ r. ⌜ Covers (patternCount (now (rec .entry))) (λ p. affectsPattern (actionOf (now (rec .entry)) m) (cellsAt (now (rec .entry)) (atPattern p))) r ⌝ }
 {
-    let at = AT_ACTIONS + 1 + ROW_SIZE + ACTION_SIZE * wide(m);
+    let at = AT_ACTIONS + IN_OUTCOMES + ACTION_SIZE * wide(m);
     let mut set = 0u8;
     for v in 0..16usize {
         set = set | named(common_cell(rec, at + v), members[v]);

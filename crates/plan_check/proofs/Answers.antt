@@ -6,12 +6,11 @@ use native.Mathlib.Nat.{zero-add, sub-zero}
 use borrow.Author.Tests.{eq-eqb}
 use lib.ListN.{length}
 use Rattle.task_record.specs.Record.{stateCellOk, Sound}
-use Rattle.task_record.specs.State.{firstBadValue, judgeState, afterRecord, stateCheck}
+use Rattle.task_record.specs.State.{firstBadValue, judgeState, afterRecord, stateCheck, GoodState}
 use Rattle.task_record.specs.declared.record.StateCheck.the-variants as of-state
 use Rattle.task_record.proofs.Scanning.{first-none}
-use Rattle.task_record.proofs.States.{GoodState}
 
--- A good state of a sound record passes the state check. (What passes it is one: checked-good of the reader.)
+-- A good state of a sound record passes the state check. (What passes it is one: task_record's `checked-good`.)
 pub good-checked : (r s : List ℕ) → Sound r → GoodState r s → stateCheck r s ≡ of-state.Good
 unfolding stateCheck Sound afterRecord judgeState firstBadValue stateCellOk
 good-checked r s sound good =

@@ -8,8 +8,8 @@ use native.Mathlib.Omega.{arith}
 use Rattle.planning.specs.PlanCheck.{Checked, passed, refused, checkPlan, mostMoves}
 use Rattle.planning.proofs.PlanCheck.{check-exact}
 use Rattle.task_record.specs.Record.{Sound}
-use Rattle.task_record.specs.State.{stateCheck}
-use Rattle.task_record.proofs.States.{GoodState, checked-good}
+use Rattle.task_record.specs.State.{stateCheck, GoodState}
+use Rattle.task_record.proofs.States.{checked-good}
 use Rattle.task_record.specs.declared.record.StateCheck.{StateCheck}
 use Rattle.task_record.specs.declared.record.StateCheck.the-variants as of-state
 use Rattle.plan_check.specs.declared.check.PlanCheck.{PlanCheck}

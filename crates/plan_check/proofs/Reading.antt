@@ -1,6 +1,6 @@
 -- The loop over a plan's bytes against planning's check: what stands between two bytes, what stands after a byte is read, and what each
 -- step does. Assumes nothing.
-use mathlib.Core.Path.{_≡_, ap, _∙_}
+use mathlib.Core.Path.{_≡_, _∙_}
 use mathlib.Core.List.{List, [], _∷_, _++_}
 use Prim.Native.Nat.{ℕ, suc, _+_, _-_, _*_, _≤_, _<_, max}
 use native.Mathlib.Numerals.{add-one}

@@ -1,8 +1,8 @@
 -- Laws of the system that a sound record stands for: what the code reads from sixteen cells is what the task says of the values.
 -- Assumes nothing.
-use mathlib.Core.Path.{_≡_, sym, ap}
+use mathlib.Core.Path.{_≡_, sym}
 use mathlib.Core.List.{List, map}
-use Prim.Native.Nat.{ℕ, suc, _<_, _≤_}
+use Prim.Native.Nat.{ℕ, _<_, _≤_}
 use native.Mathlib.Omega.{arith}
 use lib.ListN.{length, take, drop, length-map}
 use Rattle.planning.specs.Finite.{Some, tabulate}

@@ -13,12 +13,11 @@ use Rattle.planning.specs.PlanCheck.{Checked, passed, refused, Pending, demand,
 use Rattle.planning.proofs.Test.{by-test}
 use Rattle.task_record.specs.Layout.{recordSize}
 use Rattle.task_record.specs.Record.{firstBad, recordCheck, Sound}
-use Rattle.task_record.specs.State.{firstBadValue, judgeState, afterRecord, stateCheck}
+use Rattle.task_record.specs.State.{firstBadValue, judgeState, afterRecord, stateCheck, GoodState}
 use Rattle.task_record.specs.declared.record.RecordCheck.{RecordCheck}
 use Rattle.task_record.specs.declared.record.RecordCheck.the-variants as of-record
 use Rattle.task_record.specs.declared.record.StateCheck.{StateCheck}
 use Rattle.task_record.specs.declared.record.StateCheck.the-variants as of-state
-use Rattle.task_record.proofs.States.{GoodState}
 use Rattle.plan_check.specs.declared.check.PlanCheck.{PlanCheck}
 use Rattle.plan_check.specs.declared.check.PlanCheck.the-variants as answer
 use Rattle.plan_check.specs.Tower.{tower, valuesOf}

@@ -13,6 +13,7 @@ use crate::cells::met;
 use crate::cells::wide;
 use task_record::layout::ACTION_SIZE;
 use task_record::layout::AT_ACTIONS;
+use task_record::layout::IN_PRECONDITION;
 
 // "at most 32 moves depth"
 const MOST_MOVES: u32 = 32;
@@ -25,7 +26,10 @@ fn action_met(rec: &[u8], m: u8, state: [u8; 16]) -> bool
     requires { ⌜ (Sound (now rec)) × (m < actionCount (now rec)) ⌝ }
     ensures { λ r. ⌜ r ≡ tower (now (rec .entry)) .enabled m (valuesOf (now (rec .entry)) state) ⌝ }
 {
-    met(cells_at(rec, AT_ACTIONS + 1 + ACTION_SIZE * wide(m)), state)
+    met(
+        cells_at(rec, AT_ACTIONS + IN_PRECONDITION + ACTION_SIZE * wide(m)),
+        state,
+    )
 }
 
 // The number of the refusal, or 0. `actions` and `goal` are the record's.

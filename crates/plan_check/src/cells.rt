@@ -1,5 +1,5 @@
-// Sixteen cells of a record by value, and what a state does with them. They are task_record's `meets` and `apply` for cells that are all
-// there: with no length to test, each becomes a few vector instructions in the loop over a plan's bytes.
+// Sixteen cells of a record by value, and what a state does with them. All sixteen are there: with no length to test, each function becomes a
+// few vector instructions in the loop over a plan's bytes.
 ghost use mathlib.Core.Path.{_≡_};
 ghost use Prim.Native.Nat.{_+_, _≤_, _<_};
 ghost use lib.Dec.{eqb};

@@ -12,6 +12,8 @@ use crate::cells::cells_at;
 use crate::cells::wide;
 use task_record::layout::ACTION_SIZE;
 use task_record::layout::AT_ACTIONS;
+use task_record::layout::IN_OUTCOMES;
+use task_record::layout::ROW_SIZE;
 
 // The state in which the action was taken, the offset of the next outcome's cells, the moves on the path after the action, and how many
 // outcomes are to come.
@@ -40,7 +42,7 @@ pub(crate) fn begun(rec: &[u8], m: u8, state: [u8; 16], depth: u32) -> Frame
     let action = AT_ACTIONS + ACTION_SIZE * wide(m);
     Frame {
         state: state,
-        next: action + 17,
+        next: action + IN_OUTCOMES,
         depth: depth + 1,
         left: wide(rec[action]) as u32,
     }
@@ -63,7 +65,7 @@ pub(crate) fn rest_of(frame: Frame) -> Frame
     let state = frame.state;
     Frame {
         state: state,
-        next: frame.next + 16,
+        next: frame.next + ROW_SIZE,
         depth: frame.depth,
         left: frame.left - 1,
     }

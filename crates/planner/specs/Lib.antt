@@ -1,3 +1,2 @@
--- The definitions that the contracts cite beside those of the lower crates, in reading order.
-pub mod Answers
+-- The definition that the contracts cite beside those of the lower crates.
 pub mod ForC

@@ -23,7 +23,7 @@ pub extern "C" fn planner_search(rec: &[u8], tables: &mut [u16], plan: &mut [u8]
         SearchAnswer::Found(cost, count, length) => reply(0, cost, count, length),
         SearchAnswer::Over(count) => reply(1, 0, count, 0),
         SearchAnswer::Spent(round, count) => reply(2, round, count, 0),
-        SearchAnswer::None => reply(3, 0, 0, 0),
+        SearchAnswer::None(count) => reply(3, 0, count, 0),
     }
 }
 

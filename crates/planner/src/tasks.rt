@@ -1,9 +1,10 @@
 // Texts, records and states, for C.
 ghost use mathlib.Core.Path.{_≡_};
 ghost use Rattle.reader.specs.Grammar.{readAnswer, readLeaves};
+ghost use Rattle.reader.specs.Answers.{readNumbers};
 ghost use Rattle.task_record.specs.Record.{recordCheck};
 ghost use Rattle.task_record.specs.State.{stateCheck};
-ghost use Rattle.planner.specs.Answers.{readNumbers, recordNumbers, stateNumbers};
+ghost use Rattle.task_record.specs.Answers.{recordNumbers, stateNumbers};
 ghost use Rattle.planner.specs.ForC.{fiveNumbers};
 use crate::answer::PlannerAnswer;
 use crate::answer::refuse;

@@ -1,5 +1,5 @@
 -- Demand 3 over the definitions, for a well-formed task with additive patterns: what the answers of its search mean. Assumes nothing.
-use mathlib.Core.Path.{_≡_, ap, sym, _∙_}
+use mathlib.Core.Path.{_≡_}
 use mathlib.Core.List.{List}
 use Prim.Native.Nat.{ℕ, _≤_, _<_}
 use native.Mathlib.Omega.{arith}
@@ -7,7 +7,7 @@ use lib.ListN.{length}
 use Rattle.planning.specs.Plan.{Plan, Strong, cost, encode}
 use Rattle.planning.specs.Task.{Task, system, State, WellFormed}
 use Rattle.planning.specs.Pattern.{Additive}
-use Rattle.planning.specs.Search.{Answer, found, over, spent, none, answer}
+use Rattle.planning.specs.Search.{found, over, spent, none, answer}
 use Rattle.planning.specs.Table.{estimate}
 use Rattle.planning.specs.PlanCheck.{passed, checkPlan}
 use Rattle.planning.proofs.Search.{Right, search-right, found-same-plan}
@@ -34,9 +34,9 @@ module _ (t : Task) (w : WellFormed t) (ps : List (List ℕ)) (A : Additive t ps
   pub spent-means-at-least : (d c : ℕ) → answer t ps budget limit s ≡ spent d c → ((q : Plan) → Strong (system t) q s → d ≤ cost (system t) q) × (c ≡ budget)
   spent-means-at-least d c e = let r = rw e at answer-right in (r .0, r .2)
 
-  -- "'none' that there is none."
-  pub none-means-no-plan : answer t ps budget limit s ≡ none → (q : Plan) → Strong (system t) q s → ⊥
-  none-means-no-plan e = rw e at answer-right
+  -- "'none' that there is none"; and nothing was examined.
+  pub none-means-no-plan : (c : ℕ) → answer t ps budget limit s ≡ none c → ((q : Plan) → Strong (system t) q s → ⊥) × (c ≡ 0)
+  none-means-no-plan c e = rw e at answer-right
 
   -- A found plan passes the plan check with the cost reported and its length, if the limit is at most the moves that the check allows.
   pub found-passes : (most : ℕ) → limit ≤ most → length (t .actions) ≤ 254 → (p : Plan) (d c : ℕ) → answer t ps budget limit s ≡ found p d c → checkPlan (system t) most s (encode p) ≡ passed d (length (encode p))

@@ -63,10 +63,6 @@ module _ {S : Type 0} (Y : System S) where
   unfolding Seen solvable
   seen-at-first s v d t = absurd t
 
-  pub seen-fewer : (n k : ℕ) (s : S) (v : ℕ∞) → k ≤ n → Seen n s v → Seen k s v
-  unfolding Seen
-  seen-fewer n k s v l h d t = h d (solvable-mono Y k n d d s l (omega arith) t)
-
   pub seen-lower : (n : ℕ) (s : S) (v u : ℕ∞) → u ≤∞ v → Seen n s v → Seen n s u
   unfolding Seen _≤∞_
   seen-lower n s v u l h d t = l d (h d t)

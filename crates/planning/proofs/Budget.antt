@@ -1,15 +1,15 @@
 -- A budgeted run is the run with a larger budget, cut off: the same result where its count keeps to the smaller budget, else stopped with
 -- the smaller budget as count. A budget that is never used up is no budget at all. Assumes nothing.
-use mathlib.Core.Path.{_≡_, refl}
+use mathlib.Core.Path.{_≡_}
 use mathlib.Core.Bool.{Bool, true, false, not, _&&_}
 use mathlib.Core.List.{List, [], _∷_}
-use Prim.Native.Nat.{ℕ, zero, suc, _+_, _-_, _≤_, _<_}
+use Prim.Native.Nat.{ℕ, zero, suc, _-_, _≤_, _<_}
 use native.Mathlib.Omega.{arith}
 use lib.Dec.{T, leb, eqb, eqb→eq, eqb-refl, T-not}
 use Rattle.planning.specs.Finite.{choose}
 use Rattle.planning.specs.Extended.{ℕ∞, fin, inf, _≤?_}
 use Rattle.planning.specs.System.{System, applies}
-use Rattle.planning.specs.Plan.{Plan, arrived, act, Plans, done, _then_}
+use Rattle.planning.specs.Plan.{Plan, arrived, act, done, _then_}
 use Rattle.planning.specs.Search.{Result, succeeded, failed, stopped, andThen, orElse, examineOutcomes, tryActions, tryAction, examine, examineWith, examination, Answer, found, over, spent, none, endRound, rounds, searchFrom, search}
 use Rattle.planning.proofs.Test.{choose-true, not-equal, by-test, split-le}
 
@@ -149,7 +149,7 @@ abbrev pub answerCount : Answer → ℕ
 answerCount (found p d c) = c
 answerCount (over c) = c
 answerCount (spent d c) = c
-answerCount none = 0
+answerCount (none c) = c
 
 pub data CutAnswer (b : ℕ) : Answer → Answer → Type 0 where
   kept : (a : Answer) → answerCount a ≤ b → CutAnswer b a a
@@ -185,5 +185,5 @@ module _ {S : Type 0} (Y : System S) (h : S → ℕ∞) (b b′ limit : ℕ) (le
   search-cut = from (h s)
     where
       from : (v : ℕ∞) → CutAnswer b (searchFrom Y h b′ limit s v) (searchFrom Y h b limit s v)
-      from inf = kept none (omega arith)
+      from inf = kept (none 0) (omega arith)
       from (fin v) = by-test (leb v limit) (λ e. rw e (rounds-cut (suc (limit - v)) v 0 (omega arith))) (λ e. rw e (kept (over 0) (omega arith)))

@@ -20,11 +20,6 @@ use Rattle.planning.proofs.Bound.{upper-bound-step, stable-upper-bound-
 use Rattle.planning.proofs.Pattern.{abstraction-invariant}
 use Rattle.planning.proofs.Table.{index-below, state-at-index, index-at-state, state-at-abstract, states-cover, table-length, table-is-cost, table-entry}
 
--- Nothing is above infinity.
-pub below-infinity : (x : ℕ∞) → x ≤∞ inf
-unfolding _≤∞_
-below-infinity x d u = absurd u
-
 module _ (t : Task) (p : List ℕ) (q : Action → ℕ) where
   abbrev pub entries : ℕ
   entries = stateCount (t .sizes) p
@@ -40,7 +35,7 @@ module _ (t : Task) (p : List ℕ) (q : Action → ℕ) where
   abbrev pub NotBelow : List ℕ∞ → Type 0
   NotBelow tab = (i : ℕ) → i < entries → built i ≤∞ getD tab i inf
 
-  -- Value v for entry i has seen n sweeps; every entry of tab has (seen-at-first, seen-fewer and seen-lower are about this too).
+  -- Value v for entry i has seen n sweeps; every entry of tab has.
   abbrev pub SeenAt : ℕ → ℕ → ℕ∞ → Type 0
   SeenAt n i v = Seen (system (abstraction p q t)) n (stateAt (t .sizes) p i) v
 
@@ -64,7 +59,7 @@ module _ (t : Task) (p : List ℕ) (q : Action → ℕ) where
     equal-by-entries : (tab : List ℕ∞) → length tab ≡ entries → ((i : ℕ) → i < entries → getD tab i inf ≡ built i) → tab ≡ weightedTable t p q
     equal-by-entries tab e h = ext-getD inf tab (weightedTable t p q) (e ∙ sym (table-length t p q)) (λ i l. h i (rw e at l))
 
-    -- An entry of a goal is 0; so a start with 0 at goals and infinity elsewhere is not below (below-infinity).
+    -- An entry of a goal is 0; so a start with 0 at goals and infinity elsewhere is not below.
     pub built-at-goal : (i : ℕ) → i < entries → T (system (abstraction p q t) .goal (stateAt (t .sizes) p i)) → built i ≡ fin 0
     built-at-goal i l g = sym (state-entry (weightedTable t p q) i l)
         ∙ cost-is-fixed-point (system (abstraction p q t)) (AbstractState t p) (abstraction-invariant t w p q positive) _ (table-is-cost t p q w positive) (stateAt (t .sizes) p i) (state-at-abstract t w p i)

@@ -1,9 +1,9 @@
 -- The canonical plan within a depth: at each state the lowest action that leads to a plan within the depth left. It is a strong plan
 -- wherever there is one, and it is what every examination finds (Search, examination-settles), whatever the estimate. Assumes nothing.
-use mathlib.Core.Path.{_≡_, refl, _∙_}
-use mathlib.Core.Bool.{Bool, not, _&&_, _||_}
+use mathlib.Core.Path.{_≡_, _∙_}
+use mathlib.Core.Bool.{Bool, _&&_}
 use mathlib.Core.List.{List, [], _∷_}
-use Prim.Native.Nat.{ℕ, zero, suc, _+_, _-_, _≤_, _<_, max}
+use Prim.Native.Nat.{ℕ, zero, suc, _+_, _-_, _≤_, _<_}
 use native.Mathlib.Omega.{arith}
 use lib.Dec.{T, leb, leb→le}
 use Rattle.planning.specs.Finite.{choose, every, anyFrom}

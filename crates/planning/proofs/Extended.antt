@@ -2,15 +2,15 @@
 -- Assumes nothing.
 use mathlib.Core.Path.{_≡_, refl, sym, ap, _∙_}
 use mathlib.Core.Logic.{inl, inr}
-use mathlib.Core.Bool.{Bool, true, false, _&&_, _||_, cond}
+use mathlib.Core.Bool.{false, _&&_, _||_}
 use mathlib.Core.List.{List, [], _∷_}
 use Prim.Native.Nat.{ℕ, zero, suc, _+_, _-_, _≤_, _<_, min, max}
 use native.Mathlib.Omega.{arith}
 use lib.Dec.{T, leb, ltb, leb→le, le→leb, nleb→lt, ltb→lt, lt→ltb}
 use Rattle.planning.specs.Finite.{every, All, Some, anyFrom}
-use Rattle.planning.specs.Extended.{ℕ∞, fin, inf, _≤?_, _≤∞_, max∞, min∞, add∞, largest, sum∞, leastFrom, infiniteFrom}
+use Rattle.planning.specs.Extended.{ℕ∞, fin, inf, _≤?_, _≤∞_, max∞, min∞, add∞, largest, leastFrom, infiniteFrom}
 use Rattle.planning.proofs.Test.{T-true, bool-iff, and-in, and-l, and-r, or-l, or-r, or-elim, or-false, by-test, leb-zero}
-use Rattle.planning.proofs.Finite.{any-in, some-imp}
+use Rattle.planning.proofs.Finite.{some-imp}
 
 pub max∞-le : (x y : ℕ∞) (d : ℕ) → (max∞ x y ≤? d) ≡ ((x ≤? d) && (y ≤? d))
 unfolding max∞
@@ -98,10 +98,6 @@ largest-some f x [] = inl (max∞-zero (f x))
 largest-some f x (y ∷ ys) = max∞-case (f x) (largest f (y ∷ ys)) (λ l. inl l)
     (λ l. inr (some-imp (λ z k. le∞-trans _ _ _ l k) (y ∷ ys) (largest-some f y ys)))
 
-pub least-below : (k n : ℕ) (f : ℕ → ℕ∞) (m : ℕ) → k ≤ m → m < k + n → leastFrom k n f ≤∞ f m
-unfolding _≤∞_
-least-below k n f m a b d t = rw (least-le k n f d) (any-in k n (λ j. f j ≤? d) m a b t)
-
 -- x ≤ a + y and u ≤ b + v give x + u ≤ (a + b) + (y + v).
 pub le∞-sum : (a b : ℕ) (x y u v : ℕ∞) → x ≤∞ add∞ (fin a) y → u ≤∞ add∞ (fin b) v → add∞ x u ≤∞ add∞ (fin (a + b)) (add∞ y v)
 unfolding _≤∞_ add∞
@@ -146,9 +142,6 @@ add∞-assoc (fin a) (fin b) (fin c) = ap fin (omega arith)
 add∞-assoc (fin a) (fin b) inf = refl
 add∞-assoc (fin a) inf z = refl
 add∞-assoc inf y z = refl
-
-pub le∞-add : (x y u v : ℕ∞) → x ≤∞ y → u ≤∞ v → add∞ x u ≤∞ add∞ y v
-le∞-add x y u v h k = rw (add∞-zero (add∞ y v)) at (le∞-sum 0 0 x y u v (rw (add∞-zero y) h) (rw (add∞-zero v) k))
 
 -- Two values with the same upper bounds are equal.
 pub ext∞ : (x y : ℕ∞) → ((d : ℕ) → (x ≤? d) ≡ (y ≤? d)) → x ≡ y

@@ -1,15 +1,15 @@
 -- The fuel of an examination does not matter: the examination that contracts cite satisfies the document's equation with no fuel in it.
 -- Assumes nothing.
 use mathlib.Core.Path.{_≡_, refl}
-use mathlib.Core.Bool.{Bool, not, _&&_}
+use mathlib.Core.Bool.{_&&_}
 use mathlib.Core.List.{List, [], _∷_}
 use Prim.Native.Nat.{ℕ, zero, suc, _+_, _-_, _≤_, _<_}
 use native.Mathlib.Omega.{arith}
-use lib.Dec.{T, leb, eqb, leb→le}
+use lib.Dec.{leb, eqb, leb→le}
 use Rattle.planning.specs.Finite.{All}
 use Rattle.planning.specs.Extended.{ℕ∞, _≤?_}
 use Rattle.planning.specs.System.{System, applies, Invariant}
-use Rattle.planning.specs.Plan.{Plan, Plans}
+use Rattle.planning.specs.Plan.{Plan}
 use Rattle.planning.specs.Search.{Result, succeeded, failed, stopped, andThen, orElse, examineOutcomes, tryActions, tryAction, examine, examineWith, examination}
 use Rattle.planning.proofs.Test.{and-l, and-r, choose-ext}
 

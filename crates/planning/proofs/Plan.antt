@@ -1,13 +1,12 @@
 -- The cost of a state is the least cost of a strong plan from it, and infinite exactly where there is none. Assumes nothing.
 use mathlib.Core.Path.{_≡_, refl}
 use mathlib.Core.Logic.{_↔_}
-use mathlib.Core.Bool.{Bool, true, false, _&&_}
 use mathlib.Core.List.{List, [], _∷_}
-use Prim.Native.Nat.{ℕ, zero, suc, _+_, _-_, _≤_, _<_, max}
+use Prim.Native.Nat.{ℕ, zero, suc, _-_, _≤_, _<_}
 use native.Mathlib.Omega.{arith}
 use lib.Dec.{T, T-not}
 use Rattle.planning.specs.Finite.{every}
-use Rattle.planning.specs.Extended.{ℕ∞, fin, inf, _≤?_}
+use Rattle.planning.specs.Extended.{ℕ∞, inf, _≤?_}
 use Rattle.planning.specs.System.{System, applies, IsCost, Invariant}
 use Rattle.planning.specs.Plan.{Plan, arrived, act, Plans, done, _then_, Strong, Strongs, cost, costs}
 use Rattle.planning.proofs.Test.{bool-iff, and-in, and-r}

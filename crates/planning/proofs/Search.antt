@@ -2,15 +2,15 @@
 -- plan within its depth exists, with the canonical one, and it stops only with the budget used. So each answer of the search says what
 -- demand 3 words. Assumes nothing.
 use mathlib.Core.Path.{_≡_, refl, sym, _∙_}
-use mathlib.Core.Bool.{Bool, true, false, not, _&&_, _||_}
+use mathlib.Core.Bool.{Bool, true, false, not, _&&_}
 use mathlib.Core.List.{List, [], _∷_}
-use Prim.Native.Nat.{ℕ, zero, suc, _+_, _-_, _≤_, _<_, max}
+use Prim.Native.Nat.{ℕ, zero, suc, _+_, _-_, _≤_, _<_}
 use native.Mathlib.Omega.{arith}
 use lib.Dec.{T, leb, eqb, leb→le, nleb→lt, eqb→eq, eqb-refl, T-not}
 use Rattle.planning.specs.Finite.{choose, every, All, anyFrom}
 use Rattle.planning.specs.Extended.{ℕ∞, fin, inf, _≤?_}
 use Rattle.planning.specs.System.{System, applies, Invariant}
-use Rattle.planning.specs.Plan.{Plan, arrived, act, Plans, done, _then_, Strong, cost}
+use Rattle.planning.specs.Plan.{Plan, arrived, act, done, _then_, Strong, cost}
 use Rattle.planning.specs.Estimate.{Admissible}
 use Rattle.planning.specs.Search.{Result, succeeded, failed, stopped, andThen, orElse, examineOutcomes, tryActions, tryAction, examine, examineWith, examination, Answer, found, over, spent, none, endRound, rounds, searchFrom, search}
 use Rattle.planning.proofs.Test.{not-T-false, and-in, and-l, and-r, or-l, or-r, or-elim, by-test, choose-true, choose-false}
@@ -143,12 +143,13 @@ module _ {S : Type 0} (Y : System S) (s : S) where
 
   -- Demand 3, sentence by sentence: "A found plan is a strong plan from the start, the cost reported is its cost, and every other strong
   -- plan from the start costs at least as much. An answer 'over' means that every strong plan from the start costs more than the limit,
-  -- 'spent' that every one costs at least the round reported, and 'none' that there is none." Besides, counts keep to the budget, and a found plan is the canonical one.
+  -- 'spent' that every one costs at least the round reported, and 'none' that there is none." Besides, counts keep to
+  -- the budget, that of 'none' is 0, and a found plan is the canonical one.
   abbrev pub Right : ℕ → ℕ → Answer → Type 0
   Right budget limit (found p d c) = Strong Y p s × (cost Y p ≡ d) × CostsAtLeast d × (d ≤ limit) × (c ≤ budget) × (p ≡ canonical Y (suc d) d s)
   Right budget limit (over c) = CostsAtLeast (suc limit) × (c ≤ budget)
   Right budget limit (spent d c) = CostsAtLeast d × (d ≤ limit) × (c ≡ budget)
-  Right budget limit none = (q : Plan) → Strong Y q s → ⊥
+  Right budget limit (none c) = ((q : Plan) → Strong Y q s → ⊥) × (c ≡ 0)
 
   end-right : (budget limit c d : ℕ) {r : Result Plan} (next : ℕ → Answer) → d ≤ limit → CostsAtLeast d → Settles budget (solvable Y (suc d) d s) (canonical Y (suc d) d s) c r →
       ((c : ℕ) → c ≤ budget → (T (solvable Y (suc d) d s) → ⊥) → Right budget limit (next c)) → Right budget limit (endRound d r next)
@@ -172,7 +173,7 @@ module _ {S : Type 0} (Y : System S) (s : S) where
     search-right = from (h s) (λ q. A q s o)
       where
         from : (v : ℕ∞) → ((q : Plan) → Strong Y q s → T (v ≤? cost Y q)) → Right budget limit (searchFrom Y h budget limit s v)
-        from inf a = a
+        from inf a = (a, refl)
         from (fin v) a = by-test (leb v limit)
             (λ e. let l : v ≤ limit = leb→le v limit (rw e tt) in rw e (rounds-right (suc (limit - v)) v 0 (omega arith) (omega arith) (λ q z. leb→le v (cost Y q) (a q z))))
             (λ e. let l : limit < v = nleb→lt v limit (rw e tt) in rw e (λ q z. let k : v ≤ cost Y q = leb→le v (cost Y q) (a q z) in omega arith, omega arith))

@@ -1,6 +1,6 @@
 -- An examination makes the same examinations whatever the count it begins with, as long as the budget reaches: begun at another count it
 -- ends alike, with its count moved by as much. So a failure that is known holds at every count, and so does a success. Assumes nothing.
-use mathlib.Core.Path.{_≡_, refl, sym, ap, subst}
+use mathlib.Core.Path.{_≡_, ap}
 use mathlib.Core.Bool.{Bool, true, false, not, _&&_}
 use mathlib.Core.List.{List, [], _∷_}
 use Prim.Native.Nat.{ℕ, zero, suc, _+_, _-_, _≤_, _<_}
@@ -9,7 +9,7 @@ use lib.Dec.{T, leb, eqb, eqb→eq}
 use Rattle.planning.specs.Finite.{choose}
 use Rattle.planning.specs.Extended.{ℕ∞, _≤?_}
 use Rattle.planning.specs.System.{System, applies}
-use Rattle.planning.specs.Plan.{Plan, arrived, act, Plans, done, _then_}
+use Rattle.planning.specs.Plan.{Plan, arrived, act, done, _then_}
 use Rattle.planning.specs.Search.{Result, succeeded, failed, stopped, andThen, orElse, examineOutcomes, tryActions, tryAction, examine, examineWith, examination}
 use Rattle.planning.proofs.Test.{by-test}
 use Rattle.planning.proofs.Budget.{countOf, then-grows, else-grows, outcomes-grow, actions-grow, try-grows, made-counts, count-grows, at-budget-stops}
@@ -88,16 +88,10 @@ module _ {S : Type 0} (Y : System S) (h : S → ℕ∞) (b : ℕ) where
   examination-moves zero d s c c′ = moved-failure c c′ (omega arith)
   examination-moves (suc f) d s c c′ = moved-examine (examineWith Y h b f) (count-grows Y h b f) (examination-moves f) d s c c′
 
-IsFailure : {A : Type 0} → Result A → Type 0
-IsFailure (succeeded a c) = ⊥
-IsFailure (failed c) = Unit {0}
-IsFailure (stopped c) = ⊥
-
 failure-moves : {A : Type 0} (b c c′ k : ℕ) {r q : Result A} → Moved b c c′ r q → r ≡ failed (c + k) → c′ + k ≤ b → q ≡ failed (c′ + k)
-unfolding IsFailure
-failure-moves b c c′ k (moved-success a x y e) w l = absurd (subst IsFailure (sym w) tt)
-failure-moves b c c′ k (moved-failure x y e) w l = let z : x ≡ c + k = ap countOf w in let v : y ≡ c′ + k = omega (arith, e, z) in ap failed v
-failure-moves b c c′ k (was-stopped x q) w l = absurd (subst IsFailure (sym w) tt)
+failure-moves b c c′ k (moved-success a x y e) w l = let z : _≡_ {A = ℕ} 0 1 = cc in absurd (omega arith)
+failure-moves b c c′ k (moved-failure x y e) w l = let z : x ≡ c + k = ap countOf w in let v : y ≡ c′ + k = omega (arith, e, z) in cc
+failure-moves b c c′ k (was-stopped x q) w l = let z : _≡_ {A = ℕ} 0 1 = cc in absurd (omega arith)
 failure-moves b c c′ k (too-long r q n) w l = let z : countOf r ≡ c + k = ap countOf w in absurd (omega (arith, n, z, l))
 
 -- An examination that fails after k examinations fails after k examinations at every count that leaves so many.

@@ -1,14 +1,14 @@
 -- The same system over other states: where goals, actions, weights and successors correspond under a map of states, costs and examinations
 -- are the same. So code may keep states in a form of its own. Assumes nothing.
-use mathlib.Core.Path.{_≡_, refl, sym, ap, _∙_}
-use mathlib.Core.Bool.{Bool, not, _&&_, cond}
+use mathlib.Core.Path.{_≡_, refl, ap, _∙_}
+use mathlib.Core.Bool.{_&&_, cond}
 use mathlib.Core.List.{List, [], _∷_, map}
-use Prim.Native.Nat.{ℕ, zero, suc, _+_, _-_, _≤_, _<_}
+use Prim.Native.Nat.{ℕ, zero, suc, _+_, _-_, _<_}
 use native.Mathlib.Omega.{arith}
 use lib.Dec.{T, leb, eqb}
-use Rattle.planning.specs.Finite.{choose, All}
-use Rattle.planning.specs.Extended.{ℕ∞, fin, inf, _≤?_, add∞, min∞, max∞, largest, leastFrom}
-use Rattle.planning.specs.System.{System, applies, bellman, iterate, IsCost, Invariant}
+use Rattle.planning.specs.Finite.{All}
+use Rattle.planning.specs.Extended.{ℕ∞, fin, inf, _≤?_, add∞, largest, leastFrom}
+use Rattle.planning.specs.System.{System, applies, bellman, iterate}
 use Rattle.planning.specs.Plan.{Plan, act}
 use Rattle.planning.specs.Search.{Result, succeeded, failed, stopped, andThen, examineOutcomes, tryActions, tryAction, examine, examineWith, examination, Answer, endRound, rounds, searchFrom, search}
 use Rattle.planning.proofs.Test.{and-l, by-test, choose-ext, choose-same}

@@ -3,16 +3,16 @@
 -- Assumes nothing.
 use mathlib.Core.Path.{_≡_, refl, sym, ap, _∙_}
 use mathlib.Core.Logic.{_↔_}
-use mathlib.Core.Bool.{Bool, true, false, not, _&&_, _||_, cond}
+use mathlib.Core.Bool.{Bool, true, false, _&&_, _||_, cond}
 use mathlib.Core.List.{List, [], _∷_}
 use Prim.Native.Nat.{ℕ, zero, suc, _+_, _-_, _≤_, _<_}
 use native.Mathlib.Omega.{arith}
-use lib.Dec.{T, leb, leb→le, le→leb, T-not}
-use Rattle.planning.specs.Finite.{every, All, Some, anyFrom}
-use Rattle.planning.specs.Extended.{ℕ∞, fin, inf, _≤?_, _≤∞_, add∞, largest, leastFrom}
+use lib.Dec.{T, leb, leb→le, le→leb}
+use Rattle.planning.specs.Finite.{every, Some, anyFrom}
+use Rattle.planning.specs.Extended.{ℕ∞, fin, inf, _≤?_, _≤∞_, add∞, largest}
 use Rattle.planning.specs.System.{System, applies, bellman, iterate, IsLimit, IsCost, Invariant}
-use Rattle.planning.proofs.Test.{T-true, not-T-false, bool-iff, and-in, and-l, and-r, or-l, or-r, or-elim, by-test, split-le, leb-zero}
-use Rattle.planning.proofs.Finite.{any-ext, any-in, any-out, every-ext, every-imp, all-imp, some-imp}
+use Rattle.planning.proofs.Test.{T-true, not-T-false, and-in, and-l, and-r, or-l, or-r, or-elim, by-test, split-le, leb-zero}
+use Rattle.planning.proofs.Finite.{any-ext, any-in, any-out, every-ext, all-imp, some-imp}
 use Rattle.planning.proofs.Extended.{add∞-le, largest-le, least-le, largest-some, le∞-trans, add∞-mono, mono?, ext∞}
 
 -- One step of the test: a goal, or an action that applies, within d, all of whose outcomes pass the test r at the depth left.

@@ -1,12 +1,14 @@
--- Laws of tasks: actions lead from states to states, so a well-formed task is a system as the laws ask. Assumes nothing.
+-- Laws of tasks: actions lead from states to states, so a well-formed task is a system as the laws ask; and an empty goal is met by every
+-- state. Assumes nothing.
+use mathlib.Core.Path.{_≡_}
 use mathlib.Core.Bool.{_||_}
 use mathlib.Core.List.{List, [], _∷_}
 use Prim.Native.Nat.{ℕ, _<_}
 use lib.Dec.{T, eqb, ltb}
 use lib.ListN.{length}
-use Rattle.planning.specs.Finite.{Some}
+use Rattle.planning.specs.Finite.{All, Some}
 use Rattle.planning.specs.System.{Invariant}
-use Rattle.planning.specs.Task.{Task, applyCell, apply, actionAt, noAction, system, inSizes, fitsSizes, State, WellFormedAction, WellFormed}
+use Rattle.planning.specs.Task.{Task, meets, applyCell, apply, actionAt, noAction, system, inSizes, fitsSizes, State, WellFormedAction, WellFormed}
 use Rattle.planning.proofs.Test.{and-in, and-l, and-r, by-test}
 use Rattle.planning.proofs.Finite.{all-imp, all-map, all-at, some-map}
 
@@ -39,3 +41,14 @@ task-invariant t w = record {
 pub task-filled : (t : Task) → WellFormed t → (m : ℕ) (s : List ℕ) → m < length (t .actions) → Some (λ x. Unit {0}) (system t .successors m s)
 unfolding system
 task-filled t w m s l = some-map (λ x. Unit {0}) (λ o. apply o s) (actionAt t m .outcomes) (action-well-formed t w m l .some-outcome)
+
+-- "An empty goal makes every state a goal": cells that name no variable are met by every state.
+pub nothing-named-met : (cells s : List ℕ) → All (λ y. y ≡ 255) cells → T (meets cells s)
+unfolding meets
+nothing-named-met [] s h = tt
+nothing-named-met (y ∷ cells) [] h = tt
+nothing-named-met (y ∷ cells) (x ∷ s) h = rw (h .0) (nothing-named-met cells s (h .1))
+
+pub empty-goal-met : (t : Task) → All (λ y. y ≡ 255) (t .goal) → (s : List ℕ) → T (system t .goal s)
+unfolding system
+empty-goal-met t h s = nothing-named-met (t .goal) s h

@@ -1,9 +1,9 @@
 -- Tests (Booleans) as facts: how a conjunction, a disjunction and a choice are taken apart and put together. Assumes nothing.
 use mathlib.Core.Path.{_≡_, refl, ap, _∙_}
 use mathlib.Core.Bool.{Bool, true, false, not, _&&_, _||_}
-use Prim.Native.Nat.{ℕ, suc, _≤_, _<_}
+use Prim.Native.Nat.{ℕ, suc, _≤_}
 use native.Mathlib.Omega.{arith}
-use lib.Dec.{T, leb, eqb, leb→le, le→leb, nleb→lt, T-not, eqb→eq, eqb-refl}
+use lib.Dec.{T, leb, eqb, leb→le, le→leb, nleb→lt, eqb→eq}
 use Rattle.planning.specs.Finite.{choose}
 
 pub T-true : (b : Bool) → T b → b ≡ true

@@ -9,7 +9,7 @@ use lib.Dec.{T}
 use lib.ListN.{length, getD}
 use Rattle.planning.specs.Finite.{All, Some}
 use Rattle.planning.specs.Task.{Action, Task, noAction}
-use Rattle.planning.specs.Pattern.{affectsPattern, affectedFrom, Additive, Verdict, additive, conflict, judge, verdictFrom, verdict}
+use Rattle.planning.specs.Pattern.{affectsPattern, affectedFrom, Additive, Verdict, additive, conflict, judge, verdictFrom, verdict, FirstConflict}
 use Rattle.planning.proofs.Test.{by-test}
 use Rattle.planning.proofs.Finite.{all-imp, some-imp, some-all}
 
@@ -93,13 +93,6 @@ additive-verdict-from m (a ∷ rest) ps h = judge-cases m (affectedFrom 0 ps a) 
 pub verdict-additive : (t : Task) (ps : List (List ℕ)) → verdict t ps ≡ additive ↔ Additive t ps
 unfolding verdict Additive
 verdict-additive t ps = (verdict-from-yes 0 (t .actions) ps, additive-verdict-from 0 (t .actions) ps)
-
--- The first conflict: action m affects at least two patterns, of which p and q come first, and no action below m affects two.
-pub record FirstConflict (actions : List Action) (ps : List (List ℕ)) (m p q : ℕ) : Type 0 where
-  pub action-below : m < length actions
-  pub others : List ℕ
-  pub affected : affectedFrom 0 ps (getD actions m noAction) ≡ p ∷ (q ∷ others)
-  pub none-before : (j : ℕ) → j < m → length (affectedFrom 0 ps (getD actions j noAction)) ≤ 1
 
 conflict-later : (a : Action) (rest : List Action) (ps : List (List ℕ)) (m p q : ℕ) → length (affectedFrom 0 ps a) ≤ 1 → FirstConflict rest ps m p q → FirstConflict (a ∷ rest) ps (suc m) p q
 conflict-later a rest ps m p q l c = record { action-below = omega (arith, c .action-below); others = c .others; affected = c .affected; none-before = before }

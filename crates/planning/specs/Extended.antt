@@ -1,6 +1,6 @@
 -- Numbers with infinity. They are compared with plain numbers by a test, and with each other by the plain numbers above them.
 -- Assumes nothing.
-use mathlib.Core.Bool.{Bool, true, false, cond}
+use mathlib.Core.Bool.{Bool, false, cond}
 use mathlib.Core.List.{List, [], _∷_}
 use Prim.Native.Nat.{ℕ, zero, suc, _+_, min, max}
 use lib.Dec.{T, leb, ltb}

@@ -1,13 +1,13 @@
 -- Patterns, the abstraction of a task by a pattern, and when patterns are additive: document 01, "Patterns and their tables", with source
 -- 000, Definitions 4.2 and 4.8. A pattern is a list of cells, 1 where the variable is in. Assumes nothing.
 use mathlib.Core.Path.{_≡_}
-use mathlib.Core.Bool.{Bool, true, false, not, _&&_, _||_, cond}
+use mathlib.Core.Bool.{Bool, false, not, _&&_, _||_, cond}
 use mathlib.Core.List.{List, [], _∷_, map}
-use Prim.Native.Nat.{ℕ, suc, _≤_}
+use Prim.Native.Nat.{ℕ, suc, _≤_, _<_}
 use lib.Dec.{eqb}
-use lib.ListN.{length}
+use lib.ListN.{length, getD}
 use Rattle.planning.specs.Finite.{All, someOf}
-use Rattle.planning.specs.Task.{Action, Task, State}
+use Rattle.planning.specs.Task.{Action, Task, State, noAction}
 
 -- The cells of the pattern's variables, and z in place of the others.
 unfoldable pub keep : ℕ → List ℕ → List ℕ → List ℕ
@@ -67,3 +67,11 @@ verdictFrom m (a ∷ rest) ps = judge m (affectedFrom 0 ps a) (λ u. verdictFrom
 
 unfoldable pub verdict : Task → List (List ℕ) → Verdict
 verdict t ps = verdictFrom 0 (t .actions) ps
+
+-- "the lowest move that touches two, with the lowest two patterns", said of the actions without the scan: action m affects at least two
+-- patterns, of which p and q come first, and no action below m affects two. The verdict names exactly this (verdict-conflict).
+pub record FirstConflict (actions : List Action) (ps : List (List ℕ)) (m p q : ℕ) : Type 0 where
+  pub action-below : m < length actions
+  pub others : List ℕ
+  pub affected : affectedFrom 0 ps (getD actions m noAction) ≡ p ∷ (q ∷ others)
+  pub none-before : (j : ℕ) → j < m → length (affectedFrom 0 ps (getD actions j noAction)) ≤ 1

@@ -1,6 +1,5 @@
 -- Plans: trees, when a tree is a strong plan from a state, its cost and depth, and its bytes. Document 01, "Search", second paragraph.
 -- Assumes nothing.
-use mathlib.Core.Bool.{Bool}
 use mathlib.Core.List.{List, [], _∷_, _++_}
 use Prim.Native.Nat.{ℕ, zero, suc, _+_, _<_, max}
 use lib.Dec.{T, eqb}

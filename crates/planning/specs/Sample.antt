@@ -1,9 +1,9 @@
 -- The sample tower of document 01 and its starred examples, each with the reply that the document gives. Assumes nothing.
 use mathlib.Core.List.{List, [], _∷_}
 use Prim.Native.Nat.{ℕ}
-use Rattle.planning.specs.Extended.{ℕ∞, fin, inf}
+use Rattle.planning.specs.Extended.{ℕ∞, fin}
 use Rattle.planning.specs.Plan.{encode}
-use Rattle.planning.specs.Task.{Action, Task, system}
+use Rattle.planning.specs.Task.{Task, system}
 use Rattle.planning.specs.Pattern.{Verdict, additive, conflict, verdict}
 use Rattle.planning.specs.Table.{tables, estimate}
 use Rattle.planning.specs.Search.{Answer, found, over, spent, none, answer}
@@ -52,7 +52,7 @@ pub data Reply : Type 0 where
   foundReply : ℕ∞ → ℕ → ℕ → List ℕ → Reply
   overReply : ℕ∞ → ℕ → Reply
   spentReply : ℕ∞ → ℕ → ℕ → Reply
-  noneReply : Reply
+  noneReply : ℕ → Reply
   passedReply : ℕ → ℕ → Reply
   refusedReply : ℕ → ℕ → Reply
 
@@ -60,7 +60,7 @@ unfoldable pub answerReply : ℕ∞ → Answer → Reply
 answerReply v (found p d c) = foundReply v d c (encode p)
 answerReply v (over c) = overReply v c
 answerReply v (spent d c) = spentReply v d c
-answerReply v none = noneReply
+answerReply v (none c) = noneReply c
 
 -- Patterns that are not additive are refusal 9 at the action.
 unfoldable pub searchReply : Verdict → (Unit {0} → Reply) → Reply
@@ -93,9 +93,9 @@ starred =
     -- "Budget 6: spent, round 4, count 6." "limit=3: over, count 0."
     is (searchOf sample 6 32) (spentReply (fin 4) 4 6) ∷
     is (searchOf sample 100 3) (overReply (fin 4) 0) ∷
-    -- "eff=0:0 for eff=0:3: table 65535,65535,0,1; none."
+    -- "eff=0:0 for eff=0:3: table 65535,65535,0,1; none." Its count is 0.
     is (tablesOf slipping) (entries (65535 ∷ 65535 ∷ 0 ∷ 1 ∷ 1 ∷ 0 ∷ [])) ∷
-    is (searchOf slipping 100 32) noneReply ∷
+    is (searchOf slipping 100 32) (noneReply 0) ∷
     -- "eff=0:2,1:1 for eff=1:1: 9 at 3."
     is (searchOf coupled 100 32) (refusedReply 9 3) ∷
     -- "Check at start: 0,1,3,254: 12 at 4. 254: 15 at 0. 3,3: 14 at 1. 4: 13 at 0. The plan with 254 added: 16 at 7."

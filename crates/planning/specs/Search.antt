@@ -1,7 +1,7 @@
 -- The search: document 01, "Search". Over any system and any estimate h; for a task the estimate is the summed one. Assumes nothing.
-use mathlib.Core.Bool.{Bool, _&&_}
+use mathlib.Core.Bool.{_&&_}
 use mathlib.Core.List.{List, [], _∷_, _++_}
-use Prim.Native.Nat.{ℕ, zero, suc, _+_, _-_}
+use Prim.Native.Nat.{ℕ, zero, suc, _-_}
 use lib.Dec.{eqb, leb}
 use lib.ListN.{take, replicate}
 use Rattle.planning.specs.Finite.{choose}
@@ -62,12 +62,13 @@ module _ {S : Type 0} (Y : System S) (h : S → ℕ∞) (budget : ℕ) where
   unfoldable pub examination : ℕ → S → ℕ → Result Plan
   examination d s c = examineWith (suc d) d s c
 
--- The answers: found with plan, cost and count; over with the count; spent with round and count; none, whose count is 0.
+-- The answers, each with the count ("The count of examinations is carried in every answer"): found with plan, cost and count; over with
+-- the count; spent with round and count; none with the count.
 pub data Answer : Type 0 where
   found : Plan → ℕ → ℕ → Answer
   over : ℕ → Answer
   spent : ℕ → ℕ → Answer
-  none : Answer
+  none : ℕ → Answer
 
 unfoldable pub endRound : ℕ → Result Plan → (ℕ → Answer) → Answer
 endRound d (succeeded p c) next = found p d c
@@ -83,7 +84,7 @@ module _ {S : Type 0} (Y : System S) (h : S → ℕ∞) (budget limit : ℕ) (s 
   -- "Rounds run d = value of the start, then one more each, up to the limit. An infinite value answers 'none', a value above the limit
   -- 'over', both with count 0."
   unfoldable pub searchFrom : ℕ∞ → Answer
-  searchFrom inf = none
+  searchFrom inf = none 0
   searchFrom (fin v) = choose (leb v limit) (λ u. rounds (suc (limit - v)) v 0) (λ u. over 0)
 
   unfoldable pub search : Answer
@@ -99,7 +100,7 @@ unfoldable pub planBytes : Answer → List ℕ
 planBytes (found p d c) = encode p
 planBytes (over c) = []
 planBytes (spent d c) = []
-planBytes none = []
+planBytes (none c) = []
 
 unfoldable pub planBuffer : ℕ → Answer → List ℕ
 planBuffer n a = take n (planBytes a ++ replicate n 255)

@@ -1,5 +1,5 @@
 -- The laws about the definitions of specs/: how a text splits into lines and pieces, what a line does, the last line, that a record that was
--- read is sound, that every sound record has a text, the sample.
+-- read is sound and says the task of the text, that every sound record has a text, the sample.
 pub mod Split
 pub mod Keys
 pub mod Decimals
@@ -15,6 +15,7 @@ pub mod FillingSteps
 pub mod Begun
 pub mod LinesKept
 pub mod ReadSound
+pub mod TaskLeft
 pub mod WrittenNumbers
 pub mod WrittenPieces
 pub mod WrittenLists

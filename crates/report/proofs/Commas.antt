@@ -1,11 +1,11 @@
 -- Laws of numbers parted by commas. Assumes nothing.
 use mathlib.Core.Path.{_≡_, refl, sym, ap, _∙_}
 use mathlib.Core.List.{List, [], _∷_, _++_, append-nil, append-assoc}
-use Prim.Native.Nat.{ℕ, zero, suc, _+_, _*_, _<_, _≤_}
+use Prim.Native.Nat.{ℕ, _+_, _<_}
 use native.Mathlib.Numerals.{add-one}
 use native.Mathlib.Omega.{arith}
 use lib.ListN.{length, take, drop, getD}
-use lib.Seq.{take-suc, drop-cons}
+use lib.Seq.{take-suc}
 use Rattle.reader.specs.Text.{comma}
 use Rattle.report.specs.Decimal.{decimal}
 use Rattle.report.specs.Lines.{commaBefore, commaList}

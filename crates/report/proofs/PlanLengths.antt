@@ -1,8 +1,8 @@
 -- A found plan has at most as many bytes as states were examined, and those keep to the budget: each byte is an examination.
 -- Assumes nothing.
-use mathlib.Core.Path.{_≡_, refl, sym, ap, _∙_}
+use mathlib.Core.Path.{_≡_}
 use mathlib.Core.Bool.{Bool, true, false, not, _&&_}
-use mathlib.Core.List.{List, [], _∷_, _++_}
+use mathlib.Core.List.{List, [], _∷_}
 use Prim.Native.Nat.{ℕ, zero, suc, _+_, _-_, _<_, _≤_}
 use native.Mathlib.Omega.{arith}
 use lib.Dec.{T, eqb, leb}
@@ -10,7 +10,7 @@ use lib.ListN.{length, length-append}
 use Rattle.planning.specs.Finite.{choose}
 use Rattle.planning.specs.Extended.{ℕ∞, fin, inf, _≤?_}
 use Rattle.planning.specs.System.{System, applies}
-use Rattle.planning.specs.Plan.{Plan, arrived, act, Plans, done, _then_, encode, encodes}
+use Rattle.planning.specs.Plan.{Plan, act, Plans, _then_, encode, encodes}
 use Rattle.planning.specs.Task.{Task, system}
 use Rattle.planning.specs.Table.{estimate}
 use Rattle.planning.specs.Search.{Result, succeeded, failed, stopped, andThen, orElse, examineOutcomes, tryActions, tryAction, examine, examineWith, examination, Answer, found, over, spent, none, endRound, rounds, searchFrom, search, answer}
@@ -108,7 +108,7 @@ abbrev Short : ℕ → Answer → Type 0
 Short b (found p d c) = (length (encode p) ≤ c) × (c ≤ b)
 Short b (over c) = Unit {0}
 Short b (spent d c) = Unit {0}
-Short b none = Unit {0}
+Short b (none c) = Unit {0}
 
 end-short : (b d : ℕ) (x : Result Plan) (next : ℕ → Answer) → Paid encode 0 b 0 x → ((e : ℕ) → e ≤ b → Short b (next e)) → Short b (endRound d x next)
 unfolding endRound

@@ -1,12 +1,12 @@
 -- A printed number says the number, and the reader reads it back: one form of number in and out. Assumes nothing.
-use mathlib.Core.Path.{_≡_, refl, sym, ap, _∙_}
+use mathlib.Core.Path.{_≡_, refl, ap, _∙_}
 use mathlib.Core.Bool.{Bool, true, false, not, _&&_, _||_}
 use mathlib.Core.List.{List, [], _∷_, _++_}
 use Prim.Native.Nat.{ℕ, zero, suc, _+_, _-_, _*_, _/_, _%_, _<_, _≤_}
 use native.Mathlib.Decide.{decLt}
 use native.Mathlib.Nat.{div-add-mod'}
 use native.Mathlib.Omega.{arith}
-use borrow.Author.Tests.{le-leb, lt-leb, ne-eqb}
+use borrow.Author.Tests.{le-leb, ne-eqb}
 use lib.Dec.{leb, eqb}
 use lib.ListN.{length, getD, length-append, List·getD-append}
 use Rattle.reader.specs.Text.{digit, digits, value, wellFormed, numberOf}

@@ -1,12 +1,11 @@
 -- Laws of what is printed: the lines of each answer of the search, and of a text that is refused or read. Assumes nothing.
 use mathlib.Core.Path.{_≡_, refl, sym, ap, _∙_}
-use mathlib.Core.Bool.{Bool, true, false, cond}
-use mathlib.Core.List.{List, [], _∷_, _++_, append-nil}
-use Prim.Native.Nat.{ℕ, _+_, _≤_, _<_}
+use mathlib.Core.List.{List, _++_, append-nil}
+use Prim.Native.Nat.{ℕ, _≤_}
 use native.Mathlib.Omega.{arith}
 use borrow.Author.Tests.{le-ltb, le-leb, leb-true}
-use lib.Dec.{ltb, leb}
-use lib.ListN.{length, take, drop, replicate, drop-of-length-le}
+use lib.Dec.{leb}
+use lib.ListN.{length, take, replicate, drop-of-length-le}
 use lib.Seq.{take-take, take-at}
 use Rattle.planning.specs.Extended.{ℕ∞, fin, inf}
 use Rattle.planning.specs.Plan.{Plan, encode}
@@ -19,14 +18,12 @@ use Rattle.reader.specs.Grammar.{Whole, complete, refused, readWhole, answerOf,
 use Rattle.task_record.specs.Layout.{recordSize, atStart}
 use Rattle.task_record.specs.Numbers.{budgetOf, limitOf}
 use Rattle.task_record.specs.TaskOf.{cellsAt, taskOf, patternsOf, startOf}
-use Rattle.reader.specs.declared.text.Reading.{Reading}
 use Rattle.reader.specs.declared.text.Reading.the-variants as of-text
-use Rattle.reader.proofs.ReadSound.{answered-record, read-answers, read-leaves}
+use Rattle.reader.proofs.ReadSound.{answered-record, read-leaves}
 use Rattle.patterns.specs.Estimate.{estimateCheck}
 use Rattle.patterns.specs.Value.{valueOf, stateValue}
 use Rattle.patterns.specs.declared.estimate.EstimateCheck.{EstimateCheck}
 use Rattle.patterns.specs.declared.estimate.EstimateCheck.the-variants as of-estimate
-use Rattle.patterns.specs.declared.value.StateValue.{StateValue}
 use Rattle.patterns.specs.declared.value.StateValue.the-variants as of-value
 use Rattle.tables.specs.RecordTables.{tablesPrepared}
 use Rattle.search.specs.Answer.{bufferOf}
@@ -59,13 +56,13 @@ pub data Answered : SearchAnswer → Type 0 where
   is-found : (d c k : ℕ) → Answered (Found d c k)
   is-over : (c : ℕ) → Answered (Over c)
   is-spent : (d c : ℕ) → Answered (Spent d c)
-  is-none : Answered None
+  is-none : (c : ℕ) → Answered (None c)
 
 not-refused : {A : Type 0} {a : SearchAnswer} (n x : ℕ) → Answered a → a ≡ Refused n x → A
 not-refused n x (is-found d c k) e = let z : _≡_ {A = ℕ} 0 1 = cc in absurd (omega arith)
 not-refused n x (is-over c) e = let z : _≡_ {A = ℕ} 0 1 = cc in absurd (omega arith)
 not-refused n x (is-spent d c) e = let z : _≡_ {A = ℕ} 0 1 = cc in absurd (omega arith)
-not-refused n x is-none e = let z : _≡_ {A = ℕ} 0 1 = cc in absurd (omega arith)
+not-refused n x (is-none c) e = let z : _≡_ {A = ℕ} 0 1 = cc in absurd (omega arith)
 
 after-ready : (e : EstimateCheck) (k : Unit {0} → SearchAnswer) {a : SearchAnswer} → Answered a → a ≡ afterEstimate e k → (e ≡ of-estimate.Ready) × (a ≡ k tt)
 unfolding afterEstimate
@@ -102,7 +99,7 @@ found-fits n (found p i j) d c k e =
     (λ t. let g : Found d c k ≡ Refused 11 (length (encode p)) = e ∙ rw t in let z : _≡_ {A = ℕ} 0 1 = cc in absurd (omega arith))
 found-fits n (over i) d c k e = let z : _≡_ {A = ℕ} 0 1 = cc in absurd (omega arith)
 found-fits n (spent i j) d c k e = let z : _≡_ {A = ℕ} 0 1 = cc in absurd (omega arith)
-found-fits n none d c k e = let z : _≡_ {A = ℕ} 0 1 = cc in absurd (omega arith)
+found-fits n (none i) d c k e = let z : _≡_ {A = ℕ} 0 1 = cc in absurd (omega arith)
 
 module _ (r tabs plan : List ℕ) (d c k : ℕ) (e : Found d c k ≡ searchAnswer r (length tabs) (length plan)) where
   the-plan : (p : Plan) × (taskAnswer r ≡ found p d c) × (k ≡ length (encode p)) × (k ≤ length plan)
@@ -139,9 +136,9 @@ module _ (r : List ℕ) (lent n : ℕ) where
   unfolding recordLines answerLines startValue
   spent-told d c e = rw (← e)
 
-  pub none-told : None ≡ searchAnswer r lent n → recordLines lent n r ≡ valueLine (startValue r) ++ noneLines
+  pub none-told : (c : ℕ) → None c ≡ searchAnswer r lent n → recordLines lent n r ≡ valueLine (startValue r) ++ noneLines c
   unfolding recordLines answerLines startValue
-  none-told e = rw (← e)
+  none-told c e = rw (← e)
 
   pub refusal-told : (number second : ℕ) → Refused number second ≡ searchAnswer r lent n → recordLines lent n r ≡ refusalLines number second
   unfolding recordLines answerLines

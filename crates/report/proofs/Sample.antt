@@ -1,7 +1,7 @@
 -- The examples of document 01 from the text to the printed bytes, by computation. A record that was read is sound, so its cells need not be
 -- checked again. Assumes nothing.
 use mathlib.Core.Path.{_≡_, refl, ap, _∙_}
-use mathlib.Core.List.{List, [], _∷_, map}
+use mathlib.Core.List.{List, map}
 use Prim.Native.Nat.{ℕ}
 use Rattle.planning.specs.Finite.{choose, tabulate, chain}
 use Rattle.planning.specs.Extended.{max∞, min∞, add∞, infiniteFrom}

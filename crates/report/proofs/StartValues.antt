@@ -1,13 +1,12 @@
 -- The value of the start on the tables that a search leaves: the value call refuses nothing there and answers the summed estimate.
 -- Assumes nothing.
-use mathlib.Core.Path.{_≡_, refl, sym, ap, _∙_}
-use mathlib.Core.Bool.{true}
-use mathlib.Core.List.{List, _++_}
-use Prim.Native.Nat.{ℕ, _+_, _≤_, _<_}
+use mathlib.Core.Path.{_≡_, refl, ap, _∙_}
+use mathlib.Core.List.{List}
+use Prim.Native.Nat.{ℕ, _≤_}
 use native.Mathlib.Nat.{zero-add, sub-zero}
 use native.Mathlib.Omega.{arith}
-use borrow.Author.Tests.{eq-eqb, le-ltb, leb-true}
-use lib.ListN.{length, take, drop}
+use borrow.Author.Tests.{eq-eqb, leb-true}
+use lib.ListN.{length, drop}
 use lib.Seq.{take-take}
 use Rattle.planning.specs.Pattern.{Additive}
 use Rattle.planning.specs.Table.{estimate, Small}
@@ -15,8 +14,8 @@ use Rattle.planning.proofs.Verdict.{verdict-additive}
 use Rattle.task_record.specs.Layout.{atStart, atBudget}
 use Rattle.task_record.specs.Numbers.{variableCount, budgetOf}
 use Rattle.task_record.specs.Record.{headOk, cellOk, stateCellOk, recordCheck, Sound}
-use Rattle.task_record.specs.State.{firstBadValue, judgeState, stateCheck}
-use Rattle.task_record.specs.State as reader-state
+use Rattle.task_record.specs.State.{firstBadValue, judgeState, stateCheck, GoodState}
+use Rattle.task_record.specs.State as of-states
 use Rattle.task_record.specs.TaskOf.{cellsAt, taskOf, patternsOf, startOf}
 use Rattle.task_record.specs.declared.record.RecordCheck.{RecordCheck}
 use Rattle.task_record.specs.declared.record.RecordCheck.the-variants as of-record
@@ -24,7 +23,7 @@ use Rattle.task_record.specs.declared.record.StateCheck.the-variants as of-stat
 use Rattle.task_record.proofs.Scanning.{first-none}
 use Rattle.task_record.proofs.Soundness.{sound-cell}
 use Rattle.task_record.proofs.SoundTask.{variables-right}
-use Rattle.task_record.proofs.States.{GoodState, start-good}
+use Rattle.task_record.proofs.States.{start-good}
 use Rattle.patterns.specs.Space.{entriesNeeded}
 use Rattle.patterns.specs.Estimate.{afterRecord, judgeEstimate, estimateCheck}
 use Rattle.patterns.specs.Value.{valueOf, valuesOf, stateValue}
@@ -64,7 +63,7 @@ module _ (r : List ℕ) (lent : ℕ) (ready : estimateCheck r lent ≡ of-estima
   ready-additive = verdict-additive (taskOf r) (patternsOf r) .0 (ready-means r lent ready-judged .1)
 
   start-checked : stateCheck r (cellsAt r atStart) ≡ of-state.Good
-  unfolding stateCheck reader-state.afterRecord Sound
+  unfolding stateCheck of-states.afterRecord Sound
   start-checked = rw (ready-sound) (good-passes r (cellsAt r atStart) (start-good r ready-sound))
 
   start-values : valuesOf r (cellsAt r atStart) ≡ startOf r

@@ -1,7 +1,6 @@
 -- The lines that are printed: document 01, "The sample tower": "ends each line with byte 10". Assumes nothing.
 use mathlib.Core.List.{List, [], _∷_, _++_}
 use Prim.Native.Nat.{ℕ}
-use Rattle.planning.specs.Extended.{ℕ∞, fin, inf}
 use Rattle.reader.specs.Bytes.{bytes}
 use Rattle.reader.specs.Text.{comma, lineBreak}
 use Rattle.report.specs.Decimal.{decimal}

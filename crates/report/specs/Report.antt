@@ -2,7 +2,6 @@
 -- what is lent are its parameters. Assumes nothing.
 use mathlib.Core.List.{List, _++_}
 use Prim.Native.Nat.{ℕ}
-use lib.ListN.{length}
 use Rattle.planning.specs.Extended.{ℕ∞, fin, inf}
 use Rattle.planning.specs.Search.{planBytes}
 use Rattle.planning.specs.Table.{estimate}
@@ -32,19 +31,19 @@ foundLines cost count plan = line (bytes "answer=found") ++ (numberLine (bytes "
 unfoldable pub spentLines : ℕ → ℕ → List ℕ
 spentLines round count = line (bytes "answer=spent") ++ (numberLine (bytes "round=") round ++ numberLine (bytes "count=") count)
 
--- "'over' and 'none' print value (or value=infinite), answer and count"; 'none' has "count 0".
+-- "'over' and 'none' print value (or value=infinite), answer and count".
 unfoldable pub overLines : ℕ → List ℕ
 overLines count = line (bytes "answer=over") ++ numberLine (bytes "count=") count
 
-unfoldable pub noneLines : List ℕ
-noneLines = line (bytes "answer=none") ++ numberLine (bytes "count=") 0
+unfoldable pub noneLines : ℕ → List ℕ
+noneLines count = line (bytes "answer=none") ++ numberLine (bytes "count=") count
 
 -- The lines of an answer of the search; v is the value of the start, plan the bytes of a found plan.
 unfoldable pub answerLines : ℕ∞ → List ℕ → SearchAnswer → List ℕ
 answerLines v plan (Found cost count n) = valueLine v ++ foundLines cost count plan
 answerLines v plan (Over count) = valueLine v ++ overLines count
 answerLines v plan (Spent round count) = valueLine v ++ spentLines round count
-answerLines v plan None = valueLine v ++ noneLines
+answerLines v plan (None count) = valueLine v ++ noneLines count
 answerLines v plan (Refused number second) = refusalLines number second
 
 -- The lines of a record: `lent` table entries and a plan of n bytes are lent to the search.

@@ -2,7 +2,6 @@
 use mathlib.Core.List.{List, [], _∷_, _++_}
 use Prim.Native.Nat.{ℕ}
 use Rattle.reader.specs.Bytes.{bytes}
-use Rattle.report.specs.Report.{printed}
 
 -- "lends a plan of 65,536 bytes and 16,384 table entries"
 abbrev pub tableEntries : ℕ

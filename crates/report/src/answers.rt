@@ -69,10 +69,10 @@ pub(crate) fn put_over(out: &mut [u8], at: usize, count: u64) -> usize
     put_number_line(out, a, b"count=", count)
 }
 
-pub(crate) fn put_none(out: &mut [u8], at: usize) -> usize
+pub(crate) fn put_none(out: &mut [u8], at: usize, count: u64) -> usize
     requires { ⌜ at ≤ 53 ⌝ }
-    ensures { λ r. ⌜ (Written noneLines at (now (out .entry)) (now (out .exit)) r) × (r ≤ at + 86) ⌝ }
+    ensures { λ r. ⌜ (Written (noneLines count) at (now (out .entry)) (now (out .exit)) r) × (r ≤ at + 86) ⌝ }
 {
     let a = put_line(out, at, b"answer=none");
-    put_number_line(out, a, b"count=", 0)
+    put_number_line(out, a, b"count=", count)
 }

@@ -16,6 +16,7 @@ use reader::text::Reading;
 use reader::text::read_text;
 use search::entry::SearchAnswer;
 use search::entry::search;
+use task_record::layout::RECORD_SIZE;
 
 fn place(n: u64) -> usize
     ensures { λ r. ⌜ r ≡ n ⌝ }
@@ -45,9 +46,9 @@ fn report_record(rec: &[u8], tables: &mut [u16], plan: &mut [u8], out: &mut [u8]
             let at = put_start_value(out, rec, tables);
             put_spent(out, at, round, count)
         }
-        SearchAnswer::None => {
+        SearchAnswer::None(count) => {
             let at = put_start_value(out, rec, tables);
-            put_none(out, at)
+            put_none(out, at, count)
         }
     }
 }
@@ -61,7 +62,7 @@ pub fn report_text(text: &[u8], tables: &mut [u16], plan: &mut [u8], out: &mut [
         × (now (plan .exit) ≡ planLeft (now (text .entry)) (length (now (tables .entry))) (now (plan .entry)))
         × (r ≤ 4 * length (now (plan .entry)) + 256) ⌝ }
 {
-    let mut rec = [0u8; 9464];
+    let mut rec = [0u8; RECORD_SIZE];
     match read_text(text, &mut rec) {
         Reading::Refused(number, line) => put_refusal(out, number, line),
         Reading::Read => report_record(&rec, tables, plan, out),

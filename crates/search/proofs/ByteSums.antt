@@ -9,6 +9,7 @@ use native.Mathlib.Omega.{arith}
 use borrow.Author.Tests.{lt-ltb, le-ltb}
 use lib.Pow.{pow-add}
 use lib.ListN.{getD}
+use Rattle.tables.proofs.ApplyingSets.{upper-digit}
 use Rattle.search.specs.Value.{rowEntry, packedIndex}
 use Rattle.search.specs.ByteRows.{digitAdds, byteAdds, blockSum, SpanAt, BytesOf}
 
@@ -46,9 +47,6 @@ shift-bytes : (b : ℕ) → 2 ^ (8 * b) ≡ 16 ^ (2 * b)
 shift-bytes zero = refl
 shift-bytes (suc b) = let e : 8 * suc b ≡ 8 + 8 * b = omega arith in let f : 2 * suc b ≡ 2 + 2 * b = omega arith in
     rw (e, f, pow-add 2 8 (8 * b), pow-add 16 2 (2 * b), shift-bytes b)
-
-upper-digit : (s : ℕ) → s % 256 / 16 ≡ s / 16 % 16
-upper-digit s = let h : s / 16 ≡ 16 * (s / 256) + s % 256 / 16 = omega arith in let g : s % 256 / 16 < 16 = omega arith in omega arith
 
 -- One block more, and the end of the blocks.
 pub blocks-add : (places : List ℕ) (at j n i w s whole : ℕ) → j < n → w ≡ getD places (at + 256 * j + s % 256) 0 →

@@ -1,11 +1,11 @@
 -- Laws of the value carried along an action: the patterns that are not its owner add what they added before. Assumes nothing.
 use mathlib.Core.Path.{_≡_, refl, sym, ap, ap₂, _∙_}
-use mathlib.Core.Bool.{true, false}
+use mathlib.Core.Bool.{true}
 use mathlib.Core.List.{List}
 use Prim.Native.Nat.{ℕ, zero, suc, _+_, _-_, _<_, _≤_}
 use native.Mathlib.Omega.{arith}
 use borrow.Author.Tests.{eqb-true, ltb-true, ltb-false, leb-true, lt-leb}
-use lib.Dec.{eqb, leb, ltb}
+use lib.Dec.{eqb, ltb}
 use lib.Bits.{bitAnd, bitOr}
 use lib.ListN.{getD}
 use Rattle.planning.specs.Extended.{ℕ∞, fin, inf, add∞, _≤?_}
@@ -14,7 +14,7 @@ use Rattle.planning.specs.System.{System, Invariant}
 use Rattle.planning.proofs.Test.{by-test}
 use Rattle.planning.proofs.Extended.{add∞-comm}
 use Rattle.tables.specs.Packed.{outcomeCount, keepMask, setValue}
-use Rattle.search.specs.Value.{packedIndex, patternEntry, patternSum, packedValue, restOf, sumWith, Estimated}
+use Rattle.search.specs.Value.{patternEntry, patternSum, packedValue, restOf, sumWith, Estimated}
 use Rattle.search.specs.Owned.{Owned}
 use Rattle.search.specs.Examination.{openingOf}
 use Rattle.search.specs.declared.examine.Opening.{Opening}

@@ -49,9 +49,9 @@ pub over-concludes : (c : ℕ) (new : List ℕ) → Concluded (over c) new (Conc
 unfolding conclusionOf planBytes
 over-concludes c new = record { conclusion = refl; holds = holds-nothing 0 new }
 
-pub none-concludes : (new : List ℕ) → Concluded none new Conclusion.None
+pub none-concludes : (c : ℕ) (new : List ℕ) → Concluded (none c) new (Conclusion.None c)
 unfolding conclusionOf planBytes
-none-concludes new = record { conclusion = refl; holds = holds-nothing 0 new }
+none-concludes c new = record { conclusion = refl; holds = holds-nothing 0 new }
 
 -- How a round ends the rounds, or goes on to the next.
 module _ {c b : ℕ} {old new : List ℕ} (d : ℕ) (next : ℕ → planning.Answer) where
@@ -88,7 +88,7 @@ within-later x v d e l = rw e (le-leb v d l)
 
 -- The search from the value of the start.
 module _ (Y : System ℕ) (h : ℕ → ℕ∞) (budget limit s : ℕ) where
-  from-infinite : (x : ℕ∞) → Value.Infinite ≡ valueOf x → searchFrom Y h budget limit s x ≡ none
+  from-infinite : (x : ℕ∞) → Value.Infinite ≡ valueOf x → searchFrom Y h budget limit s x ≡ none 0
   unfolding searchFrom valueOf
   from-infinite (fin v) e = let z : _≡_ {A = ℕ} 0 1 = cc in absurd (omega arith)
   from-infinite inf e = refl
@@ -103,7 +103,7 @@ module _ (Y : System ℕ) (h : ℕ → ℕ∞) (budget limit s : ℕ) where
   from-within (fin w) v e l = let a : w ≡ v = cc in rw (le-leb w limit (omega arith), a)
   from-within inf v e l = let z : _≡_ {A = ℕ} 0 1 = cc in absurd (omega arith)
 
-  pub search-none : Value.Infinite ≡ valueOf (h s) → search Y h budget limit s ≡ none
+  pub search-none : Value.Infinite ≡ valueOf (h s) → search Y h budget limit s ≡ none 0
   unfolding search
   search-none e = from-infinite (h s) e
 
@@ -150,7 +150,7 @@ module _ (n : ℕ) (mid new : List ℕ) (l : length mid ≡ n) where
       (rw (t, x, y, g), rw t (e ∙ rw (g, ← l) (filled-after (encode p) mid (h .holds))))
   fits (over i) d c end h k e = let q = h .conclusion in let z : _≡_ {A = ℕ} 0 1 = cc in absurd (omega arith)
   fits (spent i j) d c end h k e = let q = h .conclusion in let z : _≡_ {A = ℕ} 0 1 = cc in absurd (omega arith)
-  fits none d c end h k e = let q = h .conclusion in let z : _≡_ {A = ℕ} 0 1 = cc in absurd (omega arith)
+  fits (none i) d c end h k e = let q = h .conclusion in let z : _≡_ {A = ℕ} 0 1 = cc in absurd (omega arith)
 
   pub too-long : (a : planning.Answer) (d c end : ℕ) → Concluded a mid (Conclusion.Found d c end) → n < end → new ≡ filled 0 255 mid → (Answer.TooLong end ≡ answerOf n a) × (new ≡ bufferOf n a)
   unfolding conclusionOf planBytes answerOf bufferOf planBuffer
@@ -161,7 +161,7 @@ module _ (n : ℕ) (mid new : List ℕ) (l : length mid ≡ n) where
       (rw (t, g), rw t (e ∙ rw (← l) (filled-whole mid)))
   too-long (over i) d c end h k e = let q = h .conclusion in let z : _≡_ {A = ℕ} 0 1 = cc in absurd (omega arith)
   too-long (spent i j) d c end h k e = let q = h .conclusion in let z : _≡_ {A = ℕ} 0 1 = cc in absurd (omega arith)
-  too-long none d c end h k e = let q = h .conclusion in let z : _≡_ {A = ℕ} 0 1 = cc in absurd (omega arith)
+  too-long (none i) d c end h k e = let q = h .conclusion in let z : _≡_ {A = ℕ} 0 1 = cc in absurd (omega arith)
 
   nothing-left : new ≡ filled 0 255 mid → new ≡ take n ([] ++ replicate n 255)
   nothing-left e = e ∙ rw (← l) (filled-after [] mid (holds-nothing 0 mid))
@@ -171,18 +171,18 @@ module _ (n : ℕ) (mid new : List ℕ) (l : length mid ≡ n) where
   ends-over (found p i j) c h e = let q = h .conclusion in let z : _≡_ {A = ℕ} 0 1 = cc in absurd (omega arith)
   ends-over (over i) c h e = let q = h .conclusion in let x : c ≡ i = cc in (ap Answer.Over x, nothing-left e)
   ends-over (spent i j) c h e = let q = h .conclusion in let z : _≡_ {A = ℕ} 0 1 = cc in absurd (omega arith)
-  ends-over none c h e = let q = h .conclusion in let z : _≡_ {A = ℕ} 0 1 = cc in absurd (omega arith)
+  ends-over (none i) c h e = let q = h .conclusion in let z : _≡_ {A = ℕ} 0 1 = cc in absurd (omega arith)
 
   pub ends-spent : (a : planning.Answer) (d c : ℕ) → Concluded a mid (Conclusion.Spent d c) → new ≡ filled 0 255 mid → (Answer.Spent d c ≡ answerOf n a) × (new ≡ bufferOf n a)
   unfolding conclusionOf planBytes answerOf bufferOf planBuffer
   ends-spent (found p i j) d c h e = let q = h .conclusion in let z : _≡_ {A = ℕ} 0 1 = cc in absurd (omega arith)
   ends-spent (over i) d c h e = let q = h .conclusion in let z : _≡_ {A = ℕ} 0 1 = cc in absurd (omega arith)
   ends-spent (spent i j) d c h e = let q = h .conclusion in let x : d ≡ i = cc in let y : c ≡ j = cc in (rw (x, y), nothing-left e)
-  ends-spent none d c h e = let q = h .conclusion in let z : _≡_ {A = ℕ} 0 1 = cc in absurd (omega arith)
+  ends-spent (none i) d c h e = let q = h .conclusion in let z : _≡_ {A = ℕ} 0 1 = cc in absurd (omega arith)
 
-  pub ends-none : (a : planning.Answer) → Concluded a mid Conclusion.None → new ≡ filled 0 255 mid → (Answer.None ≡ answerOf n a) × (new ≡ bufferOf n a)
+  pub ends-none : (a : planning.Answer) (c : ℕ) → Concluded a mid (Conclusion.None c) → new ≡ filled 0 255 mid → (Answer.None c ≡ answerOf n a) × (new ≡ bufferOf n a)
   unfolding conclusionOf planBytes answerOf bufferOf planBuffer
-  ends-none (found p i j) h e = let q = h .conclusion in let z : _≡_ {A = ℕ} 0 1 = cc in absurd (omega arith)
-  ends-none (over i) h e = let q = h .conclusion in let z : _≡_ {A = ℕ} 0 1 = cc in absurd (omega arith)
-  ends-none (spent i j) h e = let q = h .conclusion in let z : _≡_ {A = ℕ} 0 1 = cc in absurd (omega arith)
-  ends-none none h e = (refl, nothing-left e)
+  ends-none (found p i j) c h e = let q = h .conclusion in let z : _≡_ {A = ℕ} 0 1 = cc in absurd (omega arith)
+  ends-none (over i) c h e = let q = h .conclusion in let z : _≡_ {A = ℕ} 0 1 = cc in absurd (omega arith)
+  ends-none (spent i j) c h e = let q = h .conclusion in let z : _≡_ {A = ℕ} 0 1 = cc in absurd (omega arith)
+  ends-none (none i) c h e = let q = h .conclusion in let x : c ≡ i = cc in (ap Answer.None x, nothing-left e)

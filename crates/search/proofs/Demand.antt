@@ -9,7 +9,7 @@ use lib.ListN.{length, replicate, length-append, length-replicate}
 use Rattle.planning.specs.Extended.{_≤?_}
 use Rattle.planning.specs.Pattern.{Additive}
 use Rattle.planning.specs.Plan.{Plan, Strong, cost, encode}
-use Rattle.planning.specs.PlanCheck.{passed, checkPlan, mostMoves}
+use Rattle.planning.specs.PlanCheck.{mostMoves}
 use Rattle.planning.specs.Search.{found}
 use Rattle.planning.specs.Table.{estimate, Small}
 use Rattle.planning.specs.Task.{system, State}
@@ -33,6 +33,7 @@ use Rattle.patterns.proofs.Reading.{actions-length}
 use Rattle.patterns.proofs.Refusals.{checked-ready}
 use Rattle.search.specs.Answer.{bufferOf}
 use Rattle.search.specs.Entry.{taskAnswer, searchOf, searchAnswer, planAfter}
+use Rattle.search.specs.Optimal.{Optimal}
 use Rattle.search.specs.declared.entry.SearchAnswer.the-variants as outcome
 use Rattle.search.proofs.Answered.{is-found, is-over, is-spent, is-none, answered-means, answer-found, answer-over, answer-spent, answer-none, buffer-found}
 use Rattle.search.proofs.Prepared.{search-ready, plan-ready, ready-additive, ready-when, fits-when}
@@ -63,16 +64,6 @@ pub guide-at-most-cost : (r : List ℕ) → Sound r → Additive (taskOf r) (pat
     Strong (system (taskOf r)) p s →
     T (estimate (taskOf r) (patternsOf r) s ≤? cost (system (taskOf r)) p)
 guide-at-most-cost r sound add = estimate-admissible (taskOf r) (sound-well-formed r sound) (patternsOf r) add
-
--- A plan of k bytes at the start of a buffer, with 255 after it: strong from the start, of cost d, none cheaper, passed by the plan check.
-pub record Optimal (r buffer : List ℕ) (d k : ℕ) : Type 0 where
-  pub plan : Plan
-  pub written : buffer ≡ encode plan ++ replicate (length buffer - k) 255
-  pub bytes : length (encode plan) ≡ k
-  pub strong : Strong (system (taskOf r)) plan (startOf r)
-  pub costs : cost (system (taskOf r)) plan ≡ d
-  pub cheapest : (q : Plan) → Strong (system (taskOf r)) q (startOf r) → d ≤ cost (system (taskOf r)) q
-  pub passes : checkPlan (system (taskOf r)) mostMoves (startOf r) (encode plan) ≡ passed d k
 
 -- The search, lent tables and a buffer that hold anything.
 module _ (r tabs buffer : List ℕ) where
@@ -142,10 +133,11 @@ module _ (r tabs buffer : List ℕ) where
       (startOf r) (sound-start r (ready-sound (a .0))) d c
       (answer-spent (length buffer) (taskAnswer r) d c (a .1))
 
-  -- "and 'none' that there is none."
-  pub none-no-plan : searchAnswer r (length tabs) (length buffer) ≡ outcome.None → (q : Plan) → Strong (system (taskOf r)) q (startOf r) → ⊥
+  -- "and 'none' that there is none.": and the count is 0.
+  pub none-no-plan : (c : ℕ) → searchAnswer r (length tabs) (length buffer) ≡ outcome.None c →
+      ((q : Plan) → Strong (system (taskOf r)) q (startOf r) → ⊥) × (c ≡ 0)
   unfolding taskAnswer
-  none-no-plan h = let a = answered-means r (length tabs) (length buffer) is-none h in
+  none-no-plan c h = let a = answered-means r (length tabs) (length buffer) (is-none c) h in
       none-means-no-plan (taskOf r) (sound-well-formed r (ready-sound (a .0))) (patternsOf r) (ready-additive r (length tabs) (a .0)) (budgetOf r) (limitOf r)
-      (startOf r) (sound-start r (ready-sound (a .0)))
-      (answer-none (length buffer) (taskAnswer r) (a .1))
+      (startOf r) (sound-start r (ready-sound (a .0))) c
+      (answer-none (length buffer) (taskAnswer r) c (a .1))

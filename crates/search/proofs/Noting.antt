@@ -2,18 +2,14 @@
 use mathlib.Core.Path.{_≡_, refl, sym, ap, _∙_}
 use mathlib.Core.Logic.{_⊎_, inl, inr}
 use mathlib.Core.List.{List}
-use Prim.Native.Nat.{ℕ, zero, suc, _+_, _*_, _/_, _%_, _<_, _≤_}
+use Prim.Native.Nat.{ℕ, _+_, _*_, _/_, _%_, _<_, _≤_}
 use native.Mathlib.Omega.{arith}
 use native.Mathlib.Decide.{ℕ-discrete}
 use lib.ListN.{length, getD, set, replicate, length-set, length-replicate}
 use lib.Seq.{getD-set-same, getD-set-other}
+use Rattle.task_record.proofs.Sixteens.{zeros}
 use Rattle.search.specs.Buffer.{Keeps}
 use Rattle.search.specs.Successes.{Success, success, successIn, epochIn, epochOf, Says, Silent, Dated, SuccessNoted, Forgotten}
-
-pub zeros : (n i : ℕ) → getD {A = ℕ} (replicate n 0) i 0 ≡ 0
-zeros zero i = refl
-zeros (suc n) zero = refl
-zeros (suc n) (suc i) = zeros n i
 
 -- A slot whose words were not touched says what it said.
 module _ (old new : List ℕ) (i : ℕ) (a : getD new (2048 + 3 * i) 0 ≡ getD old (2048 + 3 * i) 0) (b : getD new (2049 + 3 * i) 0 ≡ getD old (2049 + 3 * i) 0) (e : getD new (2050 + 3 * i) 0 ≡ getD old (2050 + 3 * i) 0) where

@@ -3,11 +3,11 @@
 use mathlib.Core.Path.{_≡_, refl, sym, ap, ap₂, subst, _∙_}
 use mathlib.Core.Bool.{Bool, true, false, not, cond, _&&_, _||_}
 use mathlib.Core.List.{List, [], _∷_}
-use mathlib.Core.Logic.{inl, inr, ⊎-elim}
-use Prim.Native.Nat.{ℕ, zero, suc, _+_, _*_, _-_, _/_, _%_, _^_, _<_, _≤_}
+use mathlib.Core.Logic.{inl, inr}
+use Prim.Native.Nat.{ℕ, zero, suc, _+_, _*_, _-_, _/_, _%_, _<_, _≤_}
 use native.Mathlib.Nat.{add-zero, zero-add, mod-eq-of-lt}
 use native.Mathlib.Numerals.{add-one}
-use native.Mathlib.Decide.{decLt, ℕ-discrete}
+use native.Mathlib.Decide.{ℕ-discrete}
 use native.Mathlib.Omega.{arith}
 use borrow.Author.Tests.{eq-eqb, ne-eqb}
 use lib.Arith.{digits-div, digits-mod}
@@ -15,10 +15,10 @@ use lib.Bits.{bitAnd, bitOr, and-block, or-block, or-lt, and-le-l, and-mask, and
 use lib.Dec.{T, eqb}
 use lib.ListN.{length, getD, set, drop, length-set}
 use lib.Seq.{getD-set-same, getD-set-other}
-use Rattle.planning.specs.Finite.{All, Some, someOf, anyFrom}
+use Rattle.planning.specs.Finite.{Some, someOf, anyFrom}
 use Rattle.planning.specs.Task.{noAction, actionAt}
 use Rattle.planning.specs.Pattern.{affects, affectsPattern, affectedFrom, Additive}
-use Rattle.planning.proofs.Test.{by-test, not-T-false}
+use Rattle.planning.proofs.Test.{by-test}
 use Rattle.planning.proofs.Finite.{all-at, not-someOf, length-tabulate, getD-tabulate}
 use Rattle.planning.proofs.Verdict.{affected-all}
 use Rattle.tables.specs.Packed.{packBy, picking, leaving, setting, outcomeCount, keepMask, setValue, compiled}

@@ -2,7 +2,7 @@
 -- holds. Assumes nothing.
 use mathlib.Core.Path.{_≡_, refl, sym, ap, _∙_}
 use mathlib.Core.List.{List, [], _∷_}
-use Prim.Native.Nat.{ℕ, zero, suc, _+_, _*_, _/_, _≤_, _<_}
+use Prim.Native.Nat.{ℕ, suc, _+_, _*_, _/_, _≤_, _<_}
 use native.Mathlib.Omega.{arith}
 use native.Mathlib.Decide.{decLt, ℕ-discrete}
 use borrow.Author.Tests.{leb-true}
@@ -21,6 +21,7 @@ use Rattle.task_record.specs.Layout.{atStart, atLimit, atBudget}
 use Rattle.task_record.specs.Numbers.{variableCount, actionCount, patternCount, limitOf, budgetOf}
 use Rattle.task_record.specs.Record.{headOk, cellOk, Sound}
 use Rattle.task_record.specs.TaskOf.{cellsAt, taskOf, patternsOf, startOf}
+use Rattle.task_record.proofs.Sixteens.{zeros}
 use Rattle.task_record.proofs.Soundness.{sound-cell, sound-length}
 use Rattle.task_record.proofs.SoundTask.{variables-right, actions-right, patterns-right, length-of-part, cell-of-part, sound-well-formed, sound-start}
 use Rattle.tables.specs.Packed.{packBy, low, cellsOf, packedSystem, compiled}
@@ -54,13 +55,8 @@ pub record ReadingStart (r cells : List ℕ) (v : ℕ) : Type 0 where
   pub read : (i : ℕ) → i < v → getD cells i 0 ≡ getD (startOf r) i 0
   pub blank : (i : ℕ) → v ≤ i → getD cells i 0 ≡ 0
 
-zeros-at : (n i : ℕ) → _≡_ {A = ℕ} (getD (replicate n 0) i 0) 0
-zeros-at zero i = refl
-zeros-at (suc n) zero = refl
-zeros-at (suc n) (suc i) = zeros-at n i
-
 pub start-begins : (r : List ℕ) → ReadingStart r (replicate 16 0) 0
-start-begins r = record { long = refl; read = λ i h. absurd (omega arith); blank = λ i h. zeros-at 16 i }
+start-begins r = record { long = refl; read = λ i h. absurd (omega arith); blank = λ i h. zeros 16 i }
 
 module _ (r : List ℕ) (sound : Sound r) where
   pub start-whole : length (cellsAt r atStart) ≡ 16
@@ -168,4 +164,4 @@ unfolding searchOf answerOf widened
 search-of n (found p d c) = by-test (leb (length (encode p)) n) (λ e. rw e) (λ e. rw e)
 search-of n (over c) = refl
 search-of n (spent d c) = refl
-search-of n none = refl
+search-of n (none c) = refl

@@ -15,10 +15,11 @@ use Rattle.planning.specs.System.{System}
 use Rattle.planning.specs.Search.{Result, failed, examination}
 use Rattle.planning.proofs.Test.{by-test}
 use Rattle.planning.proofs.Shift.{failed-anywhere}
+use Rattle.task_record.proofs.Sixteens.{zeros}
 use Rattle.search.specs.Buffer.{Keeps}
 use Rattle.search.specs.Successes.{Dated, NoMore}
 use Rattle.search.specs.Memory.{stateIn, depthIn, madeIn, Remembers, Held, Noted}
-use Rattle.search.proofs.Noting.{zeros, nothing-dated, same-dated, same-said}
+use Rattle.search.proofs.Noting.{nothing-dated, same-dated, same-said}
 
 -- The words after slot j was given a state and a second word.
 module _ (old : List ℕ) (j s w : ℕ) where

@@ -79,7 +79,7 @@ answer-too-long n (found p d c) k h = by-test (leb (length (encode p)) n)
     let l = leb-false (length (encode p)) n t in (p, (d, (c, (refl, e, omega arith)))))
 answer-too-long n (over c) k h = let z : _≡_ {A = ℕ} 0 1 = cc in absurd (omega arith)
 answer-too-long n (spent d c) k h = let z : _≡_ {A = ℕ} 0 1 = cc in absurd (omega arith)
-answer-too-long n none k h = let z : _≡_ {A = ℕ} 0 1 = cc in absurd (omega arith)
+answer-too-long n (none b) k h = let z : _≡_ {A = ℕ} 0 1 = cc in absurd (omega arith)
 
 search-with-room : (p : Plan) (d c k : ℕ) → length (encode p) ≡ k → searchOf k (found p d c) ≡ outcome.Found d c k
 unfolding searchOf

@@ -20,7 +20,7 @@ unfoldable pub conclusionOf : planning.Answer → Conclusion
 conclusionOf (found p d c) = Conclusion.Found d c (length (encode p))
 conclusionOf (over c) = Conclusion.Over c
 conclusionOf (spent d c) = Conclusion.Spent d c
-conclusionOf none = Conclusion.None
+conclusionOf (none c) = Conclusion.None c
 
 -- The rounds' answer with the plan's bytes at the start of the buffer, as far as it reaches.
 pub record Concluded (a : planning.Answer) (new : List ℕ) (r : Conclusion) : Type 0 where
@@ -32,13 +32,13 @@ unfoldable pub answerOf : ℕ → planning.Answer → Answer
 answerOf n (found p d c) = cond (leb (length (encode p)) n) (Answer.Found d c (length (encode p))) (Answer.TooLong (length (encode p)))
 answerOf n (over c) = Answer.Over c
 answerOf n (spent d c) = Answer.Spent d c
-answerOf n none = Answer.None
+answerOf n (none c) = Answer.None c
 
 unfoldable pub bufferOf : ℕ → planning.Answer → List ℕ
 bufferOf n (found p d c) = cond (leb (length (encode p)) n) (planBuffer n (found p d c)) (replicate n 255)
 bufferOf n (over c) = planBuffer n (over c)
 bufferOf n (spent d c) = planBuffer n (spent d c)
-bufferOf n none = planBuffer n none
+bufferOf n (none c) = planBuffer n (none c)
 
 -- The search of a compiled task from the packed state s with the estimate from rows.
 abbrev pub packedSearch : (task rows offsets tables : List ℕ) (actions patterns variables budget limit s : ℕ) → planning.Answer

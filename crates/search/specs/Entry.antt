@@ -30,7 +30,7 @@ unfoldable pub searchOf : ℕ → planning.Answer → SearchAnswer
 searchOf n (found p d c) = cond (leb (length (encode p)) n) (outcome.Found d c (length (encode p))) (outcome.Refused 11 (length (encode p)))
 searchOf n (over c) = outcome.Over c
 searchOf n (spent d c) = outcome.Spent d c
-searchOf n none = outcome.None
+searchOf n (none c) = outcome.None c
 
 -- "A call tests top to bottom the lines that concern it": 5 to 9 before the search.
 unfoldable pub afterEstimate : EstimateCheck → (Unit {0} → SearchAnswer) → SearchAnswer
@@ -49,12 +49,13 @@ bufferAfter (of-estimate.Refused number second) searched plan = plan
 unfoldable pub planAfter : List ℕ → ℕ → List ℕ → List ℕ
 planAfter r lent plan = bufferAfter (estimateCheck r lent) (λ u. bufferOf (length plan) (taskAnswer r)) plan
 
--- Kind 0: found, with cost, count and length. 1: over, with the count. 2: spent, with round and count. 3: none.
+-- Kind 0: found, with cost, count and length. 1: over, with the count. 2: spent, with round and count. 3: none, with
+-- the count.
 unfoldable pub searchNumbers : SearchAnswer → Numbers
 searchNumbers (outcome.Found d c n) = answered 0 d c n
 searchNumbers (outcome.Over c) = answered 1 0 c 0
 searchNumbers (outcome.Spent d c) = answered 2 d c 0
-searchNumbers outcome.None = answered 3 0 0 0
+searchNumbers (outcome.None c) = answered 3 0 c 0
 searchNumbers (outcome.Refused number second) = refusal number second
 
 -- The rounds' answer as the search gives it.
@@ -63,7 +64,7 @@ widened (Answer.Found d c n) = outcome.Found d c n
 widened (Answer.TooLong n) = outcome.Refused 11 n
 widened (Answer.Over c) = outcome.Over c
 widened (Answer.Spent d c) = outcome.Spent d c
-widened Answer.None = outcome.None
+widened (Answer.None c) = outcome.None c
 
 -- The tables of the record's task stand at the start of the lent ones.
 pub record HoldsTables (r tabs : List ℕ) : Type 0 where

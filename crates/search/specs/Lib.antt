@@ -1,4 +1,4 @@
--- What the contracts of this crate cite, in reading order.
+-- What the contracts of this crate cite, in reading order; at the end what demand 3 says of a found plan.
 pub mod Value
 pub mod Owned
 pub mod Guide
@@ -11,3 +11,4 @@ pub mod Memory
 pub mod Packed
 pub mod Answer
 pub mod Entry
+pub mod Optimal

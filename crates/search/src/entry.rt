@@ -30,12 +30,13 @@ use task_record::cells::action_count;
 use task_record::cells::start_cells;
 use task_record::cells::variable_count;
 
-// Found with cost, count and the plan's length; over with the count; spent with round and count; or number and second number of the refusal.
+// Found with cost, count and the plan's length; over with the count; spent with round and count; none with the count; or number and second
+// number of the refusal.
 pub enum SearchAnswer {
     Found(u64, u64, u64),
     Over(u64),
     Spent(u64, u64),
-    None,
+    None(u64),
     Refused(u64, u64),
 }
 
@@ -93,7 +94,7 @@ fn widen(a: Answer) -> SearchAnswer
         Answer::TooLong(n) => SearchAnswer::Refused(11, n as u64),
         Answer::Over(c) => SearchAnswer::Over(c as u64),
         Answer::Spent(d, c) => SearchAnswer::Spent(d as u64, c as u64),
-        Answer::None => SearchAnswer::None,
+        Answer::None(c) => SearchAnswer::None(c as u64),
     }
 }
 

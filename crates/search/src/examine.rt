@@ -138,8 +138,7 @@ pub(crate) fn examine(
 ) -> Ending
     requires { ⌜ (Guided (now task) (now sets) (now places) (now rows) (now guide)) × (Remembers (guidedExamination (now task) (now rows) (now guide) (now tables)) (budgetIn (now guide)) (now memory)) × (v .count ≤ budgetIn (now guide)) × (v .at ≤ v .count) × (v .d ≤ 32) × (guidedValue (now rows) (now guide) (now tables) (v .s) ≡ fin (v .value)) × (guidedOpening (now task) (now rows) (now guide) (now tables) (v .d) (v .s) (v .count) ≡ Opening.Expand) × (Known (guidedExamination (now task) (now rows) (now guide) (now tables)) (budgetIn (now guide)) (now memory) (now plan) (v .at)) ⌝ }
     ensures examined { λ r. ⌜ Examined encode (guidedExamination (now (task .entry)) (now (rows .entry)) (now (guide .entry)) (now (tables .entry)) (v .d) (v .s) (v .count)) (v .count) (budgetIn (now (guide .entry))) (v .at) (now (plan .entry)) (now (plan .exit)) r ⌝ }
-    ensures remembers { λ _. ⌜ Remembers (guidedExamination (now (task .entry)) (now (rows .entry)) (now (guide .entry)) (now (tables .entry))) (budgetIn (now (guide .entry))) (now (memory .exit)) ⌝ }
-    ensures successes { λ r. ⌜ After (guidedExamination (now (task .entry)) (now (rows .entry)) (now (guide .entry)) (now (tables .entry))) (budgetIn (now (guide .entry))) (now (memory .entry)) (now (memory .exit)) (now (plan .exit)) (v .at) r ⌝ }
+    ensures memory { λ r. ⌜ (Remembers (guidedExamination (now (task .entry)) (now (rows .entry)) (now (guide .entry)) (now (tables .entry))) (budgetIn (now (guide .entry))) (now (memory .exit))) × (After (guidedExamination (now (task .entry)) (now (rows .entry)) (now (guide .entry)) (now (tables .entry))) (budgetIn (now (guide .entry))) (now (memory .entry)) (now (memory .exit)) (now (plan .exit)) (v .at) r) ⌝ }
 {
     let mut c = v.count + 1;
     let mut set = applying(sets, v.s, bytes_in(guide));
@@ -180,14 +179,12 @@ pub(crate) fn outcomes(
 ) -> Ending
     requires { ⌜ (Guided (now task) (now sets) (now places) (now rows) (now guide)) × (Remembers (guidedExamination (now task) (now rows) (now guide) (now tables)) (budgetIn (now guide)) (now memory)) × (v .count ≤ budgetIn (now guide)) × (v .at ≤ v .count) × (v .d ≤ 32) × (guidedValue (now rows) (now guide) (now tables) (v .s) ≡ fin (v .value)) × (v .value ≤ 32) × (m < actionsIn (now guide)) × (Known (guidedExamination (now task) (now rows) (now guide) (now tables)) (budgetIn (now guide)) (now memory) (now plan) (v .at)) ⌝ }
     ensures examined { λ r. ⌜ Examined encodes (guidedOutcomes (now (task .entry)) (now (rows .entry)) (now (guide .entry)) (now (tables .entry)) (v .d) (v .s) m (v .count)) (v .count) (budgetIn (now (guide .entry))) (v .at) (now (plan .entry)) (now (plan .exit)) r ⌝ }
-    ensures remembers { λ _. ⌜ Remembers (guidedExamination (now (task .entry)) (now (rows .entry)) (now (guide .entry)) (now (tables .entry))) (budgetIn (now (guide .entry))) (now (memory .exit)) ⌝ }
-    ensures successes { λ r. ⌜ After (guidedExamination (now (task .entry)) (now (rows .entry)) (now (guide .entry)) (now (tables .entry))) (budgetIn (now (guide .entry))) (now (memory .entry)) (now (memory .exit)) (now (plan .exit)) (v .at) r ⌝ }
+    ensures memory { λ r. ⌜ (Remembers (guidedExamination (now (task .entry)) (now (rows .entry)) (now (guide .entry)) (now (tables .entry))) (budgetIn (now (guide .entry))) (now (memory .exit))) × (After (guidedExamination (now (task .entry)) (now (rows .entry)) (now (guide .entry)) (now (tables .entry))) (budgetIn (now (guide .entry))) (now (memory .entry)) (now (memory .exit)) (now (plan .exit)) (v .at) r) ⌝ }
 {
-    let n = place_of(outcome_count(task, m));
     let rest = rest_of(places, rows, guide, tables, v.s, m, v.value);
     let mut c = v.count;
     let mut end = v.at;
-    for k in 0..n {
+    for k in 0..place_of(outcome_count(task, m)) {
         let x = successor(task, v.s, m, k);
         let value = sum_with(places, rows, guide, tables, x, m, rest);
         let w = visit_of(x, value, v.d, c, end);
@@ -222,8 +219,7 @@ pub(crate) fn follow(
 ) -> Ending
     requires { ⌜ (Guided (now task) (now sets) (now places) (now rows) (now guide)) × (Remembers (guidedExamination (now task) (now rows) (now guide) (now tables)) (budgetIn (now guide)) (now memory)) × (v .count ≤ budgetIn (now guide)) × (v .at ≤ v .count) × (v .d ≤ 32) × (Estimated (guidedValue (now rows) (now guide) (now tables) (v .s)) (v .value)) × (Known (guidedExamination (now task) (now rows) (now guide) (now tables)) (budgetIn (now guide)) (now memory) (now plan) (v .at)) ⌝ }
     ensures examined { λ r. ⌜ Examined encode (guidedExamination (now (task .entry)) (now (rows .entry)) (now (guide .entry)) (now (tables .entry)) (v .d) (v .s) (v .count)) (v .count) (budgetIn (now (guide .entry))) (v .at) (now (plan .entry)) (now (plan .exit)) r ⌝ }
-    ensures remembers { λ _. ⌜ Remembers (guidedExamination (now (task .entry)) (now (rows .entry)) (now (guide .entry)) (now (tables .entry))) (budgetIn (now (guide .entry))) (now (memory .exit)) ⌝ }
-    ensures successes { λ r. ⌜ After (guidedExamination (now (task .entry)) (now (rows .entry)) (now (guide .entry)) (now (tables .entry))) (budgetIn (now (guide .entry))) (now (memory .entry)) (now (memory .exit)) (now (plan .exit)) (v .at) r ⌝ }
+    ensures memory { λ r. ⌜ (Remembers (guidedExamination (now (task .entry)) (now (rows .entry)) (now (guide .entry)) (now (tables .entry))) (budgetIn (now (guide .entry))) (now (memory .exit))) × (After (guidedExamination (now (task .entry)) (now (rows .entry)) (now (guide .entry)) (now (tables .entry))) (budgetIn (now (guide .entry))) (now (memory .entry)) (now (memory .exit)) (now (plan .exit)) (v .at) r) ⌝ }
 {
     let budget = budget_in(guide);
     match open_state(task, v.s, v.value, v.d, budget, v.count) {

@@ -28,12 +28,13 @@ use crate::guide::limit_in;
 use crate::guide::patterns_in;
 use crate::guide::variables_in;
 
-// How the rounds end: found with cost, count and the number of bytes; over with the count; spent with round and count; none.
+// How the rounds end: found with cost, count and the number of bytes; over with the count; spent with round and count; none
+// with the count.
 pub(crate) enum Conclusion {
     Found(u32, u32, usize),
     Over(u32),
     Spent(u32, u32),
-    None,
+    None(u32),
 }
 
 // The same for a buffer of a given length, which a plan may not fit.
@@ -42,7 +43,7 @@ pub(crate) enum Answer {
     TooLong(usize),
     Over(u32),
     Spent(u32, u32),
-    None,
+    None(u32),
 }
 
 // One round: the start, whose value is within the depth, is examined.
@@ -59,8 +60,7 @@ fn examine_start(
 ) -> Ending
     requires { ⌜ (Guided (now task) (now sets) (now places) (now rows) (now guide)) × (Remembers (guidedExamination (now task) (now rows) (now guide) (now tables)) (budgetIn (now guide)) (now memory)) × (v .count ≤ budgetIn (now guide)) × (v .at ≤ v .count) × (v .d ≤ 32) × (guidedValue (now rows) (now guide) (now tables) (v .s) ≡ fin (v .value)) × (v .value ≤ v .d) × (Known (guidedExamination (now task) (now rows) (now guide) (now tables)) (budgetIn (now guide)) (now memory) (now plan) (v .at)) ⌝ }
     ensures examined { λ r. ⌜ Examined encode (guidedExamination (now (task .entry)) (now (rows .entry)) (now (guide .entry)) (now (tables .entry)) (v .d) (v .s) (v .count)) (v .count) (budgetIn (now (guide .entry))) (v .at) (now (plan .entry)) (now (plan .exit)) r ⌝ }
-    ensures remembers { λ _. ⌜ Remembers (guidedExamination (now (task .entry)) (now (rows .entry)) (now (guide .entry)) (now (tables .entry))) (budgetIn (now (guide .entry))) (now (memory .exit)) ⌝ }
-    ensures successes { λ r. ⌜ After (guidedExamination (now (task .entry)) (now (rows .entry)) (now (guide .entry)) (now (tables .entry))) (budgetIn (now (guide .entry))) (now (memory .entry)) (now (memory .exit)) (now (plan .exit)) (v .at) r ⌝ }
+    ensures memory { λ r. ⌜ (Remembers (guidedExamination (now (task .entry)) (now (rows .entry)) (now (guide .entry)) (now (tables .entry))) (budgetIn (now (guide .entry))) (now (memory .exit))) × (After (guidedExamination (now (task .entry)) (now (rows .entry)) (now (guide .entry)) (now (tables .entry))) (budgetIn (now (guide .entry))) (now (memory .entry)) (now (memory .exit)) (now (plan .exit)) (v .at) r) ⌝ }
 {
     if v.count == budget_in(guide) {
         return Ending::Stopped(v.count);
@@ -130,7 +130,7 @@ fn conclude(
     let patterns = patterns_in(guide);
     let variables = variables_in(guide);
     match value_of(rows, guide, tables, s, patterns, variables) {
-        Value::Infinite => Conclusion::None,
+        Value::Infinite => Conclusion::None(0),
         Value::Finite(v) => {
             if limit_in(guide) < v {
                 return Conclusion::Over(0);
@@ -161,9 +161,9 @@ fn answer_to(plan: &mut [u8], a: Conclusion) -> Answer
             fill(plan, 0, 255);
             Answer::Spent(d, c)
         }
-        Conclusion::None => {
+        Conclusion::None(c) => {
             fill(plan, 0, 255);
-            Answer::None
+            Answer::None(c)
         }
     }
 }

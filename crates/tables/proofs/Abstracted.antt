@@ -5,7 +5,6 @@ use mathlib.Core.List.{List, [], _∷_}
 use Prim.Native.Nat.{ℕ, _*_, _%_, _≤_, _<_}
 use native.Mathlib.Omega.{arith}
 use native.Mathlib.Nat.{mod-eq-of-lt}
-use borrow.Author.Tests.{eqb-true}
 use lib.Arith.{digits-div, digits-mod}
 use lib.Bits.{bitAnd, and-block}
 use lib.Dec.{T, eqb, ltb, ltb→lt}
@@ -13,15 +12,15 @@ use lib.ListN.{length, getD}
 use Rattle.planning.specs.Finite.{All}
 use Rattle.planning.specs.Task.{Action, Task, meets, apply, permits, actionAt, system, inSizes, State}
 use Rattle.planning.specs.Pattern.{keep, mask, maskAction, abstraction, AbstractState, affects}
-use Rattle.planning.specs.Table.{indexFrom, index}
-use Rattle.planning.proofs.Test.{false-not-T, and-in, and-l, and-r, by-test}
-use Rattle.planning.proofs.Finite.{all-at, any-in}
+use Rattle.planning.specs.Table.{indexFrom}
+use Rattle.planning.proofs.Test.{and-in, and-l, and-r, by-test}
+use Rattle.planning.proofs.Finite.{all-at}
 use Rattle.planning.proofs.Pattern.{project-apply, action-masked, unaffected-outcome}
-use Rattle.tables.specs.Packed.{packBy, picking, low, naming, leaving, setting, outcomeCount, keepMask, compiled}
+use Rattle.tables.specs.Packed.{packBy, picking, low, naming, leaving, setting, keepMask, compiled}
 use Rattle.tables.specs.Packable.{cellsFit, PackableOutcome, Packable}
 use Rattle.tables.specs.Steps.{weigh, weightsFrom, isGoal, permitted, after}
 use Rattle.tables.proofs.Packing.{mask-test, mask-change, pack-keep, low-digit, naming-digit, setting-digit, leaving-digit}
-use Rattle.tables.proofs.Compiled.{goal-mask-is, goal-value-is, pre-mask-is, pre-value-is, outcome-count-is, keep-mask-is, set-value-is}
+use Rattle.tables.proofs.Compiled.{goal-mask-is, goal-value-is, pre-mask-is, pre-value-is, keep-mask-is, set-value-is}
 use Rattle.tables.proofs.Simulating.{packable-action}
 
 -- A masked assignment names values below the sizes.

@@ -2,13 +2,13 @@
 use mathlib.Core.Path.{_≡_, refl, sym, ap, ap₂, _∙_}
 use mathlib.Core.Bool.{Bool, true, false, cond, _&&_, _||_, and-true, and-assoc, or-true, or-false}
 use mathlib.Core.List.{List, [], _∷_}
-use Prim.Native.Nat.{ℕ, zero, suc, _+_, _*_, _-_, _/_, _%_, _^_, _≤_, _<_}
+use Prim.Native.Nat.{ℕ, zero, suc, _+_, _*_, _/_, _%_, _^_, _≤_, _<_}
 use native.Mathlib.Nat.{pow-suc, mod-eq-of-lt}
 use native.Mathlib.Omega.{arith}
 use borrow.Author.Tests.{eq-eqb, eqb-true}
 use lib.Bits.{bitAnd, and-block, and-mask, and-zero-r}
 use lib.Dec.{T, eqb, ltb, leb, leb→le}
-use lib.ListN.{length, set}
+use lib.ListN.{length}
 use Rattle.planning.specs.Task.{Task, actionAt}
 use Rattle.planning.specs.Pattern.{mask}
 use Rattle.planning.proofs.Test.{bool-iff, by-test, T-true, and-r, not-equal}
@@ -59,7 +59,8 @@ whole-suits (named {n} {need} {value} x h w) s =
     rw (l, k, digits-equal (bitAnd (s / 16) need) value (s % 16) x (omega arith) h, a, b, not-equal 16 x (λ q. absurd (omega arith)), or-false (eqb (s % 16) x), suit-later (need * 16 + 15) (value * 16 + x) 0 n (s / 16), d, f)
     (ap₂ (λ u v. u && v) (eqb-swap x (s % 16)) (whole-suits w (s / 16)))
 
-upper-digit : (s : ℕ) → s % 256 / 16 ≡ s / 16 % 16
+-- The upper digit of a word's lowest byte is the word's second digit.
+pub upper-digit : (s : ℕ) → s % 256 / 16 ≡ s / 16 % 16
 upper-digit s = let h : s / 16 ≡ 16 * (s / 256) + s % 256 / 16 = omega arith in let g : s % 256 / 16 < 16 = omega arith in omega arith
 
 -- The sets of a state's bytes meet in the set of the actions that its digits suit.

@@ -6,7 +6,7 @@ use Prim.Native.Nat.{ℕ, _+_, _*_, _-_, _/_, _≤_, _<_}
 use native.Mathlib.Omega.{arith}
 use lib.ListN.{length, getD, take, replicate}
 use Rattle.planning.specs.Task.{Task}
-use Rattle.planning.specs.Table.{index, stateCount, stateAt, table}
+use Rattle.planning.specs.Table.{index, stateCount, stateAt}
 use Rattle.planning.proofs.Finite.{length-tabulate}
 use Rattle.planning.proofs.Table.{index-at-state, state-at-abstract}
 use Rattle.task_record.specs.Numbers.{variableCount, actionCount}

@@ -1,18 +1,17 @@
 -- Entries that say of each other what they are, are the table of the pattern: where the entry is finite there is a plan of that cost. Assumes
 -- nothing.
-use mathlib.Core.Path.{_≡_, refl, sym, _∙_}
-use mathlib.Core.Bool.{Bool, true, false, not, _&&_}
-use mathlib.Core.List.{List, [], _∷_, map}
+use mathlib.Core.Path.{_≡_, sym, _∙_}
+use mathlib.Core.Bool.{true, false}
+use mathlib.Core.List.{List, map}
 use Prim.Native.Nat.{ℕ, zero, suc, _+_, _-_, _≤_, _<_}
 use native.Mathlib.Omega.{arith}
 use lib.Dec.{T, leb→le, le→leb}
 use lib.ListN.{length, getD}
-use Rattle.planning.specs.Finite.{every}
-use Rattle.planning.specs.Extended.{ℕ∞, fin, inf, _≤?_, _≤∞_}
+use Rattle.planning.specs.Extended.{ℕ∞, inf, _≤?_, _≤∞_}
 use Rattle.planning.specs.System.{System, applies, Invariant}
 use Rattle.planning.specs.Task.{Task, WellFormed}
 use Rattle.planning.specs.Pattern.{AbstractState}
-use Rattle.planning.specs.Table.{index, weightedTable, table, entryOf, costOf}
+use Rattle.planning.specs.Table.{index, weightedTable, table, entryOf}
 use Rattle.planning.proofs.Test.{T-true, and-in, by-test}
 use Rattle.planning.proofs.Finite.{all-imp, every-imp}
 use Rattle.planning.proofs.Extended.{mono?}
@@ -20,7 +19,7 @@ use Rattle.planning.proofs.System.{solvable, solves-goal, solves-act, cost-solv
 use Rattle.planning.proofs.Pattern.{abstraction-invariant}
 use Rattle.planning.proofs.Table.{index-below, state-at-index, state-at-abstract, table-entry, EntriesBelow}
 use Rattle.tables.specs.Packable.{Packable}
-use Rattle.tables.specs.Steps.{Space, isGoal, raised, offerAt, permittedAt}
+use Rattle.tables.specs.Steps.{Space, offerAt, permittedAt}
 use Rattle.tables.specs.Certified.{Attained, Exact, Certified}
 use Rattle.tables.proofs.Settled as that
 use Rattle.tables.proofs.Settled.{Stands, cost-le, finite-cost, raised-finite, inside}

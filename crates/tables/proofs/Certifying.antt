@@ -1,10 +1,10 @@
 -- Laws for the loops of the test of a table: sets that are gathered one action at a time, what a guess gives, and one turn and the end of
 -- each loop. Assumes nothing.
 use mathlib.Core.Path.{_≡_, refl, sym, ap, _∙_}
-use mathlib.Core.Bool.{Bool, true, false, not, cond, _&&_}
+use mathlib.Core.Bool.{Bool, true, false, not, cond}
 use mathlib.Core.List.{List}
 use mathlib.Core.Logic.{_⊎_, ⊎-elim}
-use Prim.Native.Nat.{ℕ, zero, suc, _+_, _*_, _-_, _%_, _^_, _≤_, _<_}
+use Prim.Native.Nat.{ℕ, suc, _+_, _*_, _-_, _%_, _^_, _≤_, _<_}
 use native.Mathlib.Omega.{arith}
 use native.Mathlib.Decide.{decLt}
 use native.Mathlib.Nat.{pow-suc, pow-le-pow-right}
@@ -15,7 +15,7 @@ use lib.ListN.{length, getD}
 use Rattle.planning.proofs.Test.{T-true, false-not-T, and-l}
 use Rattle.tables.specs.Sets.{setFrom}
 use Rattle.tables.specs.Steps.{Space, weigh, isGoal, permitted, idles, raised, Below, offer}
-use Rattle.tables.specs.Certified.{Attained, Least, Exact, Indexed, counts, Judged, Said, Certified}
+use Rattle.tables.specs.Certified.{Attained, Exact, Indexed, counts, Judged, Said, Certified}
 use Rattle.tables.proofs.SetWords.{set-meet, set-more, Left, left-all, Next, next-left, none-left}
 use Rattle.tables.proofs.Settled.{inside}
 use Rattle.tables.proofs.Sweeping.{raised-high, below-raised, false-true}

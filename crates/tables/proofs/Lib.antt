@@ -1,4 +1,5 @@
--- The laws about the definitions of specs/. First verdict, room and value, then packed states and the build of one table.
+-- The laws about the definitions of specs/. First packed states and the build of one table, then all tables of a record,
+-- and of a text.
 pub mod Packing
 pub mod Squeezing
 pub mod Compiled
@@ -18,3 +19,4 @@ pub mod Building
 pub mod CompiledAction
 pub mod TableChain
 pub mod BuiltTables
+pub mod FromText

@@ -3,14 +3,14 @@
 use mathlib.Core.Path.{_≡_, refl, sym, ap, ap₂, _∙_}
 use mathlib.Core.Bool.{cond, false}
 use mathlib.Core.List.{List}
-use Prim.Native.Nat.{ℕ, zero, suc, _+_, _*_, _-_, _/_, _%_, _^_, _≤_, _<_}
+use Prim.Native.Nat.{ℕ, suc, _+_, _*_, _/_, _%_, _^_, _≤_, _<_}
 use native.Mathlib.Nat.{pow-suc, pow-le-pow-right, add-zero, zero-add}
 use native.Mathlib.Omega.{arith}
 use native.Mathlib.Decide.{ℕ-discrete}
 use borrow.Author.Tests.{eq-eqb, ne-eqb, lt-ltb, ltb-true, ltb-false}
 use lib.Bits.{bitAnd, bitOr}
 use lib.Dec.{eqb, leb, ltb, leb→le, le→leb}
-use lib.ListN.{length, getD, set, replicate, length-set}
+use lib.ListN.{length, getD, set, length-set}
 use lib.Seq.{getD-set-same, getD-set-other, ext-getD}
 use Rattle.planning.specs.Finite.{tabulate}
 use Rattle.planning.proofs.Finite.{length-tabulate, getD-tabulate}
@@ -209,8 +209,3 @@ meet-two sets b n s t rest r e q h = let d : s / 256 / 256 ≡ t = omega arith i
 pub meet-none : (sets : List ℕ) (b t : ℕ) → 18446744073709551615 ≡ meetFrom sets b 0 t
 unfolding meetFrom
 meet-none sets b t = refl
-
-pub zeros : (n i : ℕ) → _≡_ {A = ℕ} (getD (replicate n 0) i 0) 0
-zeros zero i = refl
-zeros (suc n) zero = refl
-zeros (suc n) (suc i) = zeros n i

@@ -11,7 +11,7 @@ use lib.Bits.{bitAnd}
 use lib.Dec.{T, eqb, ltb, leb, leb→le, le→leb, ltb→lt, lt→ltb}
 use lib.ListN.{length, getD, set, length-set, length-map, List·getD-map}
 use lib.Seq.{ext-getD, getD-set-same, getD-set-other}
-use Rattle.planning.specs.Finite.{All, Some, every}
+use Rattle.planning.specs.Finite.{All, every}
 use Rattle.planning.specs.Extended.{ℕ∞, fin, inf, _≤?_, _≤∞_}
 use Rattle.planning.specs.System.{System, applies}
 use Rattle.planning.specs.Task.{Action, Task, apply, actionAt, system, fitsSizes, WellFormed}
@@ -21,10 +21,10 @@ use Rattle.planning.proofs.Test.{T-true, not-T-false, false-not-T, bool-iff, an
 use Rattle.planning.proofs.Finite.{all-imp, all-at, every-imp, any-out, getD-tabulate, map-map}
 use Rattle.planning.proofs.Extended.{mono?, ext∞, zero-le∞}
 use Rattle.planning.proofs.System.{solvable, solves-act, solves-out, bellman-le, cost-solvable}
-use Rattle.planning.proofs.Pattern.{mask-fits, mask-stays-abstract, action-masked, abstraction-actions, abstraction-well-formed, abstraction-invariant}
+use Rattle.planning.proofs.Pattern.{mask-fits, mask-stays-abstract, action-masked, abstraction-actions, abstraction-invariant}
 use Rattle.planning.proofs.Table.{index-below, state-at-index, state-at-abstract, table-length, table-entry, EntriesBelow}
 use Rattle.planning.proofs.Build.{NotBelow, lowered, built-at-goal, lowered-not-below}
-use Rattle.planning.proofs.Task.{apply-keeps-sizes, action-well-formed, task-filled}
+use Rattle.planning.proofs.Task.{apply-keeps-sizes, action-well-formed}
 use Rattle.tables.specs.Packed.{packBy, picking, low, actionWeight, outcomeCount, keepMask, compiled}
 use Rattle.tables.specs.Packable.{Packable}
 use Rattle.tables.specs.Steps.{weigh, Space, isGoal, idles, worst, raised, outcomeEntry, offer, offerAt, permittedAt, Steps, none, more, Stable, started}

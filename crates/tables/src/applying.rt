@@ -1,5 +1,6 @@
 // The actions whose preconditions a packed state meets, as a set in one word: one set is looked up for each byte of the state, and the
-// sets are met. Asks for at most 64 actions; the number of bytes may be any, and 2, 4 or 8 are looked at.
+// sets are met. A word has room for 64 actions: with more no set is filled, and the sets stay as lent. The number of bytes may be any, and 2,
+// 4 or 8 are looked at. The two calls ask nothing of the caller.
 ghost use mathlib.Core.Path.{_≡_};
 ghost use Prim.Native.Nat.{ℕ, _+_, _*_, _/_, _%_, _≤_, _<_};
 ghost use lib.ListN.{length, getD};
@@ -111,7 +112,7 @@ fn two_bytes(sets: &[u64; 2048], b: usize, s: u64, rest: u64) -> u64
     sets[256 * b + byte(s)] & (sets[256 * (b + 1) + byte(s / 256)] & rest)
 }
 
-// The actions that apply in a state.
+// The actions whose preconditions a state meets, goal or not.
 pub fn applying(sets: &[u64; 2048], s: u64, bytes: usize) -> u64
     ensures { λ r. ⌜ r ≡ meetFrom (now (sets .entry)) 0 (spread bytes) s ⌝ }
 {

@@ -1,6 +1,6 @@
 // The table of one pattern.
 ghost use mathlib.Core.Path.{_≡_};
-ghost use mathlib.Core.Bool.{not};
+ghost use mathlib.Core.Bool.{true, not};
 ghost use Prim.Native.Nat.{_+_, _/_, _≤_};
 ghost use lib.ListN.{length, getD, take};
 ghost use Rattle.planning.specs.Table.{stateCount};
@@ -16,6 +16,7 @@ use crate::ranking::fill_states;
 use crate::ranking::weights_of;
 use crate::sweep::lively;
 use crate::sweep::settle;
+use crate::sweep::settles;
 use crate::sweep::start;
 use crate::worklist::candidate;
 
@@ -63,7 +64,16 @@ fn make(
     finish(task, mask, weights, states, actions, live, bytes, entries);
 }
 
-// A table of at most 64 states: passes alone.
+// How many passes a small table gets. One of n states is settled by n at most, and most by four; a deep one of more states is left to the
+// worklist.
+fn few(states: usize) -> usize {
+    if states <= 16 {
+        return 16;
+    }
+    5
+}
+
+// A table of at most 64 states, by a few passes; whether they were enough.
 fn build_small(
     task: &[u64; 1282],
     actions: usize,
@@ -71,9 +81,9 @@ fn build_small(
     sizes: [u8; 16],
     pattern: [u8; 16],
     entries: &mut [u16],
-)
+) -> bool
     requires { ⌜ (Readable (now task) actions) × (Sized sizes pattern n) × (length (now entries) ≡ stateCount (take n sizes) pattern) × (length (now entries) ≤ 64) ⌝ }
-    ensures { λ _. ⌜ Built (now (task .entry)) actions n sizes pattern (now (entries .exit)) ⌝ }
+    ensures { λ r. ⌜ (r ≡ true → Built (now (task .entry)) actions n sizes pattern (now (entries .exit))) ⌝ }
 {
     let mut states = [0u64; 64];
     fill_states(sizes, pattern, n, &mut states);
@@ -81,7 +91,17 @@ fn build_small(
     let mask = pack(PICKING, &pattern);
     let live = lively(task, mask, actions);
     start(task, mask, &states, entries);
-    settle(task, mask, &weights, &states, actions, live, entries);
+    let passes = few(entries.len());
+    settles(
+        task,
+        mask,
+        &weights,
+        &states,
+        actions,
+        live,
+        entries,
+        passes,
+    )
 }
 
 // A table of any size, with room for the words of its states.
@@ -155,13 +175,16 @@ pub(crate) fn build_table(
     requires { ⌜ (Readable (now task) actions) × (Lookable (now task) (packBy picking pattern) actions ((n + 1) / 2)) × (Sized sizes pattern n) × (length (now entries) ≡ stateCount (take n sizes) pattern) ⌝ }
     ensures { λ _. ⌜ Built (now (task .entry)) actions n sizes pattern (now (entries .exit)) ⌝ }
 {
-    if entries.len() <= 64 {
-        build_small(task, actions, n, sizes, pattern, entries);
+    if entries.len() > 512 {
+        build_large(task, actions, n, sizes, pattern, entries);
         return;
     }
-    if entries.len() <= 512 {
+    if entries.len() > 64 {
         build_medium(task, actions, n, sizes, pattern, entries);
         return;
     }
-    build_large(task, actions, n, sizes, pattern, entries);
+    if build_small(task, actions, n, sizes, pattern, entries) {
+        return;
+    }
+    build_medium(task, actions, n, sizes, pattern, entries);
 }

@@ -1,6 +1,6 @@
 // Passes over the entries of a pattern's table: each entry falls to what an action says of it, until no action says less of any.
 ghost use mathlib.Core.Path.{_≡_};
-ghost use mathlib.Core.Bool.{not, cond};
+ghost use mathlib.Core.Bool.{true, not, cond};
 ghost use Prim.Native.Nat.{ℕ, _+_, _*_, _/_, _%_, _≤_, _<_};
 ghost use lib.Bits.{bitOr};
 ghost use lib.Dec.{eqb};
@@ -258,7 +258,32 @@ fn sweep(
     changed
 }
 
-// Passes until one changes nothing, with the actions of which no outcome leaves every state as it is: the others never say less of an entry.
+// So many passes at most, with the actions of which no outcome leaves every state as it is: the others never say less of an entry. Says
+// whether one of the passes changed nothing.
+pub(crate) fn settles(
+    task: &[u64; 1282],
+    mask: u64,
+    weights: &[u16; 16],
+    states: &[u64],
+    actions: usize,
+    live: u64,
+    entries: &mut [u16],
+    passes: usize,
+) -> bool
+    requires { ⌜ (Readable (now task) actions) × (live ≡ setFrom (λ m. not (idles (now task) mask m)) 0 actions) × (length (now entries) ≤ length (now states)) ⌝ }
+    ensures { λ r. ⌜ (r ≡ true → Settled (space (now (task .entry)) mask (now (weights .entry)) (now (states .entry)) actions) (now (entries .entry)) (now (entries .exit))) ⌝ }
+{
+    let mut pass = 0usize;
+    while pass < passes {
+        if !sweep(task, mask, weights, states, actions, live, entries) {
+            return true;
+        }
+        pass += 1;
+    }
+    false
+}
+
+// Passes until one changes nothing.
 pub(crate) fn settle(
     task: &[u64; 1282],
     mask: u64,

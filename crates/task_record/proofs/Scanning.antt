@@ -147,12 +147,6 @@ pub all-at : (ok : ℕ → Bool) (n i : ℕ) → allBelow ok n ≡ true → i < 
 all-at ok n i h l =
     let p = block-passes ok n h in rw zero-add at (first-all ok 0 n (omega arith) i l)
 
-pub all-fails : (ok : ℕ → Bool) (n i : ℕ) → i < n → ok i ≡ false → allBelow ok n ≡ false
-all-fails ok n i l h =
-    by-test (allBelow ok n)
-    (λ v. let t = all-at ok n i v l in let z : _≡_ {A = ℕ} 0 1 = cc in absurd (omega arith))
-    (λ v. v)
-
 pub all-none : (ok : ℕ → Bool) (n : ℕ) → ((i : ℕ) → i < n → ok i ≡ true) → allBelow ok n ≡ true
 unfolding allBelow
 all-none ok zero each = refl

@@ -1,7 +1,7 @@
 -- States of 16 cells of a sound record: the start is one, what the check calls good is one, outcomes lead from one to one; and the record's
 -- cells say of such a state what the task says of the values of its variables. Assumes nothing.
 use mathlib.Core.Path.{_≡_, refl, sym, _∙_}
-use mathlib.Core.Bool.{true, _&&_}
+use mathlib.Core.Bool.{_&&_}
 use mathlib.Core.List.{List}
 use Prim.Native.Nat.{ℕ, _+_, _-_, _<_}
 use native.Mathlib.Nat.{zero-add, sub-zero}
@@ -15,7 +15,7 @@ use Rattle.planning.proofs.Finite.{length-tabulate, getD-tabulate}
 use Rattle.task_record.specs.Layout.{atSizes, atGoal, atStart, atPrecondition, atOutcome}
 use Rattle.task_record.specs.Numbers.{variableCount, actionCount, sizeOf, outcomeCount}
 use Rattle.task_record.specs.Record.{assignmentOk, valueOk, stateOk, stateCellOk, recordCheck, Sound}
-use Rattle.task_record.specs.State.{firstBadValue, judgeState, afterRecord, stateCheck}
+use Rattle.task_record.specs.State.{firstBadValue, judgeState, afterRecord, stateCheck, GoodState}
 use Rattle.task_record.specs.TaskOf.{cellsAt, actionOf, taskOf}
 use Rattle.task_record.specs.declared.record.RecordCheck.{RecordCheck}
 use Rattle.task_record.specs.declared.record.RecordCheck.the-variants as of-record
@@ -30,11 +30,6 @@ use Rattle.task_record.proofs.Cellwise.{apply-length, apply-cell}
 use Rattle.task_record.proofs.Soundness.{sound-length, sound-cell}
 use Rattle.task_record.proofs.Fronts.{meets-front, apply-front}
 use Rattle.task_record.proofs.SoundTask.{Assigns, in-sizes, cell-of-part, length-of-part, variables-right, sizes-length, goal-assigns, precondition-assigns, outcome-assigns, assigns-unnamed}
-
--- Values of the variables that are used, and 255 beyond.
-pub record GoodState (r s : List ℕ) : Type 0 where
-  pub whole : length s ≡ 16
-  pub cell : (v : ℕ) → v < 16 → stateOk r v (getD s v 0) ≡ true
 
 after-good : (a : RecordCheck) (j : StateCheck) → afterRecord a j ≡ of-state.Good → (a ≡ of-record.Sound) × (j ≡ of-state.Good)
 unfolding afterRecord

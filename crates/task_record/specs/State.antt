@@ -1,11 +1,13 @@
--- What the check of a state of 16 bytes answers: document 01, "Plan check" and "Where a call can say no", line 10. Assumes nothing.
-use mathlib.Core.Bool.{cond}
+-- States of 16 bytes: what their check answers, and which are good. Document 01, "Plan check" and "Where a call can say no", line 10.
+-- Assumes nothing.
+use mathlib.Core.Path.{_≡_}
+use mathlib.Core.Bool.{true, cond}
 use mathlib.Core.List.{List}
-use Prim.Native.Nat.{ℕ}
+use Prim.Native.Nat.{ℕ, _<_}
 use lib.Dec.{ltb, eqb}
-use lib.ListN.{length}
+use lib.ListN.{length, getD}
 use Rattle.task_record.specs.Scan.{firstFrom}
-use Rattle.task_record.specs.Record.{stateCellOk, recordCheck}
+use Rattle.task_record.specs.Record.{stateOk, stateCellOk, recordCheck}
 use Rattle.task_record.specs.declared.record.RecordCheck.{RecordCheck}
 use Rattle.task_record.specs.declared.record.RecordCheck.the-variants as of-record
 use Rattle.task_record.specs.declared.record.StateCheck.{StateCheck}
@@ -29,3 +31,9 @@ afterRecord (of-record.Refused number second) judged = of-state.Refused number s
 
 unfoldable pub stateCheck : List ℕ → List ℕ → StateCheck
 stateCheck r s = afterRecord (recordCheck r) (judgeState r s)
+
+-- "a state of 16 bytes (255 beyond N)", said without the check: sixteen cells, for each variable one of its values "0 up to its size less one",
+-- and 255 in each cell beyond. Laws speak of it, no code does.
+pub record GoodState (r s : List ℕ) : Type 0 where
+  pub whole : length s ≡ 16
+  pub cell : (v : ℕ) → v < 16 → stateOk r v (getD s v 0) ≡ true

@@ -1,14 +1,10 @@
-// The cells of a record by name, and what a state does with them, for the layers above. Every function is total: past the end of the
-// slice a cell is 0 and a part is empty.
+// The cells of a record by name, for the layers above. Every function is total: past the end of the slice a cell is 0 and a part is empty.
 ghost use mathlib.Core.Path.{_≡_};
 ghost use Prim.Native.Nat.{_+_, _*_, _≤_, _<_};
-ghost use lib.Dec.{eqb};
 ghost use lib.ListN.{drop, getD, take};
-ghost use Rattle.planning.specs.Task.{meetsCell, meets, applyCell, apply};
-ghost use Rattle.planning.specs.Pattern.{affects};
 ghost use Rattle.task_record.specs.Layout.{atGoal, atStart, atPattern, atPrecondition, atOutcome};
 ghost use Rattle.task_record.specs.Numbers.{byte, variableCount, actionCount, patternCount, limitOf, budgetOf, sizeOf, outcomeCount};
-ghost use Rattle.task_record.specs.Cells.{sparesCell, stateCells};
+ghost use Rattle.task_record.specs.Cells.{stateCells};
 use crate::blocks::copied;
 use crate::layout::ACTION_SIZE;
 use crate::layout::AT_ACTION_COUNT;
@@ -21,6 +17,9 @@ use crate::layout::AT_PATTERNS;
 use crate::layout::AT_SIZES;
 use crate::layout::AT_START;
 use crate::layout::AT_VARIABLES;
+use crate::layout::IN_OUTCOMES;
+use crate::layout::IN_PRECONDITION;
+use crate::layout::ROW_SIZE;
 
 pub(crate) fn wide(x: u8) -> usize
     ensures { λ r. ⌜ (r ≡ x) × (r < 256) ⌝ }
@@ -116,19 +115,22 @@ pub fn start_cells(rec: &[u8]) -> &[u8]
 pub fn pattern_cells(rec: &[u8], p: u8) -> &[u8]
     ensures { λ r. ⌜ now r ≡ take 16 (drop (atPattern p) (now (rec .entry))) ⌝ }
 {
-    part(rec, AT_PATTERNS + 16 * wide(p))
+    part(rec, AT_PATTERNS + ROW_SIZE * wide(p))
 }
 
 pub fn precondition_cells(rec: &[u8], m: u8) -> &[u8]
     ensures { λ r. ⌜ now r ≡ take 16 (drop (atPrecondition m) (now (rec .entry))) ⌝ }
 {
-    part(rec, AT_ACTIONS + 1 + ACTION_SIZE * wide(m))
+    part(rec, AT_ACTIONS + IN_PRECONDITION + ACTION_SIZE * wide(m))
 }
 
 pub fn outcome_cells(rec: &[u8], m: u8, k: u8) -> &[u8]
     ensures { λ r. ⌜ now r ≡ take 16 (drop (atOutcome m k) (now (rec .entry))) ⌝ }
 {
-    part(rec, AT_ACTIONS + 17 + ACTION_SIZE * wide(m) + 16 * wide(k))
+    part(
+        rec,
+        AT_ACTIONS + IN_OUTCOMES + ACTION_SIZE * wide(m) + ROW_SIZE * wide(k),
+    )
 }
 
 fn cell_or_255(c: &[u8], k: usize) -> u8
@@ -158,141 +160,4 @@ pub fn state_of(c: &[u8]) -> [u8; 16]
         return copied(c);
     }
     filled_up(c)
-}
-
-fn shorter(n: usize) -> usize
-    ensures { λ r. ⌜ (r ≤ n) × (r ≤ 16) × ((r < 16) → (n ≤ r)) ⌝ }
-{
-    if n < 16 {
-        return n;
-    }
-    16
-}
-
-fn misses(y: u8, x: u8) -> u8
-    ensures { λ r. ⌜ eqb r 0 ≡ meetsCell y x ⌝ }
-{
-    if y == 255 {
-        return 0;
-    }
-    if y == x {
-        return 0;
-    }
-    1
-}
-
-// It does not stop at a fault, so that it becomes one vector compare.
-fn meets_sixteen(y: [u8; 16], s: [u8; 16]) -> bool
-    ensures { λ r. ⌜ r ≡ meets y s ⌝ }
-{
-    let mut bad = 0u8;
-    for i in 0..16usize {
-        bad = bad | misses(y[i], s[i]);
-    }
-    bad == 0
-}
-
-fn meets_any(c: &[u8], s: [u8; 16]) -> bool
-    ensures { λ r. ⌜ r ≡ meets (now (c .entry)) s ⌝ }
-{
-    for i in 0..shorter(c.len()) {
-        if misses(c[i], s[i]) != 0 {
-            return false;
-        }
-    }
-    true
-}
-
-// Whether the state has all the values that the cells name.
-pub fn meets(c: &[u8], s: [u8; 16]) -> bool
-    ensures { λ r. ⌜ r ≡ meets (now (c .entry)) s ⌝ }
-{
-    if c.len() == 16 {
-        return meets_sixteen(copied(c), s);
-    }
-    meets_any(c, s)
-}
-
-fn choose(y: u8, x: u8) -> u8
-    ensures { λ r. ⌜ r ≡ applyCell y x ⌝ }
-{
-    if y == 255 {
-        return x;
-    }
-    y
-}
-
-fn apply_sixteen(y: [u8; 16], s: [u8; 16]) -> [u8; 16]
-    ensures { λ r. ⌜ r ≡ apply y s ⌝ }
-{
-    let mut r = s;
-    for i in 0..16usize {
-        r[i] = choose(y[i], s[i]);
-    }
-    r
-}
-
-fn apply_any(c: &[u8], s: [u8; 16]) -> [u8; 16]
-    ensures { λ r. ⌜ r ≡ apply (now (c .entry)) s ⌝ }
-{
-    let mut r = s;
-    for i in 0..shorter(c.len()) {
-        r[i] = choose(c[i], s[i]);
-    }
-    r
-}
-
-// The state after an outcome: what the cells name is changed.
-pub fn apply(c: &[u8], s: [u8; 16]) -> [u8; 16]
-    ensures { λ r. ⌜ r ≡ apply (now (c .entry)) s ⌝ }
-{
-    if c.len() == 16 {
-        return apply_sixteen(copied(c), s);
-    }
-    apply_any(c, s)
-}
-
-fn touch(b: u8, y: u8) -> u8
-    ensures { λ r. ⌜ eqb r 0 ≡ sparesCell b y ⌝ }
-{
-    if b != 1 {
-        return 0;
-    }
-    if y == 255 {
-        return 0;
-    }
-    1
-}
-
-fn affects_sixteen(b: [u8; 16], y: [u8; 16]) -> bool
-    ensures { λ r. ⌜ r ≡ affects b y ⌝ }
-{
-    let mut hits = 0u8;
-    for i in 0..16usize {
-        hits = hits | touch(b[i], y[i]);
-    }
-    hits != 0
-}
-
-fn affects_any(p: &[u8], o: &[u8]) -> bool
-    ensures { λ r. ⌜ r ≡ affects (now (p .entry)) (now (o .entry)) ⌝ }
-{
-    for i in 0..o.len() {
-        if touch(cell(p, i), o[i]) != 0 {
-            return true;
-        }
-    }
-    false
-}
-
-// Whether the outcome names a variable of the pattern.
-pub fn affects(p: &[u8], o: &[u8]) -> bool
-    ensures { λ r. ⌜ r ≡ affects (now (p .entry)) (now (o .entry)) ⌝ }
-{
-    if p.len() == 16 {
-        if o.len() == 16 {
-            return affects_sixteen(copied(p), copied(o));
-        }
-    }
-    affects_any(p, o)
 }

@@ -306,6 +306,8 @@ pub fn instances(seed: u64) -> Vec<Instance> {
         Instance::of("rooms, 7, place and visits", rooms(7, false), &SEARCHES),
         Instance::of("tower, 3 pallets", tower(3, 4), &ALL),
         Instance::of("tower, 7 pallets", tower(7, 8), &ALL),
+        Instance::of("counter, 6 variables", counter(6), &[BuildTables]),
+        Instance::of("Gray code, 6 variables", gray(6), &[BuildTables]),
         Instance::of("counter, 12 variables", counter(12), &TABLES),
         Instance::of("Gray code, 11 variables", gray(11), &TABLES),
         Instance::of("8 tables of 16^3, 64 actions", large(seed, 16, 8, 64), &TABLES[..3]),

@@ -1,8 +1,7 @@
 -- `judge_tables`: the sizes of the task's variables are lent on as they stand in the record. Assumes nothing.
 use mathlib.Core.Path.{_≡_, _∙_}
-use Prim.Native.Nat.{_+_, _-_, _≤_}
+use Prim.Native.Nat.{_+_, _-_}
 use native.Mathlib.Omega.{arith}
-use lib.ListN.{length}
 use Rattle.task_record.specs.Layout.{atSizes}
 use Rattle.task_record.specs.Numbers.{variableCount}
 use Rattle.task_record.specs.TaskOf.{taskOf}

@@ -1,5 +1,4 @@
 -- `is_lone`: nothing is left of the set without its lowest member. Assumes nothing.
-use mathlib.Core.Path.{_≡_, refl}
 use borrow.Author.Tests.{eqb-true}
 use Rattle.patterns.specs.Sets.{Lone}
 use borrow.Author.Needs.{needs}

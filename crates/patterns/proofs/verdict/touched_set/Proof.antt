@@ -1,10 +1,10 @@
 -- `touched_set`: the set has every pattern with a variable passed that an outcome names. Assumes nothing.
-use mathlib.Core.Path.{_≡_, ap, sym, _∙_}
-use Prim.Native.Nat.{ℕ, _+_, _-_, _*_, _≤_, _<_}
+use mathlib.Core.Path.{_≡_}
+use Prim.Native.Nat.{ℕ, _+_, _-_, _*_, _≤_}
 use native.Mathlib.Omega.{arith}
 use lib.ListN.{length, getD}
 use Rattle.task_record.specs.Layout.{atOutcome}
-use Rattle.task_record.specs.Numbers.{byte, outcomeCount}
+use Rattle.task_record.specs.Numbers.{byte}
 use Rattle.task_record.specs.TaskOf.{cellsAt}
 use Rattle.task_record.proofs.Soundness.{sound-length}
 use Rattle.task_record.proofs.SoundTask.{actions-right, outcomes-right, outcome-assigns, cell-of-part}
@@ -72,7 +72,6 @@ touched-set-spec =
     (tie.spec
     Inv-loop
     μ-loop
-    (λ c. search needs)
     (λ c. search needs)
     (λ c κs. search needs)
     (λ c. search needs)

@@ -33,8 +33,8 @@ enum-known-round c = search needs
 reply-requires-3 : tie.Need-reply-requires-3
 reply-requires-3 c κs = search needs
 
-enum-told : tie.Need-enum-told
-enum-told c = search needs
+enum-known-count-2 : tie.Need-enum-known-count-2
+enum-known-count-2 c = search needs
 
 reply-requires-4 : tie.Need-reply-requires-4
 reply-requires-4 c κs = search needs
@@ -91,8 +91,8 @@ same-length-10 c = search needs
 
 returns-5 : tie.Need-returns-5
 unfolding searchNumbers
-returns-5 c = let s = c .before .before .before .before .before .before .before .search .ensures in
-    (c .reply4 .ensures ∙ ap (λ x. fiveNumbers (searchNumbers x)) (sym (c .before .enum-told .given .1) ∙ s .0), s .1 .0, s .1 .1)
+returns-5 c = let s = c .before .before .before .before .before .before .before .before .search .ensures in
+    (c .reply4 .ensures ∙ ap (λ x. fiveNumbers (searchNumbers x)) (sym (c .before .before .count2 .given .1) ∙ s .0), s .1 .0, s .1 .1)
 
 pub planner-search-spec : {M : Type 1} → statement M
 planner-search-spec =
@@ -107,7 +107,7 @@ planner-search-spec =
     reply-requires-2
     enum-known-round
     reply-requires-3
-    enum-told
+    enum-known-count-2
     reply-requires-4
     same-length
     same-length-2

@@ -3,7 +3,7 @@ use borrow.Author.Needs.{needs}
 use Rattle.planner.proofs.tasks.planner_check_record.Statement.{statement}
 use Rattle.planner.proofs.tasks.planner_check_record.Tie as tie
 use mathlib.Core.Path.{sym, ap, _∙_}
-use Rattle.planner.specs.Answers.{recordNumbers}
+use Rattle.task_record.specs.Answers.{recordNumbers}
 use Rattle.planner.specs.ForC.{fiveNumbers}
 
 check-record-requires : tie.Need-check-record-requires

@@ -3,7 +3,7 @@ use borrow.Author.Needs.{needs}
 use Rattle.planner.proofs.tasks.planner_check_state.Statement.{statement}
 use Rattle.planner.proofs.tasks.planner_check_state.Tie as tie
 use mathlib.Core.Path.{sym, ap, _∙_}
-use Rattle.planner.specs.Answers.{stateNumbers}
+use Rattle.task_record.specs.Answers.{stateNumbers}
 use Rattle.planner.specs.ForC.{fiveNumbers}
 
 check-state-requires : tie.Need-check-state-requires

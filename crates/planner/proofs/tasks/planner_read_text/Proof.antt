@@ -3,7 +3,7 @@ use borrow.Author.Needs.{needs}
 use Rattle.planner.proofs.tasks.planner_read_text.Statement.{statement}
 use Rattle.planner.proofs.tasks.planner_read_text.Tie as tie
 use mathlib.Core.Path.{sym, ap, _∙_}
-use Rattle.planner.specs.Answers.{readNumbers}
+use Rattle.reader.specs.Answers.{readNumbers}
 use Rattle.planner.specs.ForC.{fiveNumbers}
 
 read-text-requires : tie.Need-read-text-requires

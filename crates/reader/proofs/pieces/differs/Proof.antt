@@ -1,5 +1,4 @@
 -- `reader::pieces::differs` meets its contract. Assumes nothing.
-use borrow.Author.Needs.{needs}
 use Rattle.reader.proofs.pieces.differs.Statement.{statement}
 use Rattle.reader.proofs.pieces.differs.Tie as tie
 use borrow.Author.Tests.{eq-eqb, ne-eqb}

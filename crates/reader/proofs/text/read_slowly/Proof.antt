@@ -4,10 +4,9 @@ use Rattle.reader.proofs.text.read_slowly.Statement.{statement}
 use Rattle.reader.proofs.text.read_slowly.Tie as tie
 use Prim.Native.Nat.{ℕ}
 use mathlib.Core.List.{List}
-use mathlib.Core.Path.{_∙_, _≡_, ap, refl, sym}
+use mathlib.Core.Path.{_∙_, _≡_, ap, sym}
 use Rattle.reader.specs.Grammar.{readFrom, readWhole, wholeOf}
 use Rattle.task_record.specs.Layout.{recordSize}
-use Rattle.reader.specs.Stores.{allUnnamed}
 use Rattle.reader.specs.Text.{linesOf}
 use Rattle.reader.specs.declared.order.Due.the-variants.{Vars}
 use Rattle.reader.specs.declared.text.Reading.{Reading}

@@ -1,10 +1,8 @@
 -- `report::list::put_list` meets its contract: the first number, then the others. Assumes nothing.
 use borrow.Author.Needs.{needs}
-use mathlib.Core.Path.{_≡_, ap, _∙_}
-use Prim.Native.Nat.{_-_, _<_}
 use native.Mathlib.Nat.{pos-of-ne-zero}
 use native.Mathlib.Omega.{arith}
-use lib.ListN.{length, drop, length-drop}
+use lib.ListN.{length-drop}
 use Rattle.task_record.proofs.Rest.{part-rest}
 use Rattle.report.proofs.Commas.{list-of-first, list-of-none}
 use Rattle.report.proofs.Decimals.{byte-length}

@@ -1,10 +1,10 @@
 -- `report::list::put_rest` meets its contract. The loop's invariant: the first i numbers are written, each in at most four bytes.
 -- Assumes nothing.
 use borrow.Author.Needs.{needs}
-use mathlib.Core.Path.{_≡_, refl, ap, _∙_}
+use mathlib.Core.Path.{_≡_, refl}
 use Prim.Native.Nat.{_+_, _*_, _-_, _≤_}
 use native.Mathlib.Omega.{arith}
-use lib.ListN.{length, take, getD}
+use lib.ListN.{length, take}
 use lib.Seq.{take-all}
 use Rattle.report.specs.Lines.{commaBefore}
 use Rattle.report.specs.Writing.{Written}

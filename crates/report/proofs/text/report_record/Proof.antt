@@ -1,9 +1,9 @@
 -- `report::text::report_record` meets its contract: for each answer of the search its lines, and the tables and the plan as the search left
 -- them. Assumes nothing.
 use borrow.Author.Needs.{needs}
-use mathlib.Core.Path.{sym, ap, _∙_}
+use mathlib.Core.Path.{sym, _∙_}
 use native.Mathlib.Omega.{arith}
-use lib.ListN.{length, take, length-take}
+use lib.ListN.{length-take}
 use lib.Seq.{length-take-le}
 use Rattle.report.proofs.Reports.{is-found, is-over, is-spent, is-none, start-value-told, found-within, found-short, found-told, over-told, spent-told, none-told, refusal-told}
 use Rattle.report.proofs.Stored.{written-then}
@@ -60,8 +60,8 @@ put-start-value-requires-3 c κs = search needs
 put-spent-requires : tie.Need-put-spent-requires
 put-spent-requires c κs = search needs
 
-enum-told : tie.Need-enum-told
-enum-told c = search needs
+enum-known-count-2 : tie.Need-enum-known-count-2
+enum-known-count-2 c = search needs
 
 put-start-value-requires-4 : tie.Need-put-start-value-requires-4
 put-start-value-requires-4 c κs = search needs
@@ -145,9 +145,9 @@ same-length-15 : tie.Need-same-length-15
 same-length-15 c = search needs
 
 returns-5 : tie.Need-returns-5
-returns-5 c = let s = c .before .before .before .before .before .before .before .before .before .before .before .before .before .before .before .search .ensures in
-    let e = sym (c .before .before .before .before .before .before .before .before .before .enum-told .given .1) ∙ s .0 in (
-      rw (none-told _ _ _ e) (written-then (c .before .before .before .before .before .before .put-start-value4 .ensures .0 _ (start-value-told _ _ _ _ is-none e (s .1 .0))) (c .before .before .put-none .ensures .0)),
+returns-5 c = let s = c .before .before .before .before .before .before .before .before .before .before .before .before .before .before .before .before .search .ensures in
+    let e = sym (c .before .before .before .before .before .before .before .before .before .before .count2 .given .1) ∙ s .0 in (
+      rw (none-told _ _ _ _ e) (written-then (c .before .before .before .before .before .before .put-start-value4 .ensures .0 _ (start-value-told _ _ _ _ (is-none _) e (s .1 .0))) (c .before .before .put-none .ensures .0)),
       s .1 .0,
       s .1 .1,
       omega (arith, c .before .before .put-none .ensures .1, c .before .before .before .before .before .before .put-start-value4 .ensures .1),
@@ -172,7 +172,7 @@ report-record-spec =
     enum-known-round
     put-start-value-requires-3
     put-spent-requires
-    enum-told
+    enum-known-count-2
     put-start-value-requires-4
     put-none-requires
     same-length

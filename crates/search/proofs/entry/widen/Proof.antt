@@ -8,11 +8,11 @@ use Rattle.search.specs.Entry.{widened}
 enum-known-a : tie.Need-enum-known-a
 enum-known-a c = search needs
 
-cast-t10 : tie.Need-cast-t10
-cast-t10 c = search needs
-
 cast-t11 : tie.Need-cast-t11
 cast-t11 c = search needs
+
+cast-t12 : tie.Need-cast-t12
+cast-t12 c = search needs
 
 enum-known-a-2 : tie.Need-enum-known-a-2
 enum-known-a-2 c = search needs
@@ -20,20 +20,23 @@ enum-known-a-2 c = search needs
 enum-known-a-3 : tie.Need-enum-known-a-3
 enum-known-a-3 c = search needs
 
-cast-t14 : tie.Need-cast-t14
-cast-t14 c = search needs
+cast-t15 : tie.Need-cast-t15
+cast-t15 c = search needs
 
 enum-known-a-4 : tie.Need-enum-known-a-4
 enum-known-a-4 c = search needs
 
-cast-t15 : tie.Need-cast-t15
-cast-t15 c = search needs
-
 cast-t16 : tie.Need-cast-t16
 cast-t16 c = search needs
 
-enum-told : tie.Need-enum-told
-enum-told c = search needs
+cast-t17 : tie.Need-cast-t17
+cast-t17 c = search needs
+
+enum-known-a-5 : tie.Need-enum-known-a-5
+enum-known-a-5 c = search needs
+
+cast-t18 : tie.Need-cast-t18
+cast-t18 c = search needs
 
 returns : tie.Need-returns
 unfolding widened
@@ -53,22 +56,23 @@ returns-4 c = sym (ap widened (c .before .a4 .given .1))
 
 returns-5 : tie.Need-returns-5
 unfolding widened
-returns-5 c = sym (ap widened (c .enum-told .given .1))
+returns-5 c = sym (ap widened (c .before .a5 .given .1))
 
 pub widen-spec : {M : Type 1} → statement M
 widen-spec =
     tie.close
     (tie.spec
     enum-known-a
-    cast-t10
     cast-t11
+    cast-t12
     enum-known-a-2
     enum-known-a-3
-    cast-t14
-    enum-known-a-4
     cast-t15
+    enum-known-a-4
     cast-t16
-    enum-told
+    cast-t17
+    enum-known-a-5
+    cast-t18
     returns
     returns-2
     returns-3

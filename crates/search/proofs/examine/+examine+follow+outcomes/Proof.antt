@@ -93,7 +93,7 @@ abbrev follow-calls : ℕ → follow-lts.Claims
 follow-calls t = (budget-in-reads.Asked, budget-in-reads.Learnt, open-state-reads.Asked, open-state-reads.Learnt, put-reads.Asked, put-reads.Learnt, recall-reads.Asked, recall-reads.Learnt, recall-success-reads.Asked, recall-success-reads.Learnt, copy-reads.Asked, copy-reads.Learnt, examine-below t, examine.Post)
 
 abbrev outcomes-calls : ℕ → outcomes-lts.Claims
-outcomes-calls t = (outcome-count-reads.Asked, outcome-count-reads.Learnt, place-of-reads.Asked, place-of-reads.Learnt, rest-of-reads.Asked, rest-of-reads.Learnt, successor-reads.Asked, successor-reads.Learnt, sum-with-reads.Asked, sum-with-reads.Learnt, visit-of-reads.Asked, visit-of-reads.Learnt, follow-below t, follow.Post, forget-reads.Asked, forget-reads.Learnt)
+outcomes-calls t = (rest-of-reads.Asked, rest-of-reads.Learnt, outcome-count-reads.Asked, outcome-count-reads.Learnt, place-of-reads.Asked, place-of-reads.Learnt, successor-reads.Asked, successor-reads.Learnt, sum-with-reads.Asked, sum-with-reads.Learnt, visit-of-reads.Asked, visit-of-reads.Learnt, follow-below t, follow.Post, forget-reads.Asked, forget-reads.Learnt)
 
 abbrev examine-Inv-loop : examine-lts.InvT-loop
 examine-Inv-loop task sets places rows guide tables memory₀ plan₀ v c₀ set₀ memory plan c set = Trying task (actionsIn guide) (guidedValue rows guide tables) (budgetIn guide) (guidedExamination task rows guide tables) (v .d) (v .s) (guidedExamination task rows guide tables (v .d) (v .s) (v .count)) set c × (v .count + 1 ≤ c) × (c ≤ budgetIn guide) × Keeps (v .at) plan₀ plan × (length plan ≡ length plan₀) × Remembers (guidedExamination task rows guide tables) (budgetIn guide) memory × NoMore memory₀ memory
@@ -251,30 +251,30 @@ follow-returns-6 : (t : ℕ) → follow-lts.Need-returns-6 (follow-calls t) (fol
 follow-returns-6 t c = c .before .before .examine .ensures
 
 abbrev outcomes-Inv-loop : outcomes-lts.InvT-loop
-outcomes-Inv-loop task sets places rows guide tables memory₀ plan₀ m v n rest c₀ end₀ k₀ memory plan c end k = Resumes (guidedExamination task rows guide tables (v .d)) (tabulate (λ j. bitOr (bitAnd (v .s) (keepMask task m j)) (setValue task m j)) k (n - k)) (guidedOutcomes task rows guide tables (v .d) (v .s) m (v .count)) (v .count) c (budgetIn guide) (v .at) end plan₀ plan × (k ≤ n) × (c ≤ budgetIn guide) × (end ≤ c) × (length plan ≡ length plan₀) × Remembers (guidedExamination task rows guide tables) (budgetIn guide) memory × Learnt (guidedExamination task rows guide tables) (budgetIn guide) memory₀ memory plan (v .at) end × Keeps (v .at) plan₀ plan × (v .at ≤ end)
+outcomes-Inv-loop task sets places rows guide tables memory₀ plan₀ m v rest c₀ end₀ k₀ n memory plan c end k = Resumes (guidedExamination task rows guide tables (v .d)) (tabulate (λ j. bitOr (bitAnd (v .s) (keepMask task m j)) (setValue task m j)) k (n - k)) (guidedOutcomes task rows guide tables (v .d) (v .s) m (v .count)) (v .count) c (budgetIn guide) (v .at) end plan₀ plan × (k ≤ n) × (c ≤ budgetIn guide) × (end ≤ c) × (length plan ≡ length plan₀) × Remembers (guidedExamination task rows guide tables) (budgetIn guide) memory × Learnt (guidedExamination task rows guide tables) (budgetIn guide) memory₀ memory plan (v .at) end × Keeps (v .at) plan₀ plan × (v .at ≤ end)
 
 abbrev outcomes-μ-loop : outcomes-lts.MeasureT-loop
-outcomes-μ-loop task sets places rows guide tables memory₀ plan₀ m v n rest c₀ end₀ k₀ memory plan c end k = n - k
-
-outcomes-outcome-count-requires : (t : ℕ) → outcomes-lts.Need-outcome-count-requires (outcomes-calls t) (outcomes-at t) outcomes.Post outcomes-Inv-loop outcomes-μ-loop
-outcomes-outcome-count-requires t c κs = let p = c .before .before .pre .1 in omega (arith, p .0 .ready .few-actions, p .7)
+outcomes-μ-loop task sets places rows guide tables memory₀ plan₀ m v rest c₀ end₀ k₀ n memory plan c end k = n - k
 
 outcomes-rest-of-requires : (t : ℕ) → outcomes-lts.Need-rest-of-requires (outcomes-calls t) (outcomes-at t) outcomes.Post outcomes-Inv-loop outcomes-μ-loop
-outcomes-rest-of-requires t c κs = let p = c .before .before .before .before .pre .1 in (p .0 .placed, p .0 .ready .few-patterns, p .0 .ready .few-variables, omega (arith, p .0 .ready .few-actions, p .7), p .5)
+outcomes-rest-of-requires t c κs = let p = c .before .before .pre .1 in (p .0 .placed, p .0 .ready .few-patterns, p .0 .ready .few-variables, omega (arith, p .0 .ready .few-actions, p .7), p .5)
+
+outcomes-outcome-count-requires : (t : ℕ) → outcomes-lts.Need-outcome-count-requires (outcomes-calls t) (outcomes-at t) outcomes.Post outcomes-Inv-loop outcomes-μ-loop
+outcomes-outcome-count-requires t c κs = let p = c .before .before .before .pre .1 in omega (arith, p .0 .ready .few-actions, p .7)
 
 outcomes-loop-holds : (t : ℕ) → outcomes-lts.Need-loop-holds (outcomes-calls t) (outcomes-at t) outcomes.Post outcomes-Inv-loop outcomes-μ-loop
-outcomes-loop-holds t c = let p = c .before .before .before .before .before .pre .1 in (row-begins _ _ _ _ _ _ _ _ _ _ (c .before .place-of .ensures ∙ c .before .before .outcome-count .ensures), omega arith, p .2, p .3, refl, p .1, nothing-learnt _ _ _ _ _ (no-more-itself _), keeps-itself _ _, omega arith)
+outcomes-loop-holds t c = let p = c .before .before .before .before .before .pre .1 in (row-begins _ _ _ _ _ _ _ _ _ _ (c .place-of .ensures ∙ c .before .outcome-count .ensures), omega arith, p .2, p .3, refl, p .1, nothing-learnt _ _ _ _ _ (no-more-itself _), keeps-itself _ _, omega arith)
 
 outcomes-successor-requires : (t : ℕ) → outcomes-lts.Need-successor-requires (outcomes-calls t) (outcomes-at t) outcomes.Post outcomes-Inv-loop outcomes-μ-loop
 outcomes-successor-requires t c κs = let p = c .before .before .before .before .before .before .before .pre .1 in let n = p .0 .ready .few-outcomes _ (p .7) in
-    (omega (arith, p .0 .ready .few-actions, p .7), omega (arith, n, c .loop-test .taken, c .before .before .before .place-of .ensures, c .before .before .before .before .outcome-count .ensures))
+    (omega (arith, p .0 .ready .few-actions, p .7), omega (arith, n, c .loop-test .taken, c .before .before .place-of .ensures, c .before .before .before .outcome-count .ensures))
 
 outcomes-sum-with-requires : (t : ℕ) → outcomes-lts.Need-sum-with-requires (outcomes-calls t) (outcomes-at t) outcomes.Post outcomes-Inv-loop outcomes-μ-loop
-outcomes-sum-with-requires t c κs = let p = c .before .before .before .before .before .before .before .before .pre .1 in (p .0 .placed, p .0 .ready .few-patterns, p .0 .ready .few-variables, omega (arith, p .0 .ready .few-actions, p .7), omega (arith, c .before .before .before .rest-of .ensures .1, p .6))
+outcomes-sum-with-requires t c κs = let p = c .before .before .before .before .before .before .before .before .pre .1 in (p .0 .placed, p .0 .ready .few-patterns, p .0 .ready .few-variables, omega (arith, p .0 .ready .few-actions, p .7), omega (arith, c .before .before .before .before .before .rest-of .ensures .1, p .6))
 
 outcomes-follow-requires : (t : ℕ) → outcomes-lts.Need-follow-requires (outcomes-calls t) (outcomes-at t) outcomes.Post outcomes-Inv-loop outcomes-μ-loop
 outcomes-follow-requires t c κs = let p = c .before .before .before .before .before .before .before .before .before .before .before .before .pre .1 in let i = c .before .before .before .before .before .before .loop .inv in let e = c .before .before .visit-of .ensures in
-    (omega (arith, e .2, c .before .before .before .before .before .before .before .before .before .before .before .before .pre .0), rw (e .0, e .1, e .2, e .3, e .4) (p .0, i .5, i .2, i .3, p .4, carried _ _ _ _ _ _ _ _ (p .0 .owned) _ _ _ _ _ (p .7) (omega (arith, c .before .before .before .before .before .loop-test .taken, c .before .before .before .before .before .before .before .before .place-of .ensures, c .before .before .before .before .before .before .before .before .before .outcome-count .ensures)) (c .before .before .before .before .successor .ensures) refl _ _ _ (p .5) (c .before .before .before .before .before .before .before .rest-of .ensures .0) (c .before .before .before .sum-with .ensures), known-learnt _ _ _ (p .8) (i .4) (i .7) _ (i .8) (i .6)))
+    (omega (arith, e .2, c .before .before .before .before .before .before .before .before .before .before .before .before .pre .0), rw (e .0, e .1, e .2, e .3, e .4) (p .0, i .5, i .2, i .3, p .4, carried _ _ _ _ _ _ _ _ (p .0 .owned) _ _ _ _ _ (p .7) (omega (arith, c .before .before .before .before .before .loop-test .taken, c .before .before .before .before .before .before .before .place-of .ensures, c .before .before .before .before .before .before .before .before .outcome-count .ensures)) (c .before .before .before .before .successor .ensures) refl _ _ _ (p .5) (c .before .before .before .before .before .before .before .before .before .rest-of .ensures .0) (c .before .before .before .sum-with .ensures), known-learnt _ _ _ (p .8) (i .4) (i .7) _ (i .8) (i .6)))
 
 outcomes-returns : (t : ℕ) → outcomes-lts.Need-returns (outcomes-calls t) (outcomes-at t) outcomes.Post outcomes-Inv-loop outcomes-μ-loop
 unfolding After
@@ -369,9 +369,9 @@ pub +examine+follow+outcomes-spec : {M : Type 1} → statement M
     outcomes.Post
     outcomes-Inv-loop
     outcomes-μ-loop
+    (outcomes-rest-of-requires t)
     (outcomes-outcome-count-requires t)
     (λ c κs. search needs)
-    (outcomes-rest-of-requires t)
     (outcomes-loop-holds t)
     (outcomes-successor-requires t)
     (outcomes-sum-with-requires t)

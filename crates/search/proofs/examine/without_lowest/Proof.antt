@@ -1,11 +1,10 @@
 -- `search::examine::without_lowest` meets its contract. Assumes nothing.
-use borrow.Author.Needs.{needs}
 use Rattle.search.proofs.examine.without_lowest.Statement.{statement}
 use Rattle.search.proofs.examine.without_lowest.Tie as tie
-use mathlib.Core.Path.{_≡_, refl}
-use Prim.Native.Nat.{ℕ, _-_, _<_, _≤_}
+use mathlib.Core.Path.{refl}
+use Prim.Native.Nat.{_-_}
 use native.Mathlib.Omega.{arith}
-use lib.Bits.{bitAnd, and-le-r}
+use lib.Bits.{and-le-r}
 use Rattle.search.proofs.Trying.{not-zero}
 
 sub-result : tie.Need-sub-result

@@ -2,9 +2,6 @@
 use borrow.Author.Needs.{needs}
 use Rattle.search.proofs.memory.recall.Statement.{statement}
 use Rattle.search.proofs.memory.recall.Tie as tie
-use Rattle.search.proofs.memory.recall.Reads as reads
-use Rattle.search.proofs.memory.recall.Lts as lts
-use Rattle.search.proofs.memory.slot_of.Reads as slot-of-reads
 use mathlib.Core.Path.{refl}
 use Rattle.search.specs.Memory.{stateIn, depthIn, madeIn}
 

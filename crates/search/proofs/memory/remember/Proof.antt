@@ -2,9 +2,6 @@
 use borrow.Author.Needs.{needs}
 use Rattle.search.proofs.memory.remember.Statement.{statement}
 use Rattle.search.proofs.memory.remember.Tie as tie
-use Rattle.search.proofs.memory.remember.Reads as reads
-use Rattle.search.proofs.memory.remember.Lts as lts
-use Rattle.search.proofs.memory.slot_of.Reads as slot-of-reads
 use mathlib.Core.Path.{refl}
 
 slot-of-requires : tie.Need-slot-of-requires

@@ -2,7 +2,7 @@
 use borrow.Author.Needs.{needs}
 use Rattle.search.proofs.owners.fill_owners.Statement.{statement}
 use Rattle.search.proofs.owners.fill_owners.Tie as tie
-use mathlib.Core.Path.{_≡_, sym, _∙_}
+use mathlib.Core.Path.{_≡_, _∙_}
 use Prim.Native.Nat.{_-_, _≤_, _<_}
 use native.Mathlib.Omega.{arith}
 use lib.ListN.{length}

@@ -2,7 +2,7 @@
 use borrow.Author.Needs.{needs}
 use Rattle.search.proofs.owners.mark.Statement.{statement}
 use Rattle.search.proofs.owners.mark.Tie as tie
-use mathlib.Core.Path.{_≡_, sym, _∙_}
+use mathlib.Core.Path.{sym, _∙_}
 use mathlib.Core.Logic.{⊎-elim}
 use Prim.Native.Nat.{_-_, _≤_}
 use native.Mathlib.Omega.{arith}

@@ -3,7 +3,7 @@ use borrow.Author.Needs.{needs}
 use Rattle.search.proofs.owners.mask_in.Statement.{statement}
 use Rattle.search.proofs.owners.mask_in.Tie as tie
 use mathlib.Core.Path.{_≡_, sym}
-use Prim.Native.Nat.{_-_, _≤_}
+use Prim.Native.Nat.{_≤_}
 use native.Mathlib.Omega.{arith}
 use lib.ListN.{length, drop}
 use Rattle.tables.specs.Packed.{packBy, picking}

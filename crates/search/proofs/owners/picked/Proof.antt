@@ -1,5 +1,4 @@
 -- `search::owners::picked` meets its contract. Assumes nothing.
-use borrow.Author.Needs.{needs}
 use Rattle.search.proofs.owners.picked.Statement.{statement}
 use Rattle.search.proofs.owners.picked.Tie as tie
 use native.Mathlib.Omega.{arith}

@@ -32,8 +32,8 @@ enum-known-a-3 c = search needs
 fill-requires-4 : tie.Need-fill-requires-4
 fill-requires-4 c κs = search needs
 
-enum-told : tie.Need-enum-told
-enum-told c = search needs
+enum-known-a-4 : tie.Need-enum-known-a-4
+enum-known-a-4 c = search needs
 
 fill-requires-5 : tie.Need-fill-requires-5
 fill-requires-5 c κs = search needs
@@ -60,7 +60,7 @@ same-length-5 : tie.Need-same-length-5
 same-length-5 c = search needs
 
 returns-5 : tie.Need-returns-5
-returns-5 c = λ x h. ends-none _ _ _ refl x (rw (c .before .before .before .before .enum-told .given .1) at h) (c .before .before .fill5 .ensures)
+returns-5 c = λ x h. ends-none _ _ _ refl x _ (rw (c .before .before .before .before .before .a4 .given .1) at h) (c .before .before .fill5 .ensures)
 
 pub answer-to-spec : {M : Type 1} → statement M
 answer-to-spec =
@@ -75,7 +75,7 @@ answer-to-spec =
     fill-requires-3
     enum-known-a-3
     fill-requires-4
-    enum-told
+    enum-known-a-4
     fill-requires-5
     same-length-2
     returns-2

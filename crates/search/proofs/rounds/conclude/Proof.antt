@@ -31,7 +31,7 @@ deepen-requires c κs = let p = c .before .before .before .before .before .befor
     (p .0, p .1, rw (c .before .before .before .limit-in .ensures) at (c .before .before .if1 .left), p .2, value-is _ _ (sym (c .before .before .before .before .before .v .given .1) ∙ rw (c .before .before .before .before .before .before .before .before .before .patterns-in .ensures, c .before .before .before .before .before .before .before .before .variables-in .ensures) at (c .before .before .before .before .before .before .before .value-of .ensures)), p .3)
 
 returns-2 : tie.Need-returns-2
-returns-2 c = concluded-same (search-none _ _ _ _ _ (sym (c .enum-told .given .1) ∙ rw (c .before .before .before .before .patterns-in .ensures, c .before .before .before .variables-in .ensures) at (c .before .before .value-of .ensures))) (none-concludes _)
+returns-2 c = concluded-same (search-none _ _ _ _ _ (sym (c .enum-told .given .1) ∙ rw (c .before .before .before .before .patterns-in .ensures, c .before .before .before .variables-in .ensures) at (c .before .before .value-of .ensures))) (none-concludes _ _)
 
 same-length : tie.Need-same-length
 same-length c = search needs

@@ -6,8 +6,9 @@ use mathlib.Core.Path.{refl}
 use native.Mathlib.Omega.{arith}
 use lib.Dec.{leb, leb→le}
 use Rattle.planning.proofs.Test.{not-T-false}
+use Rattle.task_record.proofs.Sixteens.{zeros}
 use Rattle.tables.specs.Sets.{setsFilled}
-use Rattle.tables.proofs.SetsFilled.{filled-as-defined, zeros}
+use Rattle.tables.proofs.SetsFilled.{filled-as-defined}
 
 returns : tie.Need-returns
 unfolding setsFilled

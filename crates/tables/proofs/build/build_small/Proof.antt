@@ -29,19 +29,22 @@ slice-aggregate-start c = search needs
 start-requires : tie.Need-start-requires
 start-requires c κs = search needs
 
-slice-aggregate-settle : tie.Need-slice-aggregate-settle
-slice-aggregate-settle c = search needs
+few-requires : tie.Need-few-requires
+few-requires c κs = search needs
 
-settle-requires : tie.Need-settle-requires
-settle-requires c κs = search needs
+slice-aggregate-settles : tie.Need-slice-aggregate-settles
+slice-aggregate-settles c = search needs
+
+settles-requires : tie.Need-settles-requires
+settles-requires c κs = search needs
 
 same-length : tie.Need-same-length
 same-length c = search needs
 
 returns : tie.Need-returns
 unfolding digitBy
-returns c = let a = c .before .before .before .before .before .before .before .before .before .before .before .before .before .before .before .before .before .before .before in
-    parts-settled (a .args .task .now) (a .args .actions) (a .args .n) (c .before .before .before .before .before .before .before .before .before .before .before .before .pack .result) (a .args .sizes) (a .args .t5) (c .before .before .before .before .before .before .before .before .before .before .before .before .before .before .weights-of .result) _ _ (c .before .before .before .before .before .before .before .before .before .before .before .before .pack .ensures) (c .before .before .before .before .before .before .before .before .before .before .before .before .before .before .weights-of .ensures) (c .before .before .before .before .before .before .before .before .before .before .before .before .before .before .before .before .fill-states .ensures) _ (rw (a .pre .2) at (c .before .before .before .before .before .before .before .before .start .ensures)) (c .before .before .settle .ensures)
+returns c u = let a = c .before .before .before .before .before .before .before .before .before .before .before .before .before .before .before .before .before .before .before .before in
+    parts-settled (a .args .task .now) (a .args .actions) (a .args .n) (c .before .before .before .before .before .before .before .before .before .before .before .before .before .pack .result) (a .args .sizes) (a .args .t5) (c .before .before .before .before .before .before .before .before .before .before .before .before .before .before .before .weights-of .result) _ _ (c .before .before .before .before .before .before .before .before .before .before .before .before .before .pack .ensures) (c .before .before .before .before .before .before .before .before .before .before .before .before .before .before .before .weights-of .ensures) (c .before .before .before .before .before .before .before .before .before .before .before .before .before .before .before .before .before .fill-states .ensures) _ (rw (a .pre .2) at (c .before .before .before .before .before .before .before .before .before .start .ensures)) (c .before .before .settles .ensures u)
 
 pub build-small-spec : {M : Type 1} → statement M
 build-small-spec =
@@ -55,7 +58,8 @@ build-small-spec =
     lively-requires
     slice-aggregate-start
     start-requires
-    slice-aggregate-settle
-    settle-requires
+    few-requires
+    slice-aggregate-settles
+    settles-requires
     same-length
     returns)

@@ -2,7 +2,7 @@
 use Rattle.tables.proofs.build.build_within.Statement.{statement}
 use Rattle.tables.proofs.build.build_within.Tie as tie
 use borrow.Author.Needs.{needs}
-use mathlib.Core.Path.{_≡_, _∙_}
+use mathlib.Core.Path.{_∙_}
 use native.Mathlib.Omega.{arith}
 use Rattle.tables.specs.Packed.{digitBy}
 use Rattle.tables.proofs.Building.{parts-build, parts-indexed, indexed-as, lookable-as}

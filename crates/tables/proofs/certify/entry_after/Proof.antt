@@ -2,7 +2,7 @@
 use Rattle.tables.proofs.certify.entry_after.Statement.{statement}
 use Rattle.tables.proofs.certify.entry_after.Tie as tie
 use borrow.Author.Needs.{needs}
-use mathlib.Core.Path.{_≡_, sym, _∙_}
+use mathlib.Core.Path.{_∙_}
 use Rattle.tables.specs.Steps.{outcomeEntry}
 use Rattle.tables.proofs.Certifying.{guessed}
 

@@ -2,7 +2,6 @@
 use Rattle.tables.proofs.certify.is_certified.Statement.{statement}
 use Rattle.tables.proofs.certify.is_certified.Tie as tie
 use borrow.Author.Needs.{needs}
-use mathlib.Core.Path.{_≡_, refl, sym, _∙_}
 use Prim.Native.Nat.{_-_, _≤_}
 use native.Mathlib.Omega.{arith}
 use borrow.Author.Tests.{not-false}

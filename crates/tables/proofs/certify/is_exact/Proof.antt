@@ -2,7 +2,7 @@
 use Rattle.tables.proofs.certify.is_exact.Statement.{statement}
 use Rattle.tables.proofs.certify.is_exact.Tie as tie
 use borrow.Author.Needs.{needs}
-use mathlib.Core.Path.{_≡_, refl, sym, _∙_}
+use mathlib.Core.Path.{sym, _∙_}
 use native.Mathlib.Omega.{arith}
 use borrow.Author.Tests.{eqb-true}
 use Rattle.tables.proofs.Certifying.{counted, exact-goal, exact-said}

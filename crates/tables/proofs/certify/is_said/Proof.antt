@@ -2,8 +2,8 @@
 use Rattle.tables.proofs.certify.is_said.Statement.{statement}
 use Rattle.tables.proofs.certify.is_said.Tie as tie
 use borrow.Author.Needs.{needs}
-use mathlib.Core.Path.{_≡_, refl, sym, _∙_}
-use mathlib.Core.Logic.{_⊎_, ⊎-elim, inl, inr}
+use mathlib.Core.Path.{sym, _∙_}
+use mathlib.Core.Logic.{⊎-elim, inl, inr}
 use native.Mathlib.Omega.{arith}
 use Rattle.tables.specs.Steps.{space}
 use Rattle.tables.proofs.Certifying.{Judging, judging-start, judged-known, judging-next, judging-hit, judging-end, set-falls}

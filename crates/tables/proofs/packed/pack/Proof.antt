@@ -2,7 +2,7 @@
 use Rattle.tables.proofs.packed.pack.Statement.{statement}
 use Rattle.tables.proofs.packed.pack.Tie as tie
 use mathlib.Core.Path.{_≡_, sym}
-use Prim.Native.Nat.{_-_, _≤_}
+use Prim.Native.Nat.{_≤_}
 use native.Mathlib.Omega.{arith}
 use borrow.Author.Needs.{needs}
 use lib.ListN.{length, drop}

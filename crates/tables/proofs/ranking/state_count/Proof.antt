@@ -1,13 +1,11 @@
 -- `tables::ranking::state_count` meets its contract. Assumes nothing.
 use Rattle.tables.proofs.ranking.state_count.Statement.{statement}
 use Rattle.tables.proofs.ranking.state_count.Tie as tie
-use mathlib.Core.Path.{_≡_, refl}
+use mathlib.Core.Path.{_≡_}
 use Prim.Native.Nat.{_-_}
 use native.Mathlib.Omega.{arith}
 use borrow.Author.Needs.{needs}
 use lib.ListN.{length}
-use Rattle.planning.specs.Table.{stateCount}
-use Rattle.tables.specs.Steps.{weightsFrom}
 use Rattle.tables.proofs.Spacing.{Weighed, weighed-start, weighed-step, weighed-end, weighed-small}
 
 abbrev Inv-loop : tie.InvT-loop

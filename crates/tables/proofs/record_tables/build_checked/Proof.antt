@@ -3,8 +3,8 @@ use borrow.Author.Needs.{needs}
 use Rattle.tables.proofs.record_tables.build_checked.Statement.{statement}
 use Rattle.tables.proofs.record_tables.build_checked.Tie as tie
 use mathlib.Core.Path.{sym, _∙_}
+use Rattle.task_record.proofs.Sixteens.{zeros}
 use Rattle.tables.proofs.TableChain.{none-to-build}
-use Rattle.tables.proofs.SetsFilled.{zeros}
 
 pattern-count-requires : tie.Need-pattern-count-requires
 pattern-count-requires c κs = search needs

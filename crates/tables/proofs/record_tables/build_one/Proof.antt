@@ -5,14 +5,13 @@ use Rattle.tables.proofs.record_tables.build_one.Tie as tie
 use mathlib.Core.Path.{_≡_, sym, ap, ap₂, _∙_}
 use native.Mathlib.Omega.{arith}
 use lib.ListN.{take}
-use lib.Seq.{length-take-le}
 use Rattle.planning.specs.Table.{stateCount}
 use Rattle.task_record.specs.Cells.{stateCells}
 use Rattle.task_record.specs.Layout.{atPattern}
 use Rattle.task_record.specs.Numbers.{variableCount, actionCount}
 use Rattle.task_record.specs.TaskOf.{cellsAt, taskOf}
 use Rattle.task_record.proofs.Cellwise.{state-cells-whole}
-use Rattle.patterns.proofs.Sizes.{variables-few, sizes-few, sizes-taken, sizes-positive, pattern-whole}
+use Rattle.patterns.proofs.Sizes.{sizes-taken, pattern-whole}
 use Rattle.tables.proofs.SoundPacked.{sound-readable}
 use Rattle.tables.proofs.Building.{sound-lookable}
 use Rattle.tables.proofs.TableChain.{pattern-sized, built-is-table, part-back, part-length}

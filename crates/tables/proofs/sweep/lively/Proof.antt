@@ -2,13 +2,10 @@
 use Rattle.tables.proofs.sweep.lively.Statement.{statement}
 use Rattle.tables.proofs.sweep.lively.Tie as tie
 use borrow.Author.Needs.{needs}
-use mathlib.Core.Path.{_≡_, refl, sym, ap, _∙_}
-use mathlib.Core.Bool.{Bool, not, cond}
-use Prim.Native.Nat.{ℕ, _-_, _≤_, _<_, _^_}
+use mathlib.Core.Bool.{Bool, not}
+use Prim.Native.Nat.{ℕ, _-_, _≤_}
 use native.Mathlib.Omega.{arith}
-use lib.Bits.{bitOr}
 use Rattle.tables.specs.Steps.{idles}
-use Rattle.tables.specs.Sets.{setFrom}
 use Rattle.tables.proofs.Certifying.{Gathered, gathered-none, gathered-next, gathered-all}
 
 abbrev Inv-loop : tie.InvT-loop

@@ -1,5 +1,5 @@
 -- `words_of`: plain cells by their digits, others cell by cell. Assumes nothing.
-use mathlib.Core.Path.{_≡_, sym, _∙_}
+use mathlib.Core.Path.{sym, _∙_}
 use Prim.Native.Nat.{_+_, _*_}
 use borrow.Author.Needs.{needs}
 use Rattle.tables.proofs.Squeezing.{plain-words}

@@ -1,6 +1,5 @@
 -- `action_fault`: the used cells passed, moved up by 1, are at most the highest, and the others at least what they have in common.
 -- Assumes nothing.
-use mathlib.Core.Path.{_≡_}
 use Prim.Native.Nat.{ℕ, _+_, _-_, _*_, _%_, _≤_, _<_}
 use native.Mathlib.Omega.{arith}
 use lib.Bits.{bitAnd, and-le-l, and-le-r}

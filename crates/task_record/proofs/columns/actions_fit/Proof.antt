@@ -1,9 +1,9 @@
 -- `actions_fit`: the scan of the actions passed found nothing. Assumes nothing.
 use mathlib.Core.Path.{_≡_, sym, _∙_}
-use Prim.Native.Nat.{ℕ, _+_, _-_, _*_, _≤_, _<_}
+use Prim.Native.Nat.{ℕ, _+_, _-_, _*_, _≤_}
 use native.Mathlib.Omega.{arith}
-use borrow.Author.Tests.{not-false, not-true}
-use Rattle.task_record.specs.Layout.{atAction, actionSize, recordSize}
+use borrow.Author.Tests.{not-false}
+use Rattle.task_record.specs.Layout.{atAction, actionSize}
 use Rattle.task_record.specs.Scan.{firstFrom}
 use Rattle.task_record.specs.Record.{cellOk}
 use Rattle.task_record.proofs.Scanning.{first-on, first-none-left}

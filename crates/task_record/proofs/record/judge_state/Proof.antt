@@ -1,11 +1,7 @@
 -- `judge_state`: the length, then all cells at once, then the lowest bad cell. Assumes nothing.
-use mathlib.Core.Path.{_≡_, ap, sym, _∙_}
-use Prim.Native.Nat.{ℕ, _-_}
+use mathlib.Core.Path.{_≡_}
 use native.Mathlib.Omega.{arith}
-use lib.ListN.{getD}
 use borrow.Author.Tests.{lt-ltb, le-ltb, eq-eqb, ne-eqb}
-use Rattle.task_record.specs.Numbers.{sizeOf}
-use Rattle.task_record.specs.Window.{fits}
 use Rattle.task_record.specs.State.{judgeState, firstBadValue}
 use Rattle.task_record.proofs.Soundness.{sound-length, sound-sizes}
 use Rattle.task_record.proofs.ColumnLaws.{state-passes}

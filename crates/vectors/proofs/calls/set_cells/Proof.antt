@@ -2,7 +2,7 @@
 use borrow.Author.Needs.{needs}
 use Rattle.vectors.proofs.calls.set_cells.Statement.{statement}
 use Rattle.vectors.proofs.calls.set_cells.Tie as tie
-use Prim.Native.Nat.{ℕ, _-_, _≤_}
+use Prim.Native.Nat.{_-_, _≤_}
 use mathlib.Core.Path.{_≡_}
 use lib.ListN.{length}
 

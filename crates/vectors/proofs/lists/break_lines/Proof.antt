@@ -2,7 +2,7 @@
 use borrow.Author.Needs.{needs}
 use Rattle.vectors.proofs.lists.break_lines.Statement.{statement}
 use Rattle.vectors.proofs.lists.break_lines.Tie as tie
-use Prim.Native.Nat.{ℕ, _-_}
+use Prim.Native.Nat.{_-_}
 use mathlib.Core.Path.{_≡_}
 use lib.ListN.{length}
 

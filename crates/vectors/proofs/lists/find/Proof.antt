@@ -2,7 +2,7 @@
 use borrow.Author.Needs.{needs}
 use Rattle.vectors.proofs.lists.find.Statement.{statement}
 use Rattle.vectors.proofs.lists.find.Tie as tie
-use Prim.Native.Nat.{ℕ, _-_, _≤_}
+use Prim.Native.Nat.{_-_, _≤_}
 use lib.ListN.{length}
 
 abbrev Inv-loop : tie.InvT-loop
