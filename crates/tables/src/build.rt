@@ -64,8 +64,8 @@ fn make(
     finish(task, mask, weights, states, actions, live, bytes, entries);
 }
 
-// How many passes a small table gets. One of n states is settled by n at most, and most by four; a deep one of more states is left to the
-// worklist.
+// How many passes a small table gets. One of n states is settled by n at most; the small tables of the benchmark were by four, but for two that
+// are deep. What five do not settle is left to the worklist.
 fn few(states: usize) -> usize {
     if states <= 16 {
         return 16;
