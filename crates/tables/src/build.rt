@@ -66,7 +66,9 @@ fn make(
 
 // How many passes a small table gets. One of n states is settled by n at most. Of the benchmark's 58 small tables four passes settle 55, and two
 // that are deep take 33: what five do not settle is left to the worklist.
-fn few(states: usize) -> usize {
+fn few(states: usize) -> usize
+    ensures { λ r. ⌜ r ≤ 16 ⌝ }
+{
     if states <= 16 {
         return 16;
     }
