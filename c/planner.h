@@ -139,17 +139,20 @@ struct planner_answer planner_additive(const uint8_t *record, size_t record_leng
 struct planner_answer planner_value(const uint8_t *record, size_t record_length, const uint8_t *state, size_t state_length,
                                     const uint16_t *tables, size_t tables_length);
 
-/* Searches a cheapest strong plan from the record's start, up to its limit, with its budget of examinations. Refusals 5 to 9 and 11.
+/* Searches a cheapest strong plan from the record's start, up to its limit and its budget. Refusals 5 to 9 and 11.
  *
  * tables  as for planner_build_tables: the search builds them anew, and what they held before does not matter
  * plan    the buffer for the plan
  *
- * The count is that of a search that examines every state anew; what is known from an earlier examination is counted as if it were made
- * again.
+ * The count is the number of examinations of the search as it is defined, in which a state that is met again is examined again. It is not
+ * a measure of what the call did: what is known from an earlier examination is counted and not examined again. The budget is a bound on
+ * this count.
  *
- * kind 0  found: first is the cost, second the count of examinations, third the plan's length. No strong plan from the start costs less
+ * kind 0  found: first is the cost, second the count, third the plan's length. No strong plan from the start costs less, and
+ *         planner_check_plan passes the first bytes of plan, third of them, at the record's start, with this cost and length
  * kind 1  over: second is the count. Every strong plan from the start costs more than the limit
- * kind 2  spent: first is the round in which the budget ran out, second the count. Every strong plan from the start costs at least first
+ * kind 2  spent: the count has reached the budget. first is the round in which it ended, second the count, which is the budget. Every
+ *         strong plan from the start costs at least first
  * kind 3  none: second is the count, 0. There is no strong plan from the start
  *
  * After an answer and after refusal 11 the tables are as planner_build_tables leaves them, and the buffer holds PLANNER_NO_BYTE

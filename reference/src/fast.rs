@@ -4,15 +4,15 @@
 
 mod bits;
 mod compiled;
-mod failures;
 mod layout;
 mod patterns;
 mod plan;
 mod record;
+mod results;
 mod search;
-mod successes;
 mod table;
 mod text;
+mod write;
 
 use crate::answer::{Answer, Refusal};
 use crate::planner::Planner;

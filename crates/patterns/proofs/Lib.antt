@@ -1,4 +1,4 @@
--- The laws about the definitions of specs/: verdict, room and value.
+-- The laws about the definitions of specs/: verdict, room and value, and what is answered in numbers.
 pub mod Weights
 pub mod Affected
 pub mod Room
@@ -13,3 +13,4 @@ pub mod Built
 pub mod Gathering
 pub mod Named
 pub mod Verdicts
+pub mod ByLines

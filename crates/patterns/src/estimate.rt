@@ -2,6 +2,7 @@
 ghost use mathlib.Core.Path.{_≡_};
 ghost use Rattle.task_record.specs.Record.{Sound};
 ghost use Rattle.patterns.specs.Estimate.{judgeEstimate, estimateCheck};
+ghost use Rattle.patterns.specs.Answers.{estimateNumbers, estimateByLines};
 use crate::space::TableCheck;
 use crate::space::judge_tables;
 use crate::verdict::Additivity;
@@ -29,9 +30,10 @@ pub(crate) fn judge_estimate(rec: &[u8], lent: usize) -> EstimateCheck
     }
 }
 
-// Whether the patterns are additive and tables of `lent` entries can hold their tables.
+// Whether the patterns are additive and tables of `lent` entries can hold their tables. No entry of the product: the search asks it.
 pub fn check_estimate(rec: &[u8], lent: usize) -> EstimateCheck
     ensures { λ r. ⌜ r ≡ estimateCheck (now (rec .entry)) lent ⌝ }
+    ensures numbers { λ r. ⌜ estimateNumbers r ≡ estimateByLines (now (rec .entry)) lent ⌝ }
 {
     match check_record(rec) {
         RecordCheck::Refused(number, second) => EstimateCheck::Refused(number, second),

@@ -5,6 +5,7 @@ ghost use lib.ListN.{replicate};
 ghost use Rattle.task_record.specs.Record.{Sound};
 ghost use Rattle.task_record.specs.TaskOf.{taskOf, patternsOf};
 ghost use Rattle.patterns.specs.Space.{allSizes, judgeTables, tableCheck};
+ghost use Rattle.patterns.specs.Answers.{tableNumbers, tablesByLines};
 use crate::places::state_count;
 use crate::places::wide;
 use task_record::cells::pattern_cells;
@@ -27,7 +28,7 @@ pub(crate) fn sixteen_zeros() -> [u8; 16]
     [0; 16]
 }
 
-// The sizes of sixteen variables, 0 for those that the task does not have.
+// The sixteen cells of the sizes; past the end of the slice a cell is 0. No entry of the product: it is for the build, and checks nothing.
 pub fn sizes_of(rec: &[u8]) -> [u8; 16]
     ensures { λ r. ⌜ r ≡ allSizes (now (rec .entry)) ⌝ }
 {
@@ -66,9 +67,10 @@ pub(crate) fn judge_tables(rec: &[u8], lent: usize) -> TableCheck
     judge_room(rec, &rec[AT_SIZES..end], lent)
 }
 
-// Whether tables of `lent` entries can hold the tables of the task.
+// Whether tables of `lent` entries can hold the tables of the task. No entry of the product: the build asks it.
 pub fn check_tables(rec: &[u8], lent: usize) -> TableCheck
     ensures { λ r. ⌜ r ≡ tableCheck (now (rec .entry)) lent ⌝ }
+    ensures numbers { λ r. ⌜ tableNumbers r ≡ tablesByLines (now (rec .entry)) lent ⌝ }
 {
     match check_record(rec) {
         RecordCheck::Refused(number, second) => TableCheck::Refused(number, second),

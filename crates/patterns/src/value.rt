@@ -13,6 +13,7 @@ ghost use Rattle.task_record.specs.declared.record.StateCheck.the-variants.{Goo
 ghost use Rattle.patterns.specs.Space.{entriesNeeded};
 ghost use Rattle.patterns.specs.Estimate.{judgeEstimate};
 ghost use Rattle.patterns.specs.Value.{valueOf, afterEstimate, readValue, stateValue};
+ghost use Rattle.patterns.specs.Answers.{valueNumbers, valueByLines};
 ghost use Rattle.patterns.specs.declared.value.StateValue.the-variants.{Refused};
 ghost use Rattle.patterns.specs.declared.estimate.EstimateCheck.the-variants.{Ready};
 use crate::estimate::EstimateCheck;
@@ -95,6 +96,7 @@ fn refuse_value(rec: &[u8], lent: usize, number: u64, second: u64) -> StateValue
 // The value that the tables say of the state. The check of the state tests the record on its way, so that it is read once.
 pub fn state_value(rec: &[u8], state: &[u8], tables: &[u16]) -> StateValue
     ensures { λ r. ⌜ r ≡ stateValue (now (rec .entry)) (now (state .entry)) (now (tables .entry)) ⌝ }
+    ensures numbers { λ r. ⌜ valueNumbers r ≡ valueByLines (now (rec .entry)) (now (state .entry)) (now (tables .entry)) ⌝ }
 {
     match check_state(rec, state) {
         StateCheck::Good => judge_value(rec, state, tables),

@@ -12,6 +12,7 @@ ghost use Rattle.task_record.specs.Window.{Sixteen};
 ghost use Rattle.task_record.specs.TaskOf.{cellsAt, actionOf, taskOf, patternsOf};
 ghost use Rattle.patterns.specs.Sets.{setFrom, memberSet, Lone, Covers};
 ghost use Rattle.patterns.specs.Additivity.{additivityOf, additivity};
+ghost use Rattle.patterns.specs.Answers.{additivityNumbers, additivityByLines};
 use crate::places::wide;
 use crate::space::sixteen_zeros;
 use task_record::cells::action_count;
@@ -186,6 +187,7 @@ pub(crate) fn decide(rec: &[u8]) -> Additivity
 // Whether the task's patterns are additive.
 pub fn additive(rec: &[u8]) -> Additivity
     ensures { λ r. ⌜ r ≡ additivity (now (rec .entry)) ⌝ }
+    ensures numbers { λ r. ⌜ additivityNumbers r ≡ additivityByLines (now (rec .entry)) ⌝ }
 {
     match check_record(rec) {
         RecordCheck::Refused(number, second) => Additivity::Refused(number, second),

@@ -46,7 +46,7 @@ module _ {S : Type 0} (Y : System S) (most : ℕ) where
       (λ a. let h = rw (e, a) at h in let z : 13 ≡ n = cc in omega arith))
 
 -- A refusal of record or state: 5, 6 or 10.
-record-refused : (r : List ℕ) (n k : ℕ) → recordCheck r ≡ of-record.Refused n k → 5 ≤ n
+pub record-refused : (r : List ℕ) (n k : ℕ) → recordCheck r ≡ of-record.Refused n k → 5 ≤ n
 unfolding recordCheck
 record-refused r n k h = by-test (ltb (length r) recordSize)
     (λ e. let h = rw e at h in let z : 5 ≡ n = cc in omega arith)

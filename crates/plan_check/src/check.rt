@@ -6,6 +6,7 @@ ghost use Rattle.planning.specs.PlanCheck.{checkPlan, mostMoves};
 ghost use Rattle.task_record.specs.Record.{Sound};
 ghost use Rattle.plan_check.specs.Tower.{tower, valuesOf};
 ghost use Rattle.plan_check.specs.Check.{answerOf, endOf, planCheck};
+ghost use Rattle.plan_check.specs.ForC.{numbersOf, planByLines};
 use crate::bytes::refusal;
 use crate::cells::cells_at;
 use crate::frames::begun;
@@ -87,6 +88,7 @@ fn check_bytes(rec: &[u8], plan: &[u8], start: [u8; 16]) -> PlanCheck
 // Whether `plan` is a strong plan of at most 32 moves depth from `state` in the task that `rec` holds.
 pub fn check_plan(rec: &[u8], state: &[u8], plan: &[u8]) -> PlanCheck
     ensures { λ r. ⌜ r ≡ planCheck (now (rec .entry)) (now (state .entry)) (now (plan .entry)) ⌝ }
+    ensures numbers { λ r. ⌜ numbersOf r ≡ planByLines (now (rec .entry)) (now (state .entry)) (now (plan .entry)) ⌝ }
 {
     match check_state(rec, state) {
         StateCheck::Refused(number, second) => PlanCheck::Refused(number, second),

@@ -10,7 +10,7 @@ use Rattle.planning.specs.Finite.{choose}
 use Rattle.planning.specs.Extended.{ℕ∞, fin, inf, _≤?_}
 use Rattle.planning.specs.System.{System, applies}
 use Rattle.planning.specs.Plan.{Plan, arrived, act, done, _then_}
-use Rattle.planning.specs.Search.{Result, succeeded, failed, stopped, andThen, orElse, examineOutcomes, tryActions, tryAction, examine, examineWith, examination, Answer, found, over, spent, none, endRound, rounds, searchFrom, search}
+use Rattle.planning.specs.Search.{Result, succeeded, failed, stopped, andThen, orElse, examineOutcomes, tryActions, tryAction, examine, examineWith, examination, Answer, found, over, spent, none, answerCount, endRound, rounds, searchFrom, search}
 use Rattle.planning.proofs.Test.{choose-true, not-equal, by-test, split-le}
 
 abbrev pub countOf : {A : Type 0} → Result A → ℕ
@@ -145,12 +145,6 @@ module _ {S : Type 0} (Y : System S) (h : S → ℕ∞) (b b′ : ℕ) (le : b �
       (λ k. cut-within (examineWith Y h b′ f) (examineWith Y h b f) (count-grows Y h b′ f) (examination-cut f) d s c k)
 
 -- The same for the whole search.
-abbrev pub answerCount : Answer → ℕ
-answerCount (found p d c) = c
-answerCount (over c) = c
-answerCount (spent d c) = c
-answerCount (none c) = c
-
 pub data CutAnswer (b : ℕ) : Answer → Answer → Type 0 where
   kept : (a : Answer) → answerCount a ≤ b → CutAnswer b a a
   cut-off : (a : Answer) (d : ℕ) → b < answerCount a → CutAnswer b a (spent d b)

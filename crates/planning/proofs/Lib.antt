@@ -12,6 +12,7 @@ pub mod Search
 pub mod Fuel
 pub mod Budget
 pub mod Shift
+pub mod Examinations
 pub mod Simulation
 pub mod PlanBytes
 pub mod PlanCheck

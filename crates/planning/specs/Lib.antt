@@ -8,6 +8,7 @@ pub mod Task
 pub mod Pattern
 pub mod Table
 pub mod Search
+pub mod Examinations
 pub mod PlanCheck
 pub mod Numbers
 pub mod Sample

@@ -1,4 +1,5 @@
--- The sample tower of document 01 and its starred examples, each with the reply that the document gives. Assumes nothing.
+-- The sample tower of document 01 and its starred examples, each with the reply that the document gives; at the end what its search
+-- examines. Assumes nothing.
 use mathlib.Core.List.{List, [], _∷_}
 use Prim.Native.Nat.{ℕ}
 use Rattle.planning.specs.Extended.{ℕ∞, fin}
@@ -7,6 +8,7 @@ use Rattle.planning.specs.Task.{Task, system}
 use Rattle.planning.specs.Pattern.{Verdict, additive, conflict, verdict}
 use Rattle.planning.specs.Table.{tables, estimate}
 use Rattle.planning.specs.Search.{Answer, found, over, spent, none, answer}
+use Rattle.planning.specs.Examinations.{Examined}
 use Rattle.planning.specs.PlanCheck.{Checked, passed, refused, checkPlan, mostMoves}
 
 -- "Variable 0 is the pallet (store, lift, bay, edge), 1 the door (shut, open)." The last outcome of action 1 and the outcome of action 3
@@ -106,3 +108,16 @@ starred =
     is (checkOf (0 ∷ 1 ∷ 3 ∷ 254 ∷ 2 ∷ 3 ∷ 254 ∷ 254 ∷ [])) (refusedReply 16 7) ∷
     -- The plan itself passes, with its cost and length.
     is (checkOf (0 ∷ 1 ∷ 3 ∷ 254 ∷ 2 ∷ 3 ∷ 254 ∷ [])) (passedReply 4 7) ∷ []
+
+abbrev at : ℕ → ℕ → ℕ → Examined (List ℕ)
+at pallet door d = record { state = pallet ∷ door ∷ []; depth = d }
+
+-- The seven examinations that "count=7" counts: pallet and door, with the depth. The lift (1, 0) may end at the bay (2, 0) or at the edge
+-- (3, 0), and from both the door is opened at the bay.
+unfoldable pub sampleExaminations : List (Examined (List ℕ))
+sampleExaminations = at 0 0 4 ∷ at 1 0 3 ∷ at 2 0 2 ∷ at 2 1 1 ∷ at 3 0 2 ∷ at 2 0 1 ∷ at 2 1 0 ∷ []
+
+-- Without patterns every value is 0. With limit 1 there are two rounds, of depth 0 and of depth 1; the second tries actions 0 and 3, and
+-- both fail.
+unfoldable pub blindExaminations : List (Examined (List ℕ))
+blindExaminations = at 0 0 0 ∷ at 0 0 1 ∷ at 1 0 0 ∷ at 0 1 0 ∷ []

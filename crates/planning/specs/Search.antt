@@ -70,6 +70,13 @@ pub data Answer : Type 0 where
   spent : ℕ → ℕ → Answer
   none : ℕ → Answer
 
+-- The count that an answer carries.
+abbrev pub answerCount : Answer → ℕ
+answerCount (found p d c) = c
+answerCount (over c) = c
+answerCount (spent d c) = c
+answerCount (none c) = c
+
 unfoldable pub endRound : ℕ → Result Plan → (ℕ → Answer) → Answer
 endRound d (succeeded p c) next = found p d c
 endRound d (failed c) next = next c

@@ -5,6 +5,7 @@ ghost use lib.ListN.{length};
 ghost use Rattle.task_record.specs.Layout.{recordSize};
 ghost use Rattle.reader.specs.Text.{linesOf};
 ghost use Rattle.reader.specs.Grammar.{readFrom, wholeOf, readAnswer, readLeaves};
+ghost use Rattle.reader.specs.Answers.{readNumbers, textByLines};
 use crate::blank::clear_record;
 use crate::grammar::Taken;
 use crate::grammar::take_line;
@@ -72,6 +73,7 @@ fn read_slowly(text: &[u8], local: &mut [u8], record: &mut [u8]) -> Reading
 // Reads a text into a record: at once where every line is as most texts write it, else line by line from the start, which tells what is wrong.
 pub fn read_text(text: &[u8], record: &mut [u8]) -> Reading
     ensures { λ r. ⌜ (r ≡ readAnswer (now (text .entry)) (now («record» .entry))) × (now («record» .exit) ≡ readLeaves (now (text .entry)) (now («record» .entry))) ⌝ }
+    ensures numbers { λ r. ⌜ readNumbers r ≡ textByLines (now (text .entry)) (now («record» .entry)) ⌝ }
 {
     if record.len() < RECORD_SIZE {
         return Reading::Refused(5, record.len() as u64);

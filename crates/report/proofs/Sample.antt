@@ -22,12 +22,13 @@ use Rattle.reader.proofs.ReadSound.{read-sound}
 use Rattle.patterns.specs.Additivity.{additivityOf}
 use Rattle.patterns.specs.Estimate.{afterVerdict, afterTables, afterRecord, judgeEstimate, estimateCheck}
 use Rattle.patterns.specs.Space.{firstLarge, entriesNeeded, judgeTables}
+use Rattle.tables.specs.Sample.{tower}
 use Rattle.search.specs.Entry.{taskAnswer, searchOf, afterEstimate, searchAnswer}
 use Rattle.report.specs.Decimal.{digitsOf, decimal}
 use Rattle.report.specs.Lines as printing
 use Rattle.report.specs.Report.{refusalLines, valueLine, foundLines, spentLines, overLines, noneLines, answerLines, recordLines, printed}
 use Rattle.report.specs.Report as report
-use Rattle.report.specs.Samples.{tableEntries, planSize, tower, Sample, samples}
+use Rattle.report.specs.Samples.{tableEntries, planSize, Sample, samples}
 
 -- The lines of a record that is known to be sound.
 unfoldable soundLines : ℕ → ℕ → Whole → List ℕ

@@ -1,7 +1,8 @@
 -- The sample tower of document 01 and its examples, each text beside the lines that the document gives. Assumes nothing.
-use mathlib.Core.List.{List, [], _∷_, _++_}
+use mathlib.Core.List.{List, [], _∷_}
 use Prim.Native.Nat.{ℕ}
 use Rattle.reader.specs.Bytes.{bytes}
+use Rattle.tables.specs.Sample.{tower}
 
 -- "lends a plan of 65,536 bytes and 16,384 table entries"
 abbrev pub tableEntries : ℕ
@@ -9,14 +10,6 @@ tableEntries = 16384
 
 abbrev pub planSize : ℕ
 planSize = 65536
-
--- "The text, with / for a line break": the second outcome of move 1, the outcome of move 3, limit and budget are parameters, since the
--- examples change them.
-unfoldable pub tower : List ℕ → List ℕ → List ℕ → List ℕ → List ℕ
-tower slip door limit budget =
-    bytes "vars=2\nsize=4\nsize=2\nmoves=4\nneed=0:0\noutcomes=1\neff=0:1\nneed=0:1\noutcomes=2\neff=0:2\n" ++
-    (slip ++ (bytes "\nneed=0:3\noutcomes=1\neff=0:2\nneed=1:0\noutcomes=1\n" ++
-    (door ++ (bytes "\ngoal=0:2,1:1\nstart=0,0\npatterns=2\npattern=0\npattern=1\n" ++ (limit ++ (bytes "\n" ++ budget))))))
 
 pub record Sample : Type 0 where
   pub text : List ℕ

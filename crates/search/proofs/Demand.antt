@@ -28,7 +28,7 @@ use Rattle.tables.specs.RecordTables.{tablesBuilt, tablesPrepared}
 use Rattle.patterns.specs.Value.{valueOf, valuesOf, stateValue}
 use Rattle.patterns.specs.declared.estimate.EstimateCheck.the-variants as of-estimate
 use Rattle.patterns.specs.declared.value.StateValue.the-variants as of-value
-use Rattle.tables.proofs.BuiltTables.{prepared-as-built, value-after-build, finite-after-build, infinite-after-build}
+use Rattle.tables.proofs.BuiltTables.{buildable-built, prepared-as-built, value-after-build, finite-after-build, infinite-after-build}
 use Rattle.patterns.proofs.Reading.{actions-length}
 use Rattle.patterns.proofs.Refusals.{checked-ready}
 use Rattle.search.specs.Answer.{bufferOf}
@@ -36,7 +36,7 @@ use Rattle.search.specs.Entry.{taskAnswer, searchOf, searchAnswer, planA
 use Rattle.search.specs.Optimal.{Optimal}
 use Rattle.search.specs.declared.entry.SearchAnswer.the-variants as outcome
 use Rattle.search.proofs.Answered.{is-found, is-over, is-spent, is-none, answered-means, answer-found, answer-over, answer-spent, answer-none, buffer-found}
-use Rattle.search.proofs.Prepared.{search-ready, plan-ready, ready-additive, ready-when, fits-when}
+use Rattle.search.proofs.Prepared.{search-ready, plan-ready, ready-additive, ready-when}
 use Rattle.search.proofs.RecordSearch.{limit-right}
 
 -- The value call on tables that a build left, whatever they were lent with.
@@ -48,7 +48,7 @@ module _ (r tabs s : List ℕ) where
       stateValue r s (tablesBuilt r tabs) ≡ valueOf (estimate (taskOf r) (patternsOf r) (valuesOf r s))
   sums-as-defined good add small room =
       value-after-build r tabs s (entriesNeeded (taskOf r .sizes) (patternsOf r))
-      (fits-when r (length tabs) (checked-good r s good .0) small room) good add
+      (buildable-built r (length tabs) (record { sound = checked-good r s good .0; small = small; room = room })) good add
 
   -- "and for every state and every strong plan from it, whichever ending each move has, the summed estimate is at most that plan's cost."
   pub sum-at-most-cost : (v : ℕ) → stateValue r s (tablesBuilt r tabs) ≡ of-value.Finite v → (p : Plan) →

@@ -1,94 +1,80 @@
--- Laws of a memory of failures: an empty one says nothing, what it says may be gone by, a failure that was seen may be added, and the
--- successes beside it are a matter of their own. Assumes nothing.
-use mathlib.Core.Path.{_≡_, ap, _∙_}
+-- Laws of a memory of results: an empty one says nothing, what it says may be gone by, and a result that was seen may be added: it is true at
+-- every count. Assumes nothing.
+use mathlib.Core.Path.{_≡_, sym, ap, _∙_}
+use mathlib.Core.Logic.{_⊎_, inl, inr, ⊎-elim}
 use mathlib.Core.List.{List}
 use Prim.Native.Nat.{ℕ, _+_, _*_, _-_, _/_, _%_, _<_, _≤_}
 use native.Mathlib.Omega.{arith}
-use native.Mathlib.Decide.{decLt}
-use borrow.Author.Tests.{eqb-true, eqb-false}
-use lib.Dec.{eqb}
-use lib.ListN.{length, getD, set, replicate, length-set, List·getD-eq-default}
+use native.Mathlib.Decide.{ℕ-discrete}
+use lib.ListN.{length, getD, set, replicate, length-set, length-replicate}
 use lib.Seq.{getD-set-same, getD-set-other}
 use Rattle.planning.specs.Extended.{ℕ∞}
 use Rattle.planning.specs.Plan.{Plan}
 use Rattle.planning.specs.System.{System}
-use Rattle.planning.specs.Search.{Result, failed, examination}
-use Rattle.planning.proofs.Test.{by-test}
-use Rattle.planning.proofs.Shift.{failed-anywhere}
+use Rattle.planning.specs.Search.{Result, succeeded, failed, examination}
+use Rattle.planning.proofs.Shift.{failed-anywhere, succeeded-anywhere}
 use Rattle.task_record.proofs.Sixteens.{zeros}
-use Rattle.search.specs.Buffer.{Keeps}
-use Rattle.search.specs.Successes.{Dated, NoMore}
-use Rattle.search.specs.Memory.{stateIn, depthIn, madeIn, Remembers, Held, Noted}
-use Rattle.search.proofs.Noting.{nothing-dated, same-dated, same-said}
+use Rattle.search.specs.Examination.{planSize, planHead}
+use Rattle.search.specs.Memory.{Said, said, saidBy, resultWord, Says, Shown, Remembers, Noted}
 
--- The words after slot j was given a state and a second word.
-module _ (old : List ℕ) (j s w : ℕ) where
+-- Words that are 0 say nothing.
+pub nothing-remembered : (r : ℕ → ℕ → ℕ → Result Plan) (budget n : ℕ) → 2 ≤ n → Remembers r budget (replicate n 0)
+unfolding saidBy
+nothing-remembered r budget n l = record { long = omega (arith, length-replicate {A = ℕ} n 0); shown = λ w h. absurd (omega (arith, h .some, ap (λ (v : Said). v .made) (h .says), zeros n (2 * h .slot + 1))) }
+
+-- The word of a slot, taken apart.
+module _ (s d k n b : ℕ) (l : d < 256) (m : k < 1048576) (t : n < 1048576) (f : b < 256) where
+  word-said : saidBy s (resultWord d k n b) ≡ said s d k n b
+  unfolding saidBy resultWord
+  word-said = let w = d + 256 * k + 268435456 * n + 281474976710656 * b in
+      let p : w % 256 ≡ d = omega arith in
+      let q : w / 256 ≡ k + 1048576 * (n + 1048576 * b) = omega arith in
+      let u : (k + 1048576 * (n + 1048576 * b)) % 1048576 ≡ k = omega arith in
+      let v : w / 268435456 ≡ n + 1048576 * b = omega arith in
+      let x : (n + 1048576 * b) % 1048576 ≡ n = omega arith in
+      let y : w / 281474976710656 ≡ b = omega arith in
+      let z : b % 256 ≡ b = omega arith in
+      rw (p, q, u, v, x, y, z)
+
+-- Slot j is given a state and a word.
+module _ (old : List ℕ) (j s w : ℕ) (i : 2 * j + 1 < length old) where
   abbrev after : List ℕ
   after = set (set old (2 * j) s) (2 * j + 1) w
 
-  other-word : (n : ℕ) → (n ≡ 2 * j → ⊥) → (n ≡ 2 * j + 1 → ⊥) → getD after n 0 ≡ getD old n 0
-  other-word n a b = getD-set-other (set old (2 * j) s) (2 * j + 1) n w 0 b ∙ getD-set-other old (2 * j) n s 0 a
+  long-after : length after ≡ length old
+  long-after = simp length-set
 
-  after-long : length after ≡ length old
-  after-long = simp length-set
+  said-here : saidBy (getD after (2 * j) 0) (getD after (2 * j + 1) 0) ≡ saidBy s w
+  said-here = let a = getD-set-other (set old (2 * j) s) (2 * j + 1) (2 * j) w 0 (λ e. omega arith) ∙ getD-set-same old (2 * j) s 0 (omega arith) in
+      let b = getD-set-same (set old (2 * j) s) (2 * j + 1) w 0 (omega (arith, length-set old (2 * j) s)) in
+      rw (a, b)
 
-  own-state : 2 * j + 1 < length old → getD after (2 * j) 0 ≡ s
-  own-state h = getD-set-other (set old (2 * j) s) (2 * j + 1) (2 * j) w 0 (λ e. omega arith) ∙ getD-set-same old (2 * j) s 0 (omega arith)
+  said-elsewhere : (k : ℕ) → (k ≡ j → ⊥) → saidBy (getD after (2 * k) 0) (getD after (2 * k + 1) 0) ≡ saidBy (getD old (2 * k) 0) (getD old (2 * k + 1) 0)
+  said-elsewhere k n = let a = getD-set-other (set old (2 * j) s) (2 * j + 1) (2 * k) w 0 (λ e. omega arith) ∙ getD-set-other old (2 * j) (2 * k) s 0 (λ e. n (omega arith)) in
+      let b = getD-set-other (set old (2 * j) s) (2 * j + 1) (2 * k + 1) w 0 (λ e. n (omega arith)) ∙ getD-set-other old (2 * j) (2 * k + 1) s 0 (λ e. omega arith) in
+      rw (a, b)
 
-  own-word : 2 * j + 1 < length old → getD after (2 * j + 1) 0 ≡ w
-  own-word h = let n = length-set old (2 * j) s in getD-set-same (set old (2 * j) s) (2 * j + 1) w 0 (omega (arith, h, n))
+  said-before : (v : Said) (h : Says after v) → Dec (h .slot ≡ j) → Says old v ⊎ (v ≡ saidBy s w)
+  said-before v h (yes e) = inr (sym (h .says) ∙ ap (λ (k : ℕ). saidBy (getD after (2 * k) 0) (getD after (2 * k + 1) 0)) e ∙ said-here)
+  said-before v h (no e) = inl (record { slot = h .slot; inside = omega (arith, h .inside, long-after); says = sym (said-elsewhere (h .slot) e) ∙ h .says; some = h .some })
 
-  no-word : length old ≤ 2 * j + 1 → getD after (2 * j + 1) 0 ≡ 0
-  no-word h = let n = length-set old (2 * j) s in let m = length-set (set old (2 * j) s) (2 * j + 1) w in List·getD-eq-default after 0 (omega (arith, h, n, m))
+pub slot-noted : (old : List ℕ) (j s d k n b word : ℕ) → 2 * j + 1 < length old → d < 256 → k < 1048576 → n < 1048576 → b < 256 → word ≡ resultWord d k n b →
+    Noted old (set (set old (2 * j) s) (2 * j + 1) word) (said s d k n b)
+slot-noted old j s d k n b word l p q t f e = record {
+  long = long-after old j s word l;
+  besides = λ v h. rw (e, word-said s d k n b p q t f) at (said-before old j s word l v h (ℕ-discrete (h .slot) j));
+}
 
-module _ (r : ℕ → ℕ → ℕ → Result Plan) (budget : ℕ) where
-  -- Words that are 0 say nothing.
-  pub nothing-remembered : Remembers r budget (replicate 2433 0)
-  unfolding depthIn
-  nothing-remembered = record { dated = nothing-dated; fails = λ i c b l h. let e = zeros 2433 (2 * i + 1) in absurd (omega (arith, l, e)) }
+-- A memory stays true that was made to say something that is so.
+pub noted-remembers : (r : ℕ → ℕ → ℕ → Result Plan) (budget : ℕ) (old new : List ℕ) (w : Said) → Remembers r budget old → Noted old new w → Shown r budget w → Remembers r budget new
+noted-remembers r budget old new w m n h = record { long = omega (arith, n .long, m .long); shown = λ v t. ⊎-elim (λ a. m .shown v a) (λ e. rw e h) (n .besides v t) }
 
-  -- What some slot says may be gone by.
-  pub held-fails : (memory : List ℕ) (s d k : ℕ) → Remembers r budget memory → Held memory s d k → 1 ≤ d → (c : ℕ) → c + k ≤ budget → r d s c ≡ failed (c + k)
-  held-fails memory s d k m h l c b = rw (← h .state, ← h .depth, ← h .made) (m .fails (h .slot) c (h .inside) (omega (arith, l, h .depth)) (omega (arith, b, h .made)))
+-- An examination that ended at one count ends so at every count, after as many examinations.
+module _ (Y : System ℕ) (h : ℕ → ℕ∞) (budget d s count c : ℕ) (old new : List ℕ) (m : Remembers (examination Y h budget) budget old) (g : count ≤ c) where
+  pub failure-remembered : Noted old new (said s d (c - count) 0 0) → examination Y h budget d s count ≡ failed c → Remembers (examination Y h budget) budget new
+  failure-remembered n e = let z : c ≡ count + (c - count) = omega arith in
+      noted-remembers (examination Y h budget) budget old new _ m n (record { fails = λ q c′ b. failed-anywhere Y h budget d s count (c - count) c′ (e ∙ ap failed z) b; wins = λ q. absurd (omega arith) })
 
-  -- A slot is made to say something that is so.
-  module _ (old : List ℕ) (j s d k : ℕ) (m : Remembers r budget old) (l : d < 64) (f : (c : ℕ) → c + k ≤ budget → r d s c ≡ failed (c + k)) where
-    noted-here : (c : ℕ) → Dec (2 * j + 1 < length old) → 1 ≤ depthIn (after old j s (d + 64 * k)) j → c + madeIn (after old j s (d + 64 * k)) j ≤ budget →
-        r (depthIn (after old j s (d + 64 * k)) j) (stateIn (after old j s (d + 64 * k)) j) c ≡ failed (c + madeIn (after old j s (d + 64 * k)) j)
-    unfolding stateIn depthIn madeIn
-    noted-here c (yes h) a b = let p : (d + 64 * k) % 64 ≡ d = omega arith in let q : (d + 64 * k) / 64 ≡ k = omega arith in let w = own-word old j s (d + 64 * k) h in
-        rw (w, own-state old j s (d + 64 * k) h, p, q) (f c (omega (arith, b, w)))
-    noted-here c (no h) a b = let w = no-word old j s (d + 64 * k) (omega (arith, h)) in absurd (omega (arith, a, w))
-
-    noted-elsewhere : (i c : ℕ) → i < 1024 → (i ≡ j → ⊥) → 1 ≤ depthIn (after old j s (d + 64 * k)) i → c + madeIn (after old j s (d + 64 * k)) i ≤ budget →
-        r (depthIn (after old j s (d + 64 * k)) i) (stateIn (after old j s (d + 64 * k)) i) c ≡ failed (c + madeIn (after old j s (d + 64 * k)) i)
-    unfolding stateIn depthIn madeIn
-    noted-elsewhere i c t n a b = let v = other-word old j s (d + 64 * k) (2 * i) (λ e. n (omega (arith, e))) (λ e. omega (arith, e)) in
-        let w = other-word old j s (d + 64 * k) (2 * i + 1) (λ e. omega (arith, e)) (λ e. n (omega (arith, e))) in
-        rw (v, w) (m .fails i c t (omega (arith, a, w)) (omega (arith, b, w)))
-
-    noted-at : (i c : ℕ) → i < 1024 → 1 ≤ depthIn (after old j s (d + 64 * k)) i → c + madeIn (after old j s (d + 64 * k)) i ≤ budget →
-        r (depthIn (after old j s (d + 64 * k)) i) (stateIn (after old j s (d + 64 * k)) i) c ≡ failed (c + madeIn (after old j s (d + 64 * k)) i)
-    noted-at i c q = by-test (eqb i j) (λ t. rw (eqb-true i j t) (noted-here c (decLt (2 * j + 1) (length old)))) (λ t. noted-elsewhere i c q (eqb-false i j t))
-
-  pub noted-remembers : (old new : List ℕ) (s d k : ℕ) → Remembers r budget old → Noted old new s d k → d < 64 →
-      ((c : ℕ) → c + k ≤ budget → r d s c ≡ failed (c + k)) → Remembers r budget new
-  noted-remembers old new s d k m n l f = rw (n .words) (record {
-    dated = same-dated old _ (after-long old (n .slot) s (d + 64 * k)) (λ w h. other-word old (n .slot) s (d + 64 * k) w (λ e. omega (arith, n .inside)) (λ e. omega (arith, n .inside))) (m .dated);
-    fails = λ i c. noted-at old (n .slot) s d k m l f i c;
-  })
-
-  -- The words of successes may change.
-  pub failures-kept : (old new : List ℕ) → Remembers r budget old → Keeps 2048 old new → Dated new → Remembers r budget new
-  unfolding Keeps stateIn depthIn madeIn
-  failures-kept old new m k v = record { dated = v; fails = λ i c b. rw (k (2 * i) (omega arith), k (2 * i + 1) (omega arith)) (m .fails i c b) }
-
--- An examination that failed at one count fails at every count, after as many examinations.
-pub failure-remembered : (Y : System ℕ) (h : ℕ → ℕ∞) (budget d s count c : ℕ) (old new : List ℕ) → Remembers (examination Y h budget) budget old → Noted old new s d (c - count) →
-    d < 64 → count ≤ c → examination Y h budget d s count ≡ failed c → Remembers (examination Y h budget) budget new
-failure-remembered Y h budget d s count c old new m n l g e = let z : c ≡ count + (c - count) = omega arith in
-    noted-remembers (examination Y h budget) budget old new s d (c - count) m n l (λ c′ b. failed-anywhere Y h budget d s count (c - count) c′ (e ∙ ap failed z) b)
-
--- A failure that is remembered changes nothing of what is said of successes.
-pub failure-says-no-more : (old new : List ℕ) (s d k : ℕ) → Noted old new s d k → NoMore old new
-failure-says-no-more old new s d k n = rw (n .words) (record { said = same-said old _ (after-long old (n .slot) s (d + 64 * k)) (λ w h. other-word old (n .slot) s (d + 64 * k) w (λ e. omega (arith, n .inside)) (λ e. omega (arith, n .inside))) })
+  pub success-remembered : (p : Plan) (k b : ℕ) → Noted old new (said s d (c - count) k b) → examination Y h budget d s count ≡ succeeded p c → planSize p ≡ k → planHead p ≡ b → 1 ≤ k → k ≤ c - count → Remembers (examination Y h budget) budget new
+  success-remembered p k b n e u v l t = let z : c ≡ count + (c - count) = omega arith in
+      noted-remembers (examination Y h budget) budget old new _ m n (record { fails = λ q. absurd (omega arith); wins = λ q. record { plan = p; succeeds = λ c′ x. succeeded-anywhere Y h budget d s p count (c - count) c′ (e ∙ ap (succeeded p) z) x; sized = u; headed = v; short = t } })

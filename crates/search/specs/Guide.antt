@@ -4,7 +4,7 @@ use mathlib.Core.Path.{_≡_}
 use mathlib.Core.List.{List}
 use Prim.Native.Nat.{ℕ, _<_}
 use lib.ListN.{getD, drop}
-use Rattle.task_record.specs.Numbers.{actionCount, patternCount, variableCount, limitOf, budgetOf}
+use Rattle.task_record.specs.Numbers.{actionCount, patternCount, variableCount, limitOf}
 
 abbrev pub patternsIn : List ℕ → ℕ
 patternsIn guide = getD guide 8 0
@@ -29,12 +29,12 @@ pub record OwnersPut (owners old new : List ℕ) : Type 0 where
   pub owner : (m : ℕ) → m < 64 → getD (ownersIn new) m 0 ≡ getD owners m 0
   pub kept : (i : ℕ) → i < 16 → getD new i 0 ≡ getD old i 0
 
--- The record's numbers stand in the guide.
-pub record Sized (r guide : List ℕ) : Type 0 where
+-- The record's numbers and a budget stand in the guide.
+pub record Sized (r : List ℕ) (budget : ℕ) (guide : List ℕ) : Type 0 where
   pub patterns : patternsIn guide ≡ patternCount r
   pub variables : variablesIn guide ≡ variableCount r
   pub actions : actionsIn guide ≡ actionCount r
-  pub budget : budgetIn guide ≡ budgetOf r
+  pub spends : budgetIn guide ≡ budget
   pub limit : limitIn guide ≡ limitOf r
 
 -- Nothing but the record's numbers was written.

@@ -6,9 +6,10 @@ pub mod Rows
 pub mod ByteRows
 pub mod Buffer
 pub mod Examination
-pub mod Successes
 pub mod Memory
 pub mod Packed
+pub mod Contracts
+pub mod Written
 pub mod Answer
 pub mod Entry
 pub mod Optimal

@@ -22,7 +22,7 @@ fn entry_in(
     tables: &[u16],
     s: u64,
     p: usize,
-) -> u32
+) -> u64
     requires { ⌜ (BytesOf (now rows) (patternsIn (now guide)) (variablesIn (now guide)) (now places)) × (patternsIn (now guide) ≤ 8) × (variablesIn (now guide) ≤ 16) × (p < patternsIn (now guide)) ⌝ }
     ensures { λ r. ⌜ (r ≡ patternEntry (now (rows .entry)) (now (guide .entry)) (now (tables .entry)) (variablesIn (now (guide .entry))) s p) × (r < 65536) ⌝ }
 {
@@ -40,8 +40,8 @@ pub(crate) fn rest_of(
     tables: &[u16],
     s: u64,
     m: usize,
-    value: u32,
-) -> u32
+    value: u64,
+) -> u64
     requires { ⌜ (BytesOf (now rows) (patternsIn (now guide)) (variablesIn (now guide)) (now places)) × (patternsIn (now guide) ≤ 8) × (variablesIn (now guide) ≤ 16) × (m < 64) × (guidedValue (now rows) (now guide) (now tables) s ≡ fin value) ⌝ }
     ensures { λ r. ⌜ (r ≡ restOf (now (rows .entry)) (now (guide .entry)) (now (tables .entry)) (patternsIn (now (guide .entry))) (variablesIn (now (guide .entry))) s (getD (ownersIn (now (guide .entry))) m 0) value) × (r ≤ value) ⌝ }
 {
@@ -60,9 +60,9 @@ pub(crate) fn sum_with(
     tables: &[u16],
     x: u64,
     m: usize,
-    rest: u32,
-) -> u32
-    requires { ⌜ (BytesOf (now rows) (patternsIn (now guide)) (variablesIn (now guide)) (now places)) × (patternsIn (now guide) ≤ 8) × (variablesIn (now guide) ≤ 16) × (m < 64) × (rest ≤ 32) ⌝ }
+    rest: u64,
+) -> u64
+    requires { ⌜ (BytesOf (now rows) (patternsIn (now guide)) (variablesIn (now guide)) (now places)) × (patternsIn (now guide) ≤ 8) × (variablesIn (now guide) ≤ 16) × (m < 64) × (rest < 256) ⌝ }
     ensures { λ r. ⌜ r ≡ sumWith (now (rows .entry)) (now (guide .entry)) (now (tables .entry)) (patternsIn (now (guide .entry))) (variablesIn (now (guide .entry))) x (getD (ownersIn (now (guide .entry))) m 0) rest ⌝ }
 {
     let p = owner_in(guide, m);

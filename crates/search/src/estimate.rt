@@ -23,10 +23,10 @@ fn lowest_digit(s: u64) -> usize
     (s % 16) as usize
 }
 
-fn cost(x: u16) -> u32
+fn cost(x: u16) -> u64
     ensures { λ r. ⌜ (r ≡ x) × (r < 65536) ⌝ }
 {
-    x as u32
+    x as u64
 }
 
 // The index of a state in the table of pattern p.
@@ -55,7 +55,7 @@ fn entry_at(tables: &[u16], i: usize) -> u16
 }
 
 // The cost that the table of pattern p gives at an index.
-pub(crate) fn cost_at(guide: &[u32; 80], tables: &[u16], p: usize, i: usize) -> u32
+pub(crate) fn cost_at(guide: &[u32; 80], tables: &[u16], p: usize, i: usize) -> u64
     requires { ⌜ (p < 8) × (i ≤ 65535 * 16) ⌝ }
     ensures { λ r. ⌜ (r ≡ getD (now (tables .entry)) (getD (now (guide .entry)) p 0 + i) 65535) × (r < 65536) ⌝ }
 {
@@ -63,7 +63,7 @@ pub(crate) fn cost_at(guide: &[u32; 80], tables: &[u16], p: usize, i: usize) -> 
 }
 
 pub(crate) enum Value {
-    Finite(u32),
+    Finite(u64),
     Infinite,
 }
 
@@ -79,7 +79,7 @@ pub(crate) fn value_of(
     requires { ⌜ (patterns ≤ 8) × (variables ≤ 16) ⌝ }
     ensures { λ r. ⌜ r ≡ valueOf (packedValue (now (rows .entry)) (now (guide .entry)) (now (tables .entry)) patterns variables s) ⌝ }
 {
-    let mut sum = 0u32;
+    let mut sum = 0u64;
     for p in 0..patterns {
         let e = cost_at(guide, tables, p, index_of(rows, s, p, variables));
         if e == 65535 {

@@ -1,37 +1,31 @@
-// Examining a state and examining an action's outcomes call each other, and the depth left falls. The tests that end an examination at
-// once stand before the call, so that a leaf of the search costs none. The count of examinations is carried in every ending.
-// A failure is remembered and not examined again, and a success is noted and its plan's bytes are copied.
-// The value of a state is carried: an outcome changes it in the action's owner only. Asks for what the search goes by (`Guided`: every weight 1,
-// at most 8 outcomes, the sets of applying actions, the guide), a count within the budget and a depth of at most 32.
+// Examining a state and examining an action's outcomes call each other, and the depth left falls by the action's weight. What is decided
+// without examining another state is a leaf beside them (`look`). The count of examinations is carried in every ending, and every result is
+// remembered. Asks for what `Examinable` names, and gives what `Examines` names.
 ghost use mathlib.Core.Path.{_≡_};
+ghost use mathlib.Core.List.{List};
 ghost use Prim.Native.Nat.{ℕ, _+_, _-_, _<_, _≤_};
 ghost use lib.Bits.{bitAnd};
 ghost use lib.Count.{trailingZeros};
 ghost use lib.Dec.{leb};
-ghost use Rattle.planning.specs.Extended.{ℕ∞, fin, _≤?_};
-ghost use Rattle.planning.specs.Plan.{encode, encodes};
+ghost use lib.ListN.{length};
+ghost use Rattle.planning.specs.Extended.{ℕ∞, _≤?_};
 ghost use Rattle.tables.specs.Packed.{packedSystem};
 ghost use Rattle.search.specs.Guide.{actionsIn, budgetIn};
-ghost use Rattle.search.specs.Value.{Estimated};
-ghost use Rattle.search.specs.Examination.{openingOf, Examined, Guided};
-ghost use Rattle.search.specs.Memory.{Remembers};
-ghost use Rattle.search.specs.Successes.{Known, After};
-ghost use Rattle.search.specs.Packed.{guidedExamination, guidedOpening, guidedOutcomes, guidedValue};
+ghost use Rattle.search.specs.Examination.{openingOf, planSize, planHead, plansSize, plansHead};
+ghost use Rattle.search.specs.Packed.{guidedExamination, guidedOpening, guidedOutcomes};
+ghost use Rattle.search.specs.Contracts.{Examinable, Examines, Glanced};
 ghost use Rattle.search.specs.declared.examine.Opening.{Opening};
-use crate::buffer::put;
 use crate::carried::rest_of;
 use crate::carried::sum_with;
+use crate::compiled::is_beyond;
 use crate::compiled::is_goal;
+use crate::compiled::left_after;
 use crate::compiled::outcome_count;
 use crate::compiled::successor;
 use crate::guide::budget_in;
 use crate::guide::bytes_in;
+use crate::memory::note;
 use crate::memory::recall;
-use crate::memory::remember;
-use crate::successes::copy;
-use crate::successes::forget;
-use crate::successes::note_success;
-use crate::successes::recall_success;
 use tables::applying::applying;
 
 // How an examination begins.
@@ -42,39 +36,38 @@ pub(crate) enum Opening {
     Expand,
 }
 
-// How an examination ends, with the count; a success also with the place after its plan.
+// How an examination ends, with the count; a success also with the size of its plan and the plan's first byte.
 pub(crate) enum Ending {
     Stopped(u32),
     Failed(u32),
-    Succeeded(u32, usize),
+    Succeeded(u32, u32, u32),
 }
 
-// A state to examine: its value, the depth left, the count so far, and the place of its plan.
+// What is seen of a state at once: how its examination ends, or that it opens.
+pub(crate) enum Glance {
+    Decided(Ending),
+    Open,
+}
+
+// A state to examine: its value, the depth left and the count so far.
 pub(crate) struct Visit {
     pub s: u64,
-    pub value: u32,
+    pub value: u64,
     pub d: u32,
     pub count: u32,
-    pub at: usize,
 }
 
-pub(crate) fn visit_of(s: u64, value: u32, d: u32, count: u32, at: usize) -> Visit
-    ensures { λ r. ⌜ (r .s ≡ s) × (r .value ≡ value) × (r .d ≡ d) × (r .count ≡ count) × (r .at ≡ at) ⌝ }
+pub(crate) fn visit_of(s: u64, value: u64, d: u32, count: u32) -> Visit
+    ensures { λ r. ⌜ (r .s ≡ s) × (r .value ≡ value) × (r .d ≡ d) × (r .count ≡ count) ⌝ }
 {
-    Visit {
-        s,
-        value,
-        d,
-        count,
-        at,
-    }
+    Visit { s, value, d, count }
 }
 
 // What is decided at once about a state of a value: with no depth left it is a goal or cut.
 pub(crate) fn open_state(
     task: &[u64; 1282],
     s: u64,
-    value: u32,
+    value: u64,
     d: u32,
     budget: u32,
     count: u32,
@@ -90,17 +83,17 @@ pub(crate) fn open_state(
     if d == 0 {
         return Opening::Cut;
     }
-    if value <= d {
+    if value <= d as u64 {
         return Opening::Expand;
     }
     Opening::Cut
 }
 
-pub(crate) fn byte_of(m: usize) -> u8
-    requires { ⌜ m < 256 ⌝ }
+pub(crate) fn number_of(m: usize) -> u32
+    requires { ⌜ m < 64 ⌝ }
     ensures { λ r. ⌜ r ≡ m ⌝ }
 {
-    m as u8
+    m as u32
 }
 
 // The lowest number in a set that is not empty, and the set without it.
@@ -124,7 +117,38 @@ pub(crate) fn place_of(n: u64) -> usize
     n as usize
 }
 
-// Examines a state that opens: the actions that apply are tried by number, and the first that succeeds wins.
+// What is known of a state without examining another: it is spent, a goal or cut, or remembered. Else it opens.
+fn look(
+    task: &[u64; 1282],
+    guide: &[u32; 80],
+    memory: &[u64],
+    s: u64,
+    value: u64,
+    d: u32,
+    count: u32,
+) -> Glance
+    requires { ⌜ (count ≤ budgetIn (now guide)) × (budgetIn (now guide) ≤ 1000000) × (2 ≤ length (now memory)) ⌝ }
+    ensures { λ r. ⌜ ((sets places rows tables : List ℕ) → Examinable (now (task .entry)) sets places rows (now (guide .entry)) tables (now (memory .entry)) s value d count → Glanced (guidedExamination (now (task .entry)) rows (now (guide .entry)) tables) (budgetIn (now (guide .entry))) (guidedOpening (now (task .entry)) rows (now (guide .entry)) tables d s count) (guidedExamination (now (task .entry)) rows (now (guide .entry)) tables d s count) count (now (memory .entry)) r) ⌝ }
+{
+    let budget = budget_in(guide);
+    match open_state(task, s, value, d, budget, count) {
+        Opening::Spent => Glance::Decided(Ending::Stopped(count)),
+        Opening::Cut => Glance::Decided(Ending::Failed(count + 1)),
+        Opening::Arrived => Glance::Decided(Ending::Succeeded(count + 1, 1, 254)),
+        Opening::Expand => {
+            let known = recall(memory, s, d, budget - count);
+            if known.made == 0 {
+                return Glance::Open;
+            }
+            if known.size == 0 {
+                return Glance::Decided(Ending::Failed(count + known.made));
+            }
+            Glance::Decided(Ending::Succeeded(count + known.made, known.size, known.first))
+        }
+    }
+}
+
+// Examines a state: where it opens, the actions that apply are tried by number, and the first that succeeds wins.
 pub(crate) fn examine(
     task: &[u64; 1282],
     sets: &[u64; 2048],
@@ -132,39 +156,43 @@ pub(crate) fn examine(
     rows: &[u16; 2048],
     guide: &[u32; 80],
     tables: &[u16],
-    memory: &mut [u64; 2433],
-    plan: &mut [u8],
+    memory: &mut [u64],
     v: Visit,
 ) -> Ending
-    requires { ⌜ (Guided (now task) (now sets) (now places) (now rows) (now guide)) × (Remembers (guidedExamination (now task) (now rows) (now guide) (now tables)) (budgetIn (now guide)) (now memory)) × (v .count ≤ budgetIn (now guide)) × (v .at ≤ v .count) × (v .d ≤ 32) × (guidedValue (now rows) (now guide) (now tables) (v .s) ≡ fin (v .value)) × (guidedOpening (now task) (now rows) (now guide) (now tables) (v .d) (v .s) (v .count) ≡ Opening.Expand) × (Known (guidedExamination (now task) (now rows) (now guide) (now tables)) (budgetIn (now guide)) (now memory) (now plan) (v .at)) ⌝ }
-    ensures examined { λ r. ⌜ Examined encode (guidedExamination (now (task .entry)) (now (rows .entry)) (now (guide .entry)) (now (tables .entry)) (v .d) (v .s) (v .count)) (v .count) (budgetIn (now (guide .entry))) (v .at) (now (plan .entry)) (now (plan .exit)) r ⌝ }
-    ensures memory { λ r. ⌜ (Remembers (guidedExamination (now (task .entry)) (now (rows .entry)) (now (guide .entry)) (now (tables .entry))) (budgetIn (now (guide .entry))) (now (memory .exit))) × (After (guidedExamination (now (task .entry)) (now (rows .entry)) (now (guide .entry)) (now (tables .entry))) (budgetIn (now (guide .entry))) (now (memory .entry)) (now (memory .exit)) (now (plan .exit)) (v .at) r) ⌝ }
+    requires { ⌜ Examinable (now task) (now sets) (now places) (now rows) (now guide) (now tables) (now memory) (v .s) (v .value) (v .d) (v .count) ⌝ }
+    ensures { λ r. ⌜ Examines planSize planHead (guidedExamination (now (task .entry)) (now (rows .entry)) (now (guide .entry)) (now (tables .entry))) (budgetIn (now (guide .entry))) (guidedExamination (now (task .entry)) (now (rows .entry)) (now (guide .entry)) (now (tables .entry)) (v .d) (v .s) (v .count)) (v .count) (now (memory .exit)) r ⌝ }
 {
+    match look(task, guide, memory, v.s, v.value, v.d, v.count) {
+        Glance::Decided(e) => {
+            return e;
+        }
+        Glance::Open => {}
+    }
     let mut c = v.count + 1;
     let mut set = applying(sets, v.s, bytes_in(guide));
     while set != 0 {
         let m = lowest(set);
-        let w = visit_of(v.s, v.value, v.d - 1, c, v.at + 1);
-        match outcomes(task, sets, places, rows, guide, tables, memory, plan, m, w) {
+        let w = visit_of(v.s, v.value, v.d, c);
+        match outcomes(task, sets, places, rows, guide, tables, memory, m, w) {
             Ending::Stopped(e) => {
                 return Ending::Stopped(e);
             }
             Ending::Failed(made) => {
                 c = made;
             }
-            Ending::Succeeded(e, end) => {
-                put(plan, v.at, byte_of(m));
-                note_success(memory, v.s, v.d, e - v.count, v.at, end - v.at);
-                return Ending::Succeeded(e, end);
+            Ending::Succeeded(e, n, b) => {
+                let first = number_of(m);
+                note(memory, v.s, v.d, e - v.count, n + 1, first);
+                return Ending::Succeeded(e, n + 1, first);
             }
         }
         set = without_lowest(set);
     }
-    remember(memory, v.s, v.d, c - v.count);
+    note(memory, v.s, v.d, c - v.count, 0, 0);
     Ending::Failed(c)
 }
 
-// Examines the states after an action's outcomes, in order, up to the first that does not succeed.
+// Examines the states after an action's outcomes, in order, up to the first that does not succeed, with the depth that the action leaves.
 pub(crate) fn outcomes(
     task: &[u64; 1282],
     sets: &[u64; 2048],
@@ -172,74 +200,42 @@ pub(crate) fn outcomes(
     rows: &[u16; 2048],
     guide: &[u32; 80],
     tables: &[u16],
-    memory: &mut [u64; 2433],
-    plan: &mut [u8],
+    memory: &mut [u64],
     m: usize,
     v: Visit,
 ) -> Ending
-    requires { ⌜ (Guided (now task) (now sets) (now places) (now rows) (now guide)) × (Remembers (guidedExamination (now task) (now rows) (now guide) (now tables)) (budgetIn (now guide)) (now memory)) × (v .count ≤ budgetIn (now guide)) × (v .at ≤ v .count) × (v .d ≤ 32) × (guidedValue (now rows) (now guide) (now tables) (v .s) ≡ fin (v .value)) × (v .value ≤ 32) × (m < actionsIn (now guide)) × (Known (guidedExamination (now task) (now rows) (now guide) (now tables)) (budgetIn (now guide)) (now memory) (now plan) (v .at)) ⌝ }
-    ensures examined { λ r. ⌜ Examined encodes (guidedOutcomes (now (task .entry)) (now (rows .entry)) (now (guide .entry)) (now (tables .entry)) (v .d) (v .s) m (v .count)) (v .count) (budgetIn (now (guide .entry))) (v .at) (now (plan .entry)) (now (plan .exit)) r ⌝ }
-    ensures memory { λ r. ⌜ (Remembers (guidedExamination (now (task .entry)) (now (rows .entry)) (now (guide .entry)) (now (tables .entry))) (budgetIn (now (guide .entry))) (now (memory .exit))) × (After (guidedExamination (now (task .entry)) (now (rows .entry)) (now (guide .entry)) (now (tables .entry))) (budgetIn (now (guide .entry))) (now (memory .entry)) (now (memory .exit)) (now (plan .exit)) (v .at) r) ⌝ }
+    requires { ⌜ (Examinable (now task) (now sets) (now places) (now rows) (now guide) (now tables) (now memory) (v .s) (v .value) (v .d) (v .count)) × (m < actionsIn (now guide)) × (v .value < 256) ⌝ }
+    ensures { λ r. ⌜ Examines plansSize plansHead (guidedExamination (now (task .entry)) (now (rows .entry)) (now (guide .entry)) (now (tables .entry))) (budgetIn (now (guide .entry))) (guidedOutcomes (now (task .entry)) (now (rows .entry)) (now (guide .entry)) (now (tables .entry)) (v .d) (v .s) m (v .count)) (v .count) (now (memory .exit)) r ⌝ }
 {
+    if is_beyond(task, m, v.d) {
+        return Ending::Failed(v.count);
+    }
+    let left = left_after(task, m, v.d);
     let rest = rest_of(places, rows, guide, tables, v.s, m, v.value);
     let mut c = v.count;
-    let mut end = v.at;
+    let mut n = 0u32;
     for k in 0..place_of(outcome_count(task, m)) {
         let x = successor(task, v.s, m, k);
         let value = sum_with(places, rows, guide, tables, x, m, rest);
-        let w = visit_of(x, value, v.d, c, end);
-        match follow(task, sets, places, rows, guide, tables, memory, plan, w) {
+        let seen = match look(task, guide, memory, x, value, left, c) {
+            Glance::Decided(a) => a,
+            Glance::Open => {
+                let w = visit_of(x, value, left, c);
+                examine(task, sets, places, rows, guide, tables, memory, w)
+            }
+        };
+        match seen {
             Ending::Stopped(e) => {
                 return Ending::Stopped(e);
             }
             Ending::Failed(e) => {
-                forget(memory, v.at, end);
                 return Ending::Failed(e);
             }
-            Ending::Succeeded(e, after) => {
+            Ending::Succeeded(e, size, b) => {
                 c = e;
-                end = after;
+                n += size;
             }
         }
     }
-    Ending::Succeeded(c, end)
-}
-
-// Examines the state after an outcome, unless it is decided at once, remembered to fail or known to succeed.
-pub(crate) fn follow(
-    task: &[u64; 1282],
-    sets: &[u64; 2048],
-    places: &[u16; 4120],
-    rows: &[u16; 2048],
-    guide: &[u32; 80],
-    tables: &[u16],
-    memory: &mut [u64; 2433],
-    plan: &mut [u8],
-    v: Visit,
-) -> Ending
-    requires { ⌜ (Guided (now task) (now sets) (now places) (now rows) (now guide)) × (Remembers (guidedExamination (now task) (now rows) (now guide) (now tables)) (budgetIn (now guide)) (now memory)) × (v .count ≤ budgetIn (now guide)) × (v .at ≤ v .count) × (v .d ≤ 32) × (Estimated (guidedValue (now rows) (now guide) (now tables) (v .s)) (v .value)) × (Known (guidedExamination (now task) (now rows) (now guide) (now tables)) (budgetIn (now guide)) (now memory) (now plan) (v .at)) ⌝ }
-    ensures examined { λ r. ⌜ Examined encode (guidedExamination (now (task .entry)) (now (rows .entry)) (now (guide .entry)) (now (tables .entry)) (v .d) (v .s) (v .count)) (v .count) (budgetIn (now (guide .entry))) (v .at) (now (plan .entry)) (now (plan .exit)) r ⌝ }
-    ensures memory { λ r. ⌜ (Remembers (guidedExamination (now (task .entry)) (now (rows .entry)) (now (guide .entry)) (now (tables .entry))) (budgetIn (now (guide .entry))) (now (memory .exit))) × (After (guidedExamination (now (task .entry)) (now (rows .entry)) (now (guide .entry)) (now (tables .entry))) (budgetIn (now (guide .entry))) (now (memory .entry)) (now (memory .exit)) (now (plan .exit)) (v .at) r) ⌝ }
-{
-    let budget = budget_in(guide);
-    match open_state(task, v.s, v.value, v.d, budget, v.count) {
-        Opening::Spent => Ending::Stopped(v.count),
-        Opening::Cut => Ending::Failed(v.count + 1),
-        Opening::Arrived => {
-            put(plan, v.at, 254);
-            Ending::Succeeded(v.count + 1, v.at + 1)
-        }
-        Opening::Expand => {
-            let k = recall(memory, v.s, v.d, budget - v.count);
-            if k != 0 {
-                return Ending::Failed(v.count + k);
-            }
-            let known = recall_success(memory, v.s, v.d, budget - v.count);
-            if known.made != 0 {
-                copy(plan, known.from, v.at, known.size);
-                return Ending::Succeeded(v.count + known.made, v.at + known.size);
-            }
-            examine(task, sets, places, rows, guide, tables, memory, plan, v)
-        }
-    }
+    Ending::Succeeded(c, n, 0)
 }

@@ -14,7 +14,6 @@ ghost use Rattle.search.specs.Guide.{patternsIn, variablesIn, actionsIn,
 use crate::estimate::place;
 use crate::owners::fill_owners;
 use task_record::cells::action_count;
-use task_record::cells::budget;
 use task_record::cells::limit;
 use task_record::cells::pattern_count;
 use task_record::cells::variable_count;
@@ -73,33 +72,32 @@ fn put_owners(owners: &[u8; 64], guide: &mut [u32])
     }
 }
 
-// Writes the record's numbers.
-fn put_sizes(rec: &[u8], guide: &mut [u32])
+// Writes the record's numbers and the budget.
+fn put_sizes(rec: &[u8], budget: u32, guide: &mut [u32])
     requires { ⌜ length (now guide) ≡ 80 ⌝ }
-    ensures sized { λ _. ⌜ Sized (now (rec .entry)) (now (guide .exit)) ⌝ }
+    ensures sized { λ _. ⌜ Sized (now (rec .entry)) budget (now (guide .exit)) ⌝ }
     ensures kept { λ _. ⌜ SizesPut (now (guide .entry)) (now (guide .exit)) ⌝ }
 {
     let patterns = number(pattern_count(rec));
     let variables = number(variable_count(rec));
     let actions = number(action_count(rec));
     let depth = number(limit(rec));
-    let examinations = budget(rec);
     guide[8] = patterns;
     guide[9] = variables;
     guide[10] = actions;
-    guide[11] = examinations;
+    guide[11] = budget;
     guide[12] = depth;
 }
 
 // The whole guide but for the tables' places, which it leaves as they are.
-pub(crate) fn fill_guide(rec: &[u8], task: &[u64; 1282], guide: &mut [u32])
+pub(crate) fn fill_guide(rec: &[u8], budget: u32, task: &[u64; 1282], guide: &mut [u32])
     requires { ⌜ (length (now guide) ≡ 80) × (Sound (now rec)) × (Additive (taskOf (now rec)) (patternsOf (now rec))) × (now task ≡ compiled (taskOf (now rec))) ⌝ }
-    ensures sized { λ _. ⌜ Sized (now (rec .entry)) (now (guide .exit)) ⌝ }
+    ensures sized { λ _. ⌜ Sized (now (rec .entry)) budget (now (guide .exit)) ⌝ }
     ensures kept { λ _. ⌜ ((i : ℕ) → i < 8 → getD (now (guide .exit)) i 0 ≡ getD (now (guide .entry)) i 0) ⌝ }
     ensures owned { λ _. ⌜ ((rows offsets : List ℕ) → RowsOf (taskOf (now (rec .entry)) .sizes) (patternsOf (now (rec .entry))) rows offsets → Owned (now (task .entry)) rows (actionsIn (now (guide .exit))) (patternsIn (now (guide .exit))) (variablesIn (now (guide .exit))) (ownersIn (now (guide .exit)))) ⌝ }
 {
     let mut owners = [8u8; 64];
     fill_owners(rec, task, &mut owners);
     put_owners(&owners, guide);
-    put_sizes(rec, guide);
+    put_sizes(rec, budget, guide);
 }

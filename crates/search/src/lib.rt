@@ -1,5 +1,5 @@
-// The search of a record's task (`entry`): its rows, the estimate of a packed state, examining states and outcomes (`examine`), what is remembered of them (`memory`,
-// `successes`), rounds.
+// The search of a record's task (`entry`): its rows, the estimate of a packed state, examining states and outcomes (`examine`), what is remembered of
+// them (`memory`), rounds, and writing the plan that was found (`write`).
 mod buffer;
 mod byte_rows;
 mod carried;
@@ -12,4 +12,5 @@ mod memory;
 mod owners;
 mod rounds;
 mod rows;
-mod successes;
+mod write;
+mod written;

@@ -1,5 +1,5 @@
--- The tables that a build of a record leaves: every entry is the cost of its abstract state, and the value call on them answers the summed
--- estimate, so that demand 3 holds of it. Assumes nothing.
+-- The tables that a build of a record leaves where it answers `Built n`: every entry is the cost of its abstract state, and the value call on
+-- them answers the summed estimate, so that demand 3 holds of it. Assumes nothing.
 use mathlib.Core.Path.{_≡_, refl, sym, ap, _∙_}
 use mathlib.Core.List.{List, [], _∷_, _++_, map, append-assoc}
 use Prim.Native.Nat.{ℕ, zero, suc, _+_, _≤_, _<_}
@@ -23,7 +23,8 @@ use Rattle.task_record.proofs.SoundTask.{sound-well-formed}
 use Rattle.task_record.proofs.States.{checked-good}
 use Rattle.patterns.specs.Space.{entriesNeeded, judgeTables, afterRecord, tableCheck}
 use Rattle.patterns.specs.Estimate.{judgeEstimate, estimateCheck}
-use Rattle.tables.specs.RecordTables.{Buildable, builtOver, whereFits, tablesBuilt, whereReady, tablesPrepared}
+use Rattle.tables.specs.RecordTables.{buildOf, tableBuild, Buildable, builtOver, whereFits, tablesBuilt, whereReady, tablesPrepared}
+use Rattle.tables.specs.declared.record_tables.TableBuild.the-variants as of-build
 use Rattle.patterns.specs.Value.{valueOf, valuesOf, stateValue}
 use Rattle.patterns.specs.declared.space.TableCheck.{TableCheck}
 use Rattle.patterns.specs.declared.space.TableCheck.the-variants as of-tables
@@ -32,7 +33,7 @@ use Rattle.patterns.specs.declared.value.StateValue.{StateValue}
 use Rattle.patterns.specs.declared.value.StateValue.the-variants as answer
 use Rattle.patterns.proofs.Built.{built-length, unit-weights, call-on-built, finite-answer-admissible, infinite-answer-no-plan}
 use Rattle.patterns.proofs.Refusals.{ready-means, fits-means, checked-ready, Answers, finite, infinite, answered-means}
-use Rattle.patterns.proofs.Room.{fits-small, fits-room}
+use Rattle.patterns.proofs.Room.{fits-small, fits-room, small-fits}
 use Rattle.tables.proofs.TableChain.{entries-length}
 
 -- A call that refuses nothing can build.
@@ -42,10 +43,22 @@ unfolding Small
 judged-buildable r lent n s h = let k = fits-room (taskOf r .sizes) (patternsOf r) lent n h in
     record { sound = s; small = fits-small (taskOf r .sizes) (patternsOf r) lent n h; room = omega (arith, k .0, k .1) }
 
-judged-fits : (r : List ℕ) (lent n : ℕ) → Sound r → judgeTables (taskOf r .sizes) (patternsOf r) lent ≡ of-tables.Fits n →
-    tableCheck r lent ≡ of-tables.Fits n
-unfolding tableCheck afterRecord Sound
-judged-fits r lent n s h = rw (s, h)
+judged-built : (r : List ℕ) (lent n : ℕ) → Sound r → judgeTables (taskOf r .sizes) (patternsOf r) lent ≡ of-tables.Fits n →
+    tableBuild r lent ≡ of-build.Built n
+unfolding tableBuild buildOf tableCheck afterRecord Sound
+judged-built r lent n s h = rw (s, h)
+
+-- Where nothing is to be refused, the build refuses nothing.
+pub buildable-built : (r : List ℕ) (lent : ℕ) → Buildable r lent → tableBuild r lent ≡ of-build.Built (entriesNeeded (taskOf r .sizes) (patternsOf r))
+unfolding Small
+buildable-built r lent b = judged-built r lent (entriesNeeded (taskOf r .sizes) (patternsOf r)) (b .sound)
+    (small-fits (taskOf r .sizes) (patternsOf r) lent (b .small) (b .room))
+
+-- What a build answers is what its test found.
+built-by : (t : TableCheck) (n : ℕ) → buildOf t ≡ of-build.Built n → t ≡ of-tables.Fits n
+unfolding buildOf
+built-by (of-tables.Fits m) n h = let a : m ≡ n = cc in rw a
+built-by (of-tables.Refused m y) n h = let z : _≡_ {A = ℕ} 0 1 = cc in absurd (omega arith)
 
 pub fits-buildable : (r : List ℕ) (lent n : ℕ) → tableCheck r lent ≡ of-tables.Fits n → Buildable r lent
 fits-buildable r lent n h = let k = fits-means r lent n h in judged-buildable r lent n (k .0) (k .1)
@@ -72,7 +85,17 @@ chained-entry t (p ∷ ps) rest (suc k) i l h = let n = entries-length t p in
 
 module _ (r tabs : List ℕ) where
   -- A build that refuses nothing.
-  module _ (n : ℕ) (fits : tableCheck r (length tabs) ≡ of-tables.Fits n) where
+  module _ (n : ℕ) (built : tableBuild r (length tabs) ≡ of-build.Built n) where
+    fits : tableCheck r (length tabs) ≡ of-tables.Fits n
+    unfolding tableBuild
+    fits = built-by (tableCheck r (length tabs)) n built
+
+    buildable : Buildable r (length tabs)
+    buildable = fits-buildable r (length tabs) n fits
+
+    pub entries-written : entriesNeeded (taskOf r .sizes) (patternsOf r) ≡ n
+    entries-written = fits-room (taskOf r .sizes) (patternsOf r) (length tabs) n (fits-means r (length tabs) n fits .1) .0
+
     pub tables-left : tablesBuilt r tabs ≡ builtOver r tabs
     unfolding tablesBuilt whereFits
     tables-left = ap (λ t. whereFits t (builtOver r tabs) tabs) fits
@@ -80,9 +103,9 @@ module _ (r tabs : List ℕ) where
     -- "Entries after the last stay untouched", and nothing else is kept: n entries are written.
     pub rest-untouched : drop n (tablesBuilt r tabs) ≡ drop n tabs
     unfolding builtOver
-    rest-untouched = let e = fits-room (taskOf r .sizes) (patternsOf r) (length tabs) n (fits-means r (length tabs) n fits .1) .0 in
-        let built = tables (taskOf r) (patternsOf r) in let rest = drop (entriesNeeded (taskOf r .sizes) (patternsOf r)) tabs in
-        rw (tables-left, ← e) (ap (λ k. drop k (built ++ rest)) (sym (built-length (taskOf r) (patternsOf r))) ∙ drop-append-seam built rest)
+    rest-untouched = let new = tables (taskOf r) (patternsOf r) in let rest = drop (entriesNeeded (taskOf r .sizes) (patternsOf r)) tabs in
+        rw (tables-left, ← entries-written)
+        (ap (λ k. drop k (new ++ rest)) (sym (built-length (taskOf r) (patternsOf r))) ∙ drop-append-seam new rest)
 
     module _ (k i : ℕ) (l : k < length (patternsOf r)) (inside : i < stateCount (taskOf r .sizes) (getD (patternsOf r) k [])) where
       -- Pattern number k, and its entry i: the tables of the patterns before it come first.
@@ -93,7 +116,7 @@ module _ (r tabs : List ℕ) where
       entry = getD (tablesBuilt r tabs) (entriesNeeded (taskOf r .sizes) (take k (patternsOf r)) + i) 65535
 
       well-formed : WellFormed (taskOf r)
-      well-formed = sound-well-formed r (fits-buildable r (length tabs) n fits .sound)
+      well-formed = sound-well-formed r (buildable .sound)
 
       weights-positive : All (λ a. 1 ≤ a .weight) (taskOf r .actions)
       weights-positive = all-imp (λ a w. w .weight-positive) (taskOf r .actions) (well-formed .actions-well-formed)
@@ -117,7 +140,7 @@ module _ (r tabs : List ℕ) where
       pub entry-read-is-cost : IsCost (system (abstraction pattern (λ a. a .weight) (taskOf r))) (stateAt (taskOf r .sizes) pattern i) (costOf entry)
       unfolding table Small
       entry-read-is-cost =
-          let h = all-at (λ p. stateCount (taskOf r .sizes) p ≤ 4096) (patternsOf r) [] (fits-buildable r (length tabs) n fits .small) k l in
+          let h = all-at (λ p. stateCount (taskOf r .sizes) p ≤ 4096) (patternsOf r) [] (buildable .small) k l in
           rw (
             entry-is,
             cost-of-entry (getD (table (taskOf r) pattern) i inf)
@@ -142,22 +165,22 @@ module _ (r tabs : List ℕ) where
   pub prepared-as-built : estimateCheck r (length tabs) ≡ of-estimate.Ready → tablesPrepared r tabs ≡ tablesBuilt r tabs
   unfolding tablesPrepared whereReady
   prepared-as-built h = let k = checked-ready r (length tabs) h in let m = ready-means r (length tabs) (k .1) in
-      ap (λ e. whereReady e (builtOver r tabs) tabs) h ∙ sym (tables-left (m .0 .0) (judged-fits r (length tabs) (m .0 .0) (k .0) (m .0 .1)))
+      ap (λ e. whereReady e (builtOver r tabs) tabs) h ∙ sym (tables-left (m .0 .0) (judged-built r (length tabs) (m .0 .0) (k .0) (m .0 .1)))
 
   module _ (s : List ℕ) where
     -- Where the value call refuses nothing on what a build left, the build has refused nothing.
     answered-built : (v : StateValue) → Answers v → stateValue r s (tablesBuilt r tabs) ≡ v → tablesBuilt r tabs ≡ builtOver r tabs
     answered-built v k h = let a = answered-means r s (tablesBuilt r tabs) v k h in
         let e : judgeEstimate r (length tabs) ≡ of-estimate.Ready = rw build-keeps-length at (a .1) in let m = ready-means r (length tabs) e in
-        tables-left (m .0 .0) (judged-fits r (length tabs) (m .0 .0) (checked-good r s (a .0) .0) (m .0 .1))
+        tables-left (m .0 .0) (judged-built r (length tabs) (m .0 .0) (checked-good r s (a .0) .0) (m .0 .1))
 
     -- "It is the summed estimate of demand 3."
-    pub value-after-build : (n : ℕ) → tableCheck r (length tabs) ≡ of-tables.Fits n → stateCheck r s ≡ of-state.Good →
+    pub value-after-build : (n : ℕ) → tableBuild r (length tabs) ≡ of-build.Built n → stateCheck r s ≡ of-state.Good →
         Additive (taskOf r) (patternsOf r) →
         stateValue r s (tablesBuilt r tabs) ≡ valueOf (estimate (taskOf r) (patternsOf r) (valuesOf r s))
     unfolding builtOver
-    value-after-build n fits good add = rw (tables-left n fits)
-        (call-on-built r s (drop (entriesNeeded (taskOf r .sizes) (patternsOf r)) tabs) good (fits-buildable r (length tabs) n fits .small) add)
+    value-after-build n built good add = rw (tables-left n built)
+        (call-on-built r s (drop (entriesNeeded (taskOf r .sizes) (patternsOf r)) tabs) good (buildable n built .small) add)
 
     -- "Demand 3 holds of it for tables just as the build of the same task left them": a finite value is at most the cost of every strong
     -- plan from the state, and an infinite one means that there is none.

@@ -18,22 +18,15 @@ use Rattle.reader.proofs.TaskLeft.{task-left, patterns-left}
 use Rattle.patterns.specs.Space.{firstLarge, entriesNeeded, judgeTables, afterRecord, tableCheck}
 use Rattle.patterns.specs.declared.space.TableCheck.{TableCheck}
 use Rattle.patterns.specs.declared.space.TableCheck.the-variants as of-tables
-use Rattle.patterns.proofs.Refusals.{fits-means}
-use Rattle.patterns.proofs.Room.{fits-room}
 use Rattle.tables.specs.RecordTables.{buildOf, tableBuild, builtOver, tablesBuilt}
 use Rattle.tables.specs.declared.record_tables.TableBuild.the-variants as answer
-use Rattle.tables.proofs.BuiltTables.{tables-left}
+use Rattle.tables.proofs.BuiltTables.{entries-written, tables-left}
 
 -- What a build answers is what its test found.
 refused-by : (t : TableCheck) (n x : ℕ) → buildOf t ≡ answer.Refused n x → t ≡ of-tables.Refused n x
 unfolding buildOf
 refused-by (of-tables.Fits m) n x h = let z : _≡_ {A = ℕ} 0 1 = cc in absurd (omega arith)
 refused-by (of-tables.Refused m y) n x h = let a : m ≡ n = cc in let b : y ≡ x = cc in rw (a, b)
-
-built-by : (t : TableCheck) (n : ℕ) → buildOf t ≡ answer.Built n → t ≡ of-tables.Fits n
-unfolding buildOf
-built-by (of-tables.Fits m) n h = let a : m ≡ n = cc in rw a
-built-by (of-tables.Refused m y) n h = let z : _≡_ {A = ℕ} 0 1 = cc in absurd (omega arith)
 
 -- Of a sound record the patterns alone are judged, and that refuses with 7 or 8.
 sound-judged : (r : List ℕ) (lent : ℕ) → Sound r → tableCheck r lent ≡ judgeTables (taskOf r .sizes) (patternsOf r) lent
@@ -62,10 +55,8 @@ module _ (text record₀ tabs : List ℕ) (read : readAnswer text record₀ ≡ 
   -- "Tables follow each other in pattern order; entries after the last stay untouched": n entries, those of the task that the text says.
   pub tables-of-text : (said : List ℕ) (n : ℕ) → readWhole text ≡ complete said → tableBuild (readLeaves text record₀) (length tabs) ≡ answer.Built n →
       tablesBuilt (readLeaves text record₀) tabs ≡ tables (taskOf said) (patternsOf said) ++ drop n tabs
-  unfolding tableBuild builtOver
+  unfolding builtOver
   tables-of-text said n says h =
-      let r = readLeaves text record₀ in
-      let fits = built-by (tableCheck r (length tabs)) n h in
-      let room = fits-room (taskOf r .sizes) (patternsOf r) (length tabs) n (fits-means r (length tabs) n fits .1) in
-      tables-left r tabs n fits
-      ∙ ap₂ _++_ (ap₂ tables (task-left text record₀ read said says) (patterns-left text record₀ read said says)) (ap (λ k. drop k tabs) (room .0))
+      tables-left (readLeaves text record₀) tabs n h
+      ∙ ap₂ _++_ (ap₂ tables (task-left text record₀ read said says) (patterns-left text record₀ read said says))
+      (ap (λ k. drop k tabs) (entries-written (readLeaves text record₀) tabs n h))

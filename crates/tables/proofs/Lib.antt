@@ -20,3 +20,4 @@ pub mod CompiledAction
 pub mod TableChain
 pub mod BuiltTables
 pub mod FromText
+pub mod Sample

@@ -9,3 +9,4 @@ pub mod Certified
 pub mod Built
 pub mod Compiling
 pub mod RecordTables
+pub mod Sample

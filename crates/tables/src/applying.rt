@@ -1,6 +1,7 @@
 // The actions whose preconditions a packed state meets, as a set in one word: one set is looked up for each byte of the state, and the
 // sets are met. A word has room for 64 actions: with more no set is filled, and the sets stay as lent. The number of bytes may be any, and 2,
-// 4 or 8 are looked at. The two calls ask nothing of the caller.
+// 4 or 8 are looked at. `applying` is public for the innermost loop of the search and is no entry of the product: it answers for any 2,048
+// words, any state and any number of bytes what its equation says, and a search has its sets from `record_tables::prepare`.
 ghost use mathlib.Core.Path.{_≡_};
 ghost use Prim.Native.Nat.{ℕ, _+_, _*_, _/_, _%_, _≤_, _<_};
 ghost use lib.ListN.{length, getD};
@@ -80,7 +81,7 @@ fn fill_rows(slots: &[u64; 272], sets: &mut [u64], bytes: usize)
 }
 
 // The sets of a compiled task within a mask.
-pub fn fill_sets(
+pub(crate) fn fill_sets(
     task: &[u64; 1282],
     mask: u64,
     actions: usize,

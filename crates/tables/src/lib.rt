@@ -10,7 +10,7 @@ mod compile_record;
 mod edges;
 mod incoming;
 mod offsets;
-pub mod packed;
+mod packed;
 mod places;
 mod queue;
 mod ranking;

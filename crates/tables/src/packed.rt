@@ -53,10 +53,3 @@ pub(crate) fn pack(rule: u8, cells: &[u8]) -> u64
     }
     p
 }
-
-// A state as a word.
-pub fn pack_state(s: [u8; 16]) -> u64
-    ensures { λ r. ⌜ r ≡ packBy low s ⌝ }
-{
-    pack(LOW, &s)
-}

@@ -7,14 +7,19 @@ ghost use Rattle.planning.specs.Table.{stateCount, table, entryOf};
 ghost use Rattle.task_record.specs.Layout.{atPattern};
 ghost use Rattle.task_record.specs.Numbers.{patternCount, sizeOf};
 ghost use Rattle.task_record.specs.Record.{Sound};
-ghost use Rattle.task_record.specs.TaskOf.{cellsAt, taskOf};
+ghost use Rattle.task_record.specs.TaskOf.{cellsAt, taskOf, startOf};
 ghost use Rattle.task_record.specs.Window.{Sixteen};
+ghost use Rattle.patterns.specs.Answers.{tablesByLines, estimateNumbers, estimateByLines};
 ghost use Rattle.patterns.specs.Estimate.{estimateCheck};
-ghost use Rattle.tables.specs.Packed.{compiled};
-ghost use Rattle.tables.specs.RecordTables.{Buildable, tableBuild, builtOver, tablesBuilt, tablesPrepared, wordsPrepared};
+ghost use Rattle.tables.specs.Answers.{tableBuildNumbers};
+ghost use Rattle.tables.specs.Packed.{packBy, low, compiled};
+ghost use Rattle.tables.specs.RecordTables.{Buildable, tableBuild, builtOver, tablesBuilt, tablesPrepared, wordsPrepared, setsPrepared, startPrepared};
+use crate::applying::fill_sets;
 use crate::build::build_table;
 use crate::compile_record::compile_cleared;
 use crate::compile_record::compile_record;
+use crate::packed::LOW;
+use crate::packed::pack;
 use crate::ranking::state_count;
 use crate::ranking::wide;
 use patterns::estimate::EstimateCheck;
@@ -25,6 +30,7 @@ use patterns::space::sizes_of;
 use task_record::cells::action_count;
 use task_record::cells::pattern_cells;
 use task_record::cells::pattern_count;
+use task_record::cells::start_cells;
 use task_record::cells::state_of;
 use task_record::cells::variable_count;
 
@@ -83,6 +89,7 @@ fn build_checked(rec: &[u8], tables: &mut [u16])
 // of a table of 4,096 states, which a smaller one does not clear, and 10 KiB for the compiled task.
 pub fn build_tables(rec: &[u8], tables: &mut [u16]) -> TableBuild
     ensures { λ r. ⌜ (r ≡ tableBuild (now (rec .entry)) (length (now (tables .entry)))) × (now (tables .exit) ≡ tablesBuilt (now (rec .entry)) (now (tables .entry))) ⌝ }
+    ensures numbers { λ r. ⌜ tableBuildNumbers r ≡ tablesByLines (now (rec .entry)) (length (now (tables .entry))) ⌝ }
 {
     match check_tables(rec, tables.len()) {
         TableCheck::Refused(number, second) => TableBuild::Refused(number, second),
@@ -93,16 +100,37 @@ pub fn build_tables(rec: &[u8], tables: &mut [u16]) -> TableBuild
     }
 }
 
-// What a search needs before it starts: patterns that are additive, their tables, and the compiled task. The record is checked once for all
-// of it. Needs less than 420 KiB of stack.
-pub fn prepare(rec: &[u8], tables: &mut [u16], task: &mut [u64; 1282]) -> EstimateCheck
-    ensures { λ r. ⌜ (r ≡ estimateCheck (now (rec .entry)) (length (now (tables .entry)))) × (now (tables .exit) ≡ tablesPrepared (now (rec .entry)) (now (tables .entry))) × (now (task .exit) ≡ wordsPrepared (now (rec .entry)) (length (now (tables .entry))) (now (task .entry))) ⌝ }
+// The start as a word.
+fn start_word(rec: &[u8]) -> u64
+    requires { ⌜ Sound (now rec) ⌝ }
+    ensures { λ r. ⌜ r ≡ packBy low (startOf (now (rec .entry))) ⌝ }
+{
+    let n = wide(variable_count(rec));
+    let cells = start_cells(rec);
+    pack(LOW, &cells[..n])
+}
+
+// All that a search needs before it starts: patterns that are additive, their tables, the compiled task, its sets of applying actions, and the
+// start as a word. The record is checked once for all of it. No entry of the product: `search` calls it. Needs less than 420 KiB of stack.
+pub fn prepare(
+    rec: &[u8],
+    tables: &mut [u16],
+    task: &mut [u64; 1282],
+    sets: &mut [u64; 2048],
+    start: &mut u64,
+) -> EstimateCheck
+    ensures { λ r. ⌜ (r ≡ estimateCheck (now (rec .entry)) (length (now (tables .entry)))) × (now (tables .exit) ≡ tablesPrepared (now (rec .entry)) (now (tables .entry))) × (now (task .exit) ≡ wordsPrepared (now (rec .entry)) (length (now (tables .entry))) (now (task .entry))) × (now (sets .exit) ≡ setsPrepared (now (rec .entry)) (length (now (tables .entry))) (now (sets .entry))) × (now (start .exit) ≡ startPrepared (now (rec .entry)) (length (now (tables .entry))) (now (start .entry))) ⌝ }
+    ensures numbers { λ r. ⌜ estimateNumbers r ≡ estimateByLines (now (rec .entry)) (length (now (tables .entry))) ⌝ }
 {
     match check_estimate(rec, tables.len()) {
         EstimateCheck::Refused(number, second) => EstimateCheck::Refused(number, second),
         EstimateCheck::Ready => {
             compile_record(rec, task);
             build_all(rec, task, tables);
+            let actions = wide(action_count(rec));
+            let bytes = (wide(variable_count(rec)) + 1) / 2;
+            fill_sets(task, 18446744073709551615, actions, bytes, sets);
+            *start = start_word(rec);
             EstimateCheck::Ready
         }
     }

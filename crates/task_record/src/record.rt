@@ -11,6 +11,7 @@ ghost use Rattle.task_record.specs.Window.{Sixteen, usedBlocks};
 ghost use Rattle.task_record.specs.Record.{cellOk, stateCellOk, firstBad, recordCheck, Sound};
 ghost use Rattle.task_record.specs.Parts.{SizesPassed};
 ghost use Rattle.task_record.specs.State.{judgeState, stateCheck};
+ghost use Rattle.task_record.specs.Answers.{recordNumbers, stateNumbers, recordByLines, stateByLines};
 use crate::blocks::below;
 use crate::blocks::copied;
 use crate::blocks::flat;
@@ -226,6 +227,7 @@ fn is_sound(rec: &[u8]) -> bool
 // The answer of every call that is lent a record, tested before all else.
 pub fn check_record(rec: &[u8]) -> RecordCheck
     ensures { λ r. ⌜ r ≡ recordCheck (now (rec .entry)) ⌝ }
+    ensures numbers { λ r. ⌜ recordNumbers r ≡ recordByLines (now (rec .entry)) ⌝ }
 {
     if rec.len() < RECORD_SIZE {
         return RecordCheck::Refused(5, rec.len() as u64);
@@ -267,6 +269,7 @@ fn judge_state(rec: &[u8], state: &[u8]) -> StateCheck
 // Whether `state` is a state of the task that `rec` holds.
 pub fn check_state(rec: &[u8], state: &[u8]) -> StateCheck
     ensures { λ r. ⌜ r ≡ stateCheck (now (rec .entry)) (now (state .entry)) ⌝ }
+    ensures numbers { λ r. ⌜ stateNumbers r ≡ stateByLines (now (rec .entry)) (now (state .entry)) ⌝ }
 {
     match check_record(rec) {
         RecordCheck::Refused(number, second) => StateCheck::Refused(number, second),

@@ -1,15 +1,14 @@
 //! The search: rounds of a depth-first examination with a stack of its own,
-//! on a task made of words. Failures are remembered over all rounds, successes as
-//! long as their plans stand.
+//! on a task made of words. Results are remembered over all rounds; the plan
+//! is written when the last round has succeeded.
 
 use super::compiled::{Compiled, Step};
-use super::failures::Failures;
 use super::patterns::Spaces;
 use super::record::Record;
-use super::successes::{Success, Successes};
+use super::results::{Known, Results};
+use super::write::Writer;
 use crate::answer::{Reason, Refusal};
 
-const ARRIVED: u8 = 254;
 const MOST_DEPTH: usize = 32;
 
 pub enum Ending {
@@ -20,22 +19,22 @@ pub enum Ending {
 }
 
 /// A state under way: the actions not yet tried, what was left of the budget
-/// before it was examined, its value, where its action stands in the plan; then
-/// the action and the outcome being tried.
+/// before it was examined, its value; then the action and the outcome being
+/// tried, and the length of the plan so far.
 #[derive(Clone, Copy, Default)]
 struct Node {
     state: u64,
     untried: u64,
     left: u32,
-    at: u32,
+    length: u32,
     value: u8,
     action: u8,
     outcome: u16,
 }
 
 impl Node {
-    fn of(state: u64, untried: u64, left: u32, value: u8, at: u32) -> Self {
-        Self { state, untried, left, value, at, ..Self::default() }
+    fn of(state: u64, untried: u64, left: u32, value: u8) -> Self {
+        Self { state, untried, left, value, ..Self::default() }
     }
 
     /// Takes the lowest action not yet tried, at its first outcome.
@@ -43,15 +42,16 @@ impl Node {
     fn take(&mut self, task: &Compiled) -> Step {
         self.action = self.untried.trailing_zeros() as u8;
         self.untried &= self.untried - 1;
+        self.length = 1;
         let step = task.step(self.action);
         self.outcome = step.first;
         step
     }
 }
 
-/// How a round ends, with the length of the plan it wrote.
+/// How a round ends, with the length of the plan it found and its first byte.
 enum Round {
-    Found(usize),
+    Found(u32, u8),
     Failed,
     Spent,
 }
@@ -80,21 +80,14 @@ impl Path {
     }
 }
 
-struct Search<'a> {
-    task: &'a Compiled,
-    plan: &'a mut [u8],
-    failures: Failures,
-    successes: Successes,
+pub struct Search<'a> {
+    pub task: &'a Compiled,
+    results: Results,
+    budget: u32,
     left: u32,
 }
 
 impl Search<'_> {
-    fn put(&mut self, at: u32, byte: u8) {
-        if let Some(cell) = self.plan.get_mut(at as usize) {
-            *cell = byte;
-        }
-    }
-
     /// Examines the start, whose value is at most the depth.
     fn round(&mut self, start: u64, value: u8, depth: u32) -> Round {
         if self.left == 0 {
@@ -102,8 +95,7 @@ impl Search<'_> {
         }
         self.left -= 1;
         if self.task.is_goal(start) {
-            self.put(0, ARRIVED);
-            return Round::Found(1);
+            return Round::Found(1, 0);
         }
         if depth == 0 {
             return Round::Failed;
@@ -118,34 +110,40 @@ impl Search<'_> {
         }
     }
 
-    /// Writes the plan of a known success once more, as far as there is room.
-    fn copy(&mut self, known: Success, to: u32) {
-        let room = self.plan.len();
-        let (begin, end, to) = (known.begin as usize, known.end as usize, to as usize);
-        let length = (end - begin).min(room.saturating_sub(to));
-        if length > 0 {
-            self.plan.copy_within(begin..begin + length, to);
+    /// The action of a state that succeeds and is no goal: remembered, or
+    /// found once more, with the whole budget.
+    pub fn action(&mut self, state: u64, value: u32, depth: u32) -> u8 {
+        if let Some(known) = self.results.known(state, depth) {
+            return known.first;
+        }
+        self.left = self.budget;
+        match self.round(state, value as u8, depth) {
+            Round::Found(_, first) => first,
+            Round::Failed | Round::Spent => unreachable!("the state succeeded before"),
         }
     }
 
     /// The next outcome after one that succeeded, of the action or of one it
-    /// was tried for; none if the whole plan is written.
+    /// was tried for; else how the round ends.
     #[inline(always)]
-    fn go_on(&mut self, mut node: Node, path: &mut Path, end: u32, left: u32) -> Option<Node> {
+    fn go_on(
+        &mut self,
+        mut node: Node,
+        path: &mut Path,
+        length: u32,
+        left: u32,
+    ) -> Result<Node, Round> {
+        let mut length = length;
         loop {
+            node.length += length;
             node.outcome += 1;
             if node.outcome < self.task.step(node.action).end {
-                return Some(node);
+                return Ok(node);
             }
-            self.put(node.at, node.action);
-            self.successes.note(Success {
-                state: node.state,
-                depth: path.depth + 1,
-                examinations: node.left - left,
-                begin: node.at,
-                end,
-            });
-            node = path.pop()?;
+            length = node.length;
+            let (examinations, first) = (node.left - left, node.action);
+            self.results.note(node.state, path.depth + 1, Known { examinations, length, first });
+            node = path.pop().ok_or(Round::Found(length, first))?;
         }
     }
 
@@ -161,19 +159,16 @@ impl Search<'_> {
         let cost = |field, state| if VALUED { task.cost(field, state) } else { 0 };
         let mut path = Path { nodes: [Node::default(); MOST_DEPTH], number: 0, depth: depth - 1 };
         let mut left = self.left;
-        let mut node = Node::of(start, task.applying::<GROUPS>(start), left + 1, value, 0);
+        let mut node = Node::of(start, task.applying::<GROUPS>(start), left + 1, value);
         let round = 'node: loop {
             if node.untried == 0 {
-                self.failures.note(node.state, path.depth + 1, node.left - left);
+                let failure = Known { examinations: node.left - left, ..Known::default() };
+                self.results.note(node.state, path.depth + 1, failure);
                 let Some(below) = path.pop() else { break Round::Failed };
-                if node.at > below.at + 1 {
-                    self.successes.forget();
-                }
                 node = below;
                 continue;
             }
             let mut step = node.take(task);
-            let mut end = node.at + 1;
             // Until an outcome fails at once.
             loop {
                 if left == 0 {
@@ -187,38 +182,29 @@ impl Search<'_> {
                 if value > path.depth {
                     break;
                 }
+                let mut length = 1;
                 // Only a state of value 0 is a goal.
-                if value == 0 && task.is_goal(state) {
-                    self.put(end, ARRIVED);
-                    end += 1;
-                } else {
+                if value != 0 || !task.is_goal(state) {
                     let untried = if path.depth == 0 { 0 } else { task.applying::<GROUPS>(state) };
                     if untried == 0 {
                         break;
                     }
-                    let failure = self.failures.known(state, path.depth);
-                    if let Some(rest) = failure.and_then(|made| before.checked_sub(made)) {
-                        left = rest;
-                        break;
-                    }
-                    let success = self.successes.known(state, path.depth);
-                    let success = success.filter(|success| success.examinations <= before);
-                    let Some(success) = success else {
+                    let known = self.results.known(state, path.depth);
+                    let Some(known) = known.filter(|known| known.examinations <= before) else {
                         path.push(node);
-                        node = Node::of(state, untried, before, value as u8, end);
+                        node = Node::of(state, untried, before, value as u8);
                         continue 'node;
                     };
-                    left = before - success.examinations;
-                    self.copy(success, end);
-                    end += success.end - success.begin;
+                    left = before - known.examinations;
+                    length = known.length;
+                    if length == 0 {
+                        break;
+                    }
                 }
-                let Some(next) = self.go_on(node, &mut path, end, left) else {
-                    break 'node Round::Found(end as usize);
-                };
-                (node, step) = (next, task.step(next.action));
-            }
-            if end > node.at + 1 {
-                self.successes.forget();
+                match self.go_on(node, &mut path, length, left) {
+                    Ok(next) => (node, step) = (next, task.step(next.action)),
+                    Err(round) => break 'node round,
+                }
             }
         };
         self.left = left;
@@ -226,15 +212,18 @@ impl Search<'_> {
     }
 }
 
-fn rounds(search: &mut Search, start: u64, value: u8, limit: u8) -> (Ending, usize) {
+/// The rounds, with a larger memory as soon as one has filled the small one.
+fn rounds(search: &mut Search, start: u64, value: u8, limit: u8) -> Ending {
     for depth in value..=limit {
         match search.round(start, value, depth.into()) {
-            Round::Found(length) => return (Ending::Found { cost: depth, length }, length),
-            Round::Spent => return (Ending::Spent { round: depth }, 0),
-            Round::Failed => {}
+            Round::Found(length, _) => {
+                return Ending::Found { cost: depth, length: length as usize };
+            }
+            Round::Spent => return Ending::Spent { round: depth },
+            Round::Failed => search.results.grow(),
         }
     }
-    (Ending::Over, 0)
+    Ending::Over
 }
 
 /// The search with its count; the tables were built. Refusal 11.
@@ -244,27 +233,24 @@ pub fn run(
     tables: &[u16],
     plan: &mut [u8],
 ) -> Result<(Ending, u32), Refusal> {
+    let budget = record.budget();
     let value = spaces.value(record.start(), tables);
-    let within = value.filter(|&value| value <= record.limit().into());
-    let (ending, written, left) = match within {
-        None => (if value.is_none() { Ending::None } else { Ending::Over }, 0, record.budget()),
-        Some(value) => {
-            let (task, start) = Compiled::of(record, spaces, tables);
-            let mut search = Search {
-                task: &task,
-                plan,
-                failures: Failures::none(),
-                successes: Successes::none(),
-                left: record.budget(),
-            };
-            let (ending, written) = rounds(&mut search, start, value as u8, record.limit());
-            (ending, written, search.left)
-        }
-    };
-    if written > plan.len() {
+    let Some(value) = value.filter(|&value| value <= record.limit().into()) else {
         plan.fill(255);
-        return Err(Refusal::new(Reason::ShortPlan, written));
+        return Ok((if value.is_none() { Ending::None } else { Ending::Over }, 0));
+    };
+    let (task, start) = Compiled::of(record, spaces, tables);
+    let mut search = Search { task: &task, results: Results::few(), budget, left: budget };
+    let ending = rounds(&mut search, start, value as u8, record.limit());
+    let count = budget - search.left;
+    let mut written = 0;
+    if let Ending::Found { cost, length } = ending {
+        if length > plan.len() {
+            plan.fill(255);
+            return Err(Refusal::new(Reason::ShortPlan, length));
+        }
+        written = Writer::of(plan).write(&mut search, start, value, cost.into(), 0);
     }
     plan[written..].fill(255);
-    Ok((ending, record.budget() - left))
+    Ok((ending, count))
 }

@@ -203,6 +203,39 @@ pub fn wandering(seed: u64, actions: usize, needs: usize) -> Task {
     }
 }
 
+/// Sixteen dials of four values: the pattern's are to be turned to 3, and as
+/// many others as told. An action turns one of the pattern a step on, where a
+/// dial outside has some value; either outcome sets up to eight dials outside
+/// anew, so that few states are met twice.
+pub fn scattering(seed: u64, members: usize, others: usize, limit: u8) -> Task {
+    const DIALS: usize = 16;
+    let mut random = Random::new(seed);
+    let mut outside = || {
+        let value = random.below(4) as u8;
+        (members + random.below(DIALS - members), value)
+    };
+    let mut turn = |number: usize| {
+        let (dial, from) = (number % members, (number / members % 4) as u8);
+        let needed = [(dial, from), outside()];
+        let mut outcome = || {
+            let mut named: Vec<(usize, u8)> = (0..8).map(|_| outside()).collect();
+            named.extend((from < 3).then_some((dial, from + 1)));
+            named
+        };
+        action(DIALS, &needed, &[&outcome(), &outcome()])
+    };
+    let start = |dial: usize| if members == 3 || dial >= members { 0 } else { 1 + dial as u8 % 2 };
+    Task {
+        sizes: vec![4; DIALS],
+        actions: (0..62).map(&mut turn).collect(),
+        goal: (0..DIALS).map(|dial| (dial < members + others).then_some(3)).collect(),
+        start: (0..DIALS).map(start).collect(),
+        patterns: vec![(0..DIALS).map(|dial| dial < members).collect()],
+        limit,
+        budget: 1_000_000,
+    }
+}
+
 /// A binary counter in one pattern: its table is as deep as it is long.
 pub fn counter(variables: usize) -> Task {
     tasks::counter(&mut Random::new(1), variables)
@@ -290,6 +323,10 @@ fn heavy(seed: u64) -> Vec<Instance> {
         search("rings, 64 actions", rings(seed + 6, 64, true, 1_000_000)),
         search("rings, 48 actions, no patterns", rings(seed + 5, 48, false, 1_000_000)),
         search("tower, 5 of 7 pallets in patterns", tower(7, 5)),
+        search("scattering, 64 states, found", scattering(28, 3, 1, 32)),
+        search("scattering, 64 states, over", scattering(87, 3, 1, 10)),
+        search("scattering, 4,096 states, found", scattering(32, 6, 0, 32)),
+        search("scattering, 4,096 states, over", scattering(100, 6, 1, 11)),
     ]
 }
 

@@ -17,11 +17,11 @@ enum-known-cost c = search needs
 
 returns : tie.Need-returns
 unfolding fiveNumbers numbersOf refusal
-returns c = rw (sym (c .before .before .before .check-plan .ensures) ∙ c .before .number .given .1)
+returns c = rw (sym (c .before .before .before .check-plan .ensures .0) ∙ c .before .number .given .1)
 
 returns-2 : tie.Need-returns-2
 unfolding fiveNumbers numbersOf answered
-returns-2 c = rw (sym (c .before .before .before .check-plan .ensures) ∙ c .before .cost .given .1)
+returns-2 c = rw (sym (c .before .before .before .check-plan .ensures .0) ∙ c .before .cost .given .1)
 
 pub planner-check-plan-spec : {M : Type 1} → statement M
 planner-check-plan-spec =

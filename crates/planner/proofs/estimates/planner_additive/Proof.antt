@@ -29,15 +29,15 @@ reply-requires-2 c κs = search needs
 
 returns : tie.Need-returns
 unfolding additivityNumbers
-returns c = c .refuse .ensures ∙ ap (λ x. fiveNumbers (additivityNumbers x)) (sym (c .before .before .number .given .1) ∙ c .before .before .before .before .additive .ensures)
+returns c = c .refuse .ensures ∙ ap (λ x. fiveNumbers (additivityNumbers x)) (sym (c .before .before .number .given .1) ∙ c .before .before .before .before .additive .ensures .0)
 
 returns-2 : tie.Need-returns-2
 unfolding additivityNumbers
-returns-2 c = c .reply .ensures ∙ ap (λ x. fiveNumbers (additivityNumbers x)) (sym (c .before .enum-told .given .1) ∙ c .before .before .before .additive .ensures)
+returns-2 c = c .reply .ensures ∙ ap (λ x. fiveNumbers (additivityNumbers x)) (sym (c .before .enum-told .given .1) ∙ c .before .before .before .additive .ensures .0)
 
 returns-3 : tie.Need-returns-3
 unfolding additivityNumbers
-returns-3 c = c .reply2 .ensures ∙ ap (λ x. fiveNumbers (additivityNumbers x)) (sym (c .before .before .action .given .1) ∙ c .before .before .before .before .additive .ensures)
+returns-3 c = c .reply2 .ensures ∙ ap (λ x. fiveNumbers (additivityNumbers x)) (sym (c .before .before .action .given .1) ∙ c .before .before .before .before .additive .ensures .0)
 
 pub planner-additive-spec : {M : Type 1} → statement M
 planner-additive-spec =

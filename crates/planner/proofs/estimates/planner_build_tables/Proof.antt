@@ -26,14 +26,14 @@ same-length c = search needs
 
 returns : tie.Need-returns
 unfolding tableBuildNumbers
-returns c = (c .refuse .ensures ∙ ap (λ x. fiveNumbers (tableBuildNumbers x)) (sym (c .before .before .number .given .1) ∙ c .before .before .before .before .before .before .build-tables .ensures .0), c .before .before .before .before .before .before .build-tables .ensures .1)
+returns c = (c .refuse .ensures ∙ ap (λ x. fiveNumbers (tableBuildNumbers x)) (sym (c .before .before .number .given .1) ∙ c .before .before .before .before .before .before .build-tables .ensures .0 .0), c .before .before .before .before .before .before .build-tables .ensures .0 .1)
 
 same-length-2 : tie.Need-same-length-2
 same-length-2 c = search needs
 
 returns-2 : tie.Need-returns-2
 unfolding tableBuildNumbers
-returns-2 c = (c .reply .ensures ∙ ap (λ x. fiveNumbers (tableBuildNumbers x)) (sym (c .before .before .entries .given .1) ∙ c .before .before .before .before .before .before .build-tables .ensures .0), c .before .before .before .before .before .before .build-tables .ensures .1)
+returns-2 c = (c .reply .ensures ∙ ap (λ x. fiveNumbers (tableBuildNumbers x)) (sym (c .before .before .entries .given .1) ∙ c .before .before .before .before .before .before .build-tables .ensures .0 .0), c .before .before .before .before .before .before .build-tables .ensures .0 .1)
 
 pub planner-build-tables-spec : {M : Type 1} → statement M
 planner-build-tables-spec =

@@ -29,15 +29,15 @@ reply-requires-2 c κs = search needs
 
 returns : tie.Need-returns
 unfolding valueNumbers
-returns c = c .refuse .ensures ∙ ap (λ x. fiveNumbers (valueNumbers x)) (sym (c .before .before .number .given .1) ∙ c .before .before .before .before .state-value .ensures)
+returns c = c .refuse .ensures ∙ ap (λ x. fiveNumbers (valueNumbers x)) (sym (c .before .before .number .given .1) ∙ c .before .before .before .before .state-value .ensures .0)
 
 returns-2 : tie.Need-returns-2
 unfolding valueNumbers
-returns-2 c = c .reply .ensures ∙ ap (λ x. fiveNumbers (valueNumbers x)) (sym (c .before .enum-told .given .1) ∙ c .before .before .before .state-value .ensures)
+returns-2 c = c .reply .ensures ∙ ap (λ x. fiveNumbers (valueNumbers x)) (sym (c .before .enum-told .given .1) ∙ c .before .before .before .state-value .ensures .0)
 
 returns-3 : tie.Need-returns-3
 unfolding valueNumbers
-returns-3 c = c .reply2 .ensures ∙ ap (λ x. fiveNumbers (valueNumbers x)) (sym (c .before .before .value .given .1) ∙ c .before .before .before .before .state-value .ensures)
+returns-3 c = c .reply2 .ensures ∙ ap (λ x. fiveNumbers (valueNumbers x)) (sym (c .before .before .value .given .1) ∙ c .before .before .before .before .state-value .ensures .0)
 
 pub planner-value-spec : {M : Type 1} → statement M
 planner-value-spec =

@@ -23,11 +23,11 @@ reply-requires c κs = search needs
 
 returns : tie.Need-returns
 unfolding numbersOf
-returns c = c .refuse .ensures ∙ ap (λ x. fiveNumbers (numbersOf x)) (sym (c .before .before .number .given .1) ∙ c .before .before .before .before .check-plan .ensures)
+returns c = c .refuse .ensures ∙ ap (λ x. fiveNumbers (numbersOf x)) (sym (c .before .before .number .given .1) ∙ c .before .before .before .before .check-plan .ensures .0)
 
 returns-2 : tie.Need-returns-2
 unfolding numbersOf
-returns-2 c = c .reply .ensures ∙ ap (λ x. fiveNumbers (numbersOf x)) (sym (c .before .before .cost .given .1) ∙ c .before .before .before .before .check-plan .ensures)
+returns-2 c = c .reply .ensures ∙ ap (λ x. fiveNumbers (numbersOf x)) (sym (c .before .before .cost .given .1) ∙ c .before .before .before .before .check-plan .ensures .0)
 
 pub planner-check-plan-spec : {M : Type 1} → statement M
 planner-check-plan-spec =

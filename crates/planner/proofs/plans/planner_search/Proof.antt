@@ -48,7 +48,7 @@ same-length-2 c = search needs
 returns : tie.Need-returns
 unfolding searchNumbers
 returns c = let s = c .before .before .before .before .before .before .before .before .search .ensures in
-    (c .refuse .ensures ∙ ap (λ x. fiveNumbers (searchNumbers x)) (sym (c .before .before .number .given .1) ∙ s .0), s .1 .0, s .1 .1)
+    (c .refuse .ensures ∙ ap (λ x. fiveNumbers (searchNumbers x)) (sym (c .before .before .number .given .1) ∙ s .0), s .1 .0, s .1 .1 .0)
 
 same-length-3 : tie.Need-same-length-3
 same-length-3 c = search needs
@@ -59,7 +59,7 @@ same-length-4 c = search needs
 returns-2 : tie.Need-returns-2
 unfolding searchNumbers
 returns-2 c = let s = c .before .before .before .before .before .before .before .before .search .ensures in
-    (c .reply .ensures ∙ ap (λ x. fiveNumbers (searchNumbers x)) (sym (c .before .before .cost .given .1) ∙ s .0), s .1 .0, s .1 .1)
+    (c .reply .ensures ∙ ap (λ x. fiveNumbers (searchNumbers x)) (sym (c .before .before .cost .given .1) ∙ s .0), s .1 .0, s .1 .1 .0)
 
 same-length-5 : tie.Need-same-length-5
 same-length-5 c = search needs
@@ -70,7 +70,7 @@ same-length-6 c = search needs
 returns-3 : tie.Need-returns-3
 unfolding searchNumbers
 returns-3 c = let s = c .before .before .before .before .before .before .before .before .search .ensures in
-    (c .reply2 .ensures ∙ ap (λ x. fiveNumbers (searchNumbers x)) (sym (c .before .before .count .given .1) ∙ s .0), s .1 .0, s .1 .1)
+    (c .reply2 .ensures ∙ ap (λ x. fiveNumbers (searchNumbers x)) (sym (c .before .before .count .given .1) ∙ s .0), s .1 .0, s .1 .1 .0)
 
 same-length-7 : tie.Need-same-length-7
 same-length-7 c = search needs
@@ -81,7 +81,7 @@ same-length-8 c = search needs
 returns-4 : tie.Need-returns-4
 unfolding searchNumbers
 returns-4 c = let s = c .before .before .before .before .before .before .before .before .search .ensures in
-    (c .reply3 .ensures ∙ ap (λ x. fiveNumbers (searchNumbers x)) (sym (c .before .before .round .given .1) ∙ s .0), s .1 .0, s .1 .1)
+    (c .reply3 .ensures ∙ ap (λ x. fiveNumbers (searchNumbers x)) (sym (c .before .before .round .given .1) ∙ s .0), s .1 .0, s .1 .1 .0)
 
 same-length-9 : tie.Need-same-length-9
 same-length-9 c = search needs
@@ -92,7 +92,7 @@ same-length-10 c = search needs
 returns-5 : tie.Need-returns-5
 unfolding searchNumbers
 returns-5 c = let s = c .before .before .before .before .before .before .before .before .search .ensures in
-    (c .reply4 .ensures ∙ ap (λ x. fiveNumbers (searchNumbers x)) (sym (c .before .before .count2 .given .1) ∙ s .0), s .1 .0, s .1 .1)
+    (c .reply4 .ensures ∙ ap (λ x. fiveNumbers (searchNumbers x)) (sym (c .before .before .count2 .given .1) ∙ s .0), s .1 .0, s .1 .1 .0)
 
 pub planner-search-spec : {M : Type 1} → statement M
 planner-search-spec =

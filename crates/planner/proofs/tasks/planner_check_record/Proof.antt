@@ -23,11 +23,11 @@ reply-requires c κs = search needs
 
 returns : tie.Need-returns
 unfolding recordNumbers
-returns c = c .refuse .ensures ∙ ap (λ x. fiveNumbers (recordNumbers x)) (sym (c .before .before .number .given .1) ∙ c .before .before .before .before .check-record .ensures)
+returns c = c .refuse .ensures ∙ ap (λ x. fiveNumbers (recordNumbers x)) (sym (c .before .before .number .given .1) ∙ c .before .before .before .before .check-record .ensures .0)
 
 returns-2 : tie.Need-returns-2
 unfolding recordNumbers
-returns-2 c = c .reply .ensures ∙ ap (λ x. fiveNumbers (recordNumbers x)) (sym (c .before .enum-told .given .1) ∙ c .before .before .before .check-record .ensures)
+returns-2 c = c .reply .ensures ∙ ap (λ x. fiveNumbers (recordNumbers x)) (sym (c .before .enum-told .given .1) ∙ c .before .before .before .check-record .ensures .0)
 
 pub planner-check-record-spec : {M : Type 1} → statement M
 planner-check-record-spec =

@@ -23,11 +23,11 @@ reply-requires c κs = search needs
 
 returns : tie.Need-returns
 unfolding stateNumbers
-returns c = c .refuse .ensures ∙ ap (λ x. fiveNumbers (stateNumbers x)) (sym (c .before .before .number .given .1) ∙ c .before .before .before .before .check-state .ensures)
+returns c = c .refuse .ensures ∙ ap (λ x. fiveNumbers (stateNumbers x)) (sym (c .before .before .number .given .1) ∙ c .before .before .before .before .check-state .ensures .0)
 
 returns-2 : tie.Need-returns-2
 unfolding stateNumbers
-returns-2 c = c .reply .ensures ∙ ap (λ x. fiveNumbers (stateNumbers x)) (sym (c .before .enum-told .given .1) ∙ c .before .before .before .check-state .ensures)
+returns-2 c = c .reply .ensures ∙ ap (λ x. fiveNumbers (stateNumbers x)) (sym (c .before .enum-told .given .1) ∙ c .before .before .before .check-state .ensures .0)
 
 pub planner-check-state-spec : {M : Type 1} → statement M
 planner-check-state-spec =

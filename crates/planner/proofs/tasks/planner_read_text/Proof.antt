@@ -26,14 +26,14 @@ same-length c = search needs
 
 returns : tie.Need-returns
 unfolding readNumbers
-returns c = (c .refuse .ensures ∙ ap (λ x. fiveNumbers (readNumbers x)) (sym (c .before .before .number .given .1) ∙ c .before .before .before .before .before .before .read-text .ensures .0), c .before .before .before .before .before .before .read-text .ensures .1)
+returns c = (c .refuse .ensures ∙ ap (λ x. fiveNumbers (readNumbers x)) (sym (c .before .before .number .given .1) ∙ c .before .before .before .before .before .before .read-text .ensures .0 .0), c .before .before .before .before .before .before .read-text .ensures .0 .1)
 
 same-length-2 : tie.Need-same-length-2
 same-length-2 c = search needs
 
 returns-2 : tie.Need-returns-2
 unfolding readNumbers
-returns-2 c = (c .reply .ensures ∙ ap (λ x. fiveNumbers (readNumbers x)) (sym (c .before .enum-told .given .1) ∙ c .before .before .before .before .before .read-text .ensures .0), c .before .before .before .before .before .read-text .ensures .1)
+returns-2 c = (c .reply .ensures ∙ ap (λ x. fiveNumbers (readNumbers x)) (sym (c .before .enum-told .given .1) ∙ c .before .before .before .before .before .read-text .ensures .0 .0), c .before .before .before .before .before .read-text .ensures .0 .1)
 
 pub planner-read-text-spec : {M : Type 1} → statement M
 planner-read-text-spec =

@@ -17,7 +17,7 @@ same-length : tie.Need-same-length
 same-length c = search needs
 
 returns : tie.Need-returns
-returns c = (λ v e. c .before .before .put-value .ensures .0 v (rw (c .before .before .before .before .start-cells .ensures) at (c .before .before .before .state-value .ensures) ∙ e), c .before .before .put-value .ensures .1)
+returns c = (λ v e. c .before .before .put-value .ensures .0 v (rw (c .before .before .before .before .start-cells .ensures) at (c .before .before .before .state-value .ensures .0) ∙ e), c .before .before .put-value .ensures .1)
 
 pub put-start-value-spec : {M : Type 1} → statement M
 put-start-value-spec =

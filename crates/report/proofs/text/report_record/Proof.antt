@@ -79,7 +79,7 @@ same-length-3 : tie.Need-same-length-3
 same-length-3 c = search needs
 
 returns : tie.Need-returns
-returns c = (rw (refusal-told _ _ _ _ _ (sym (c .before .before .before .before .before .number .given .1) ∙ c .before .before .before .before .before .before .before .before .before .before .before .search .ensures .0)) (c .before .before .put-refusal .ensures .0), c .before .before .before .before .before .before .before .before .before .before .before .search .ensures .1 .0, c .before .before .before .before .before .before .before .before .before .before .before .search .ensures .1 .1, omega (arith, c .before .before .put-refusal .ensures .1))
+returns c = (rw (refusal-told _ _ _ _ _ (sym (c .before .before .before .before .before .number .given .1) ∙ c .before .before .before .before .before .before .before .before .before .before .before .search .ensures .0)) (c .before .before .put-refusal .ensures .0), c .before .before .before .before .before .before .before .before .before .before .before .search .ensures .1 .0, c .before .before .before .before .before .before .before .before .before .before .before .search .ensures .1 .1 .0, omega (arith, c .before .before .put-refusal .ensures .1))
 
 same-length-4 : tie.Need-same-length-4
 same-length-4 c = search needs
@@ -93,9 +93,9 @@ same-length-6 c = search needs
 returns-2 : tie.Need-returns-2
 returns-2 c = let s = c .before .before .before .before .before .before .before .before .before .before .before .before .before .before .before .before .before .before .search .ensures in
     let e = sym (c .before .before .before .before .before .before .before .before .before .before .before .before .cost .given .1) ∙ s .0 in (
-      rw (found-told _ _ _ _ _ _ e _ _ (c .before .before .before .before .before .place .ensures) (s .1 .1)) (written-then (c .before .before .before .before .before .before .before .before .put-start-value .ensures .0 _ (start-value-told _ _ _ _ (is-found _ _ _) e (s .1 .0))) (c .before .before .put-found .ensures .0)),
+      rw (found-told _ _ _ _ _ _ e _ _ (c .before .before .before .before .before .place .ensures) (s .1 .1 .0)) (written-then (c .before .before .before .before .before .before .before .before .put-start-value .ensures .0 _ (start-value-told _ _ _ _ (is-found _ _ _) e (s .1 .0))) (c .before .before .put-found .ensures .0)),
       s .1 .0,
-      s .1 .1,
+      s .1 .1 .0,
       omega (arith, c .before .before .put-found .ensures .1, c .before .before .before .before .before .before .before .before .put-start-value .ensures .1, c .before .before .before .before .before .place .ensures, length-take (c .before .before .before .before .before .place .result) (c .before .before .before .before .before .before .before .before .before .before .before .before .before .before .before .before .before .before .search .last .1 .1 .0), found-within (c .before .before .before .before .before .before .before .before .before .before .before .before .before .before .before .before .before .before .before .before .before .before .before .before .before .args .rec .now) (c .before .before .before .before .before .before .before .before .before .before .before .before .before .before .before .before .before .before .before .before .before .before .before .before .before .args .tables .now) (c .before .before .before .before .before .before .before .before .before .before .before .before .before .before .before .before .before .before .before .before .before .before .before .before .before .args .plan .now) _ _ _ e),
     )
 
@@ -113,7 +113,7 @@ returns-3 c = let s = c .before .before .before .before .before .before .before 
     let e = sym (c .before .before .before .before .before .before .before .before .before .before .count .given .1) ∙ s .0 in (
       rw (over-told _ _ _ _ e) (written-then (c .before .before .before .before .before .before .put-start-value2 .ensures .0 _ (start-value-told _ _ _ _ (is-over _) e (s .1 .0))) (c .before .before .put-over .ensures .0)),
       s .1 .0,
-      s .1 .1,
+      s .1 .1 .0,
       omega (arith, c .before .before .put-over .ensures .1, c .before .before .before .before .before .before .put-start-value2 .ensures .1),
     )
 
@@ -131,7 +131,7 @@ returns-4 c = let s = c .before .before .before .before .before .before .before 
     let e = sym (c .before .before .before .before .before .before .before .before .before .before .round .given .1) ∙ s .0 in (
       rw (spent-told _ _ _ _ _ e) (written-then (c .before .before .before .before .before .before .put-start-value3 .ensures .0 _ (start-value-told _ _ _ _ (is-spent _ _) e (s .1 .0))) (c .before .before .put-spent .ensures .0)),
       s .1 .0,
-      s .1 .1,
+      s .1 .1 .0,
       omega (arith, c .before .before .put-spent .ensures .1, c .before .before .before .before .before .before .put-start-value3 .ensures .1),
     )
 
@@ -149,7 +149,7 @@ returns-5 c = let s = c .before .before .before .before .before .before .before 
     let e = sym (c .before .before .before .before .before .before .before .before .before .before .count2 .given .1) ∙ s .0 in (
       rw (none-told _ _ _ _ e) (written-then (c .before .before .before .before .before .before .put-start-value4 .ensures .0 _ (start-value-told _ _ _ _ (is-none _) e (s .1 .0))) (c .before .before .put-none .ensures .0)),
       s .1 .0,
-      s .1 .1,
+      s .1 .1 .0,
       omega (arith, c .before .before .put-none .ensures .1, c .before .before .before .before .before .before .put-start-value4 .ensures .1),
     )
 

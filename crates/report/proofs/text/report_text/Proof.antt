@@ -36,7 +36,7 @@ same-length : tie.Need-same-length
 same-length c = search needs
 
 returns : tie.Need-returns
-returns c = let e = sym (c .before .before .before .before .before .number .given .1) ∙ c .before .before .before .before .before .before .before .before .read-text .ensures .0 in
+returns c = let e = sym (c .before .before .before .before .before .number .given .1) ∙ c .before .before .before .before .before .before .before .before .read-text .ensures .0 .0 in
     let w = text-refused _ _ _ _ e refl in
     let p = printed-refusal _ (length (c .before .before .before .before .before .before .before .before .before .before .before .before .before .before .args .tables .now)) (length (c .before .before .before .before .before .before .before .before .before .before .before .before .before .before .args .plan .now)) (c .before .before .before .before .before .before .before .before .before .before .before .before .before .before .args .tables .now) (c .before .before .before .before .before .before .before .before .before .before .before .before .before .before .args .plan .now) _ _ w in
     let a = written-all (c .before .before .put-refusal .ensures .0) in
@@ -52,9 +52,9 @@ same-length-4 : tie.Need-same-length-4
 same-length-4 c = search needs
 
 returns-2 : tie.Need-returns-2
-returns-2 c = let e = sym (c .before .before .before .before .before .before .before .before .before .before .before .enum-told .given .1) ∙ c .before .before .before .before .before .before .before .before .before .before .before .before .before .before .read-text .ensures .0 in
+returns-2 c = let e = sym (c .before .before .before .before .before .before .before .before .before .before .before .enum-told .given .1) ∙ c .before .before .before .before .before .before .before .before .before .before .before .before .before .before .read-text .ensures .0 .0 in
     let w = text-read _ _ e refl in
-    let p = printed-record _ (length (c .before .before .before .before .before .before .before .before .before .before .before .before .before .before .before .before .before .before .before .before .args .tables .now)) (length (c .before .before .before .before .before .before .before .before .before .before .before .before .before .before .before .before .before .before .before .before .args .plan .now)) (c .before .before .before .before .before .before .before .before .before .before .before .before .before .before .before .before .before .before .before .before .args .tables .now) (c .before .before .before .before .before .before .before .before .before .before .before .before .before .before .before .before .before .before .before .before .args .plan .now) _ _ w (c .before .before .before .before .before .before .before .before .before .before .before .before .before .before .read-text .ensures .1) in
+    let p = printed-record _ (length (c .before .before .before .before .before .before .before .before .before .before .before .before .before .before .before .before .before .before .before .before .args .tables .now)) (length (c .before .before .before .before .before .before .before .before .before .before .before .before .before .before .before .before .before .before .before .before .args .plan .now)) (c .before .before .before .before .before .before .before .before .before .before .before .before .before .before .before .before .before .before .before .before .args .tables .now) (c .before .before .before .before .before .before .before .before .before .before .before .before .before .before .before .before .before .before .before .before .args .plan .now) _ _ w (c .before .before .before .before .before .before .before .before .before .before .before .before .before .before .read-text .ensures .0 .1) in
     let a = written-all (c .before .before .before .before .before .before .report-record .ensures .0) in (
       a .0 ∙ ap length (sym (p .0)),
       a .1 ∙ ap (λ (l : List ℕ). overwritten l (c .before .before .before .before .before .before .before .before .before .before .before .before .before .before .before .before .before .before .before .before .args .out .now)) (sym (p .0)),

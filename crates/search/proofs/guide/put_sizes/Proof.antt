@@ -31,9 +31,6 @@ limit-requires c κs = search needs
 number-requires-4 : tie.Need-number-requires-4
 number-requires-4 c κs = search needs
 
-budget-requires : tie.Need-budget-requires
-budget-requires c κs = search needs
-
 slice-write-guide : tie.Need-slice-write-guide
 slice-write-guide c = search needs
 
@@ -47,20 +44,20 @@ slice-write-guide-4 : tie.Need-slice-write-guide-4
 slice-write-guide-4 c = search needs
 
 slice-write-guide-5 : tie.Need-slice-write-guide-5
-slice-write-guide-5 c = simp length-set (omega (arith, c .before .before .before .before .before .before .before .before .before .before .before .pre))
+slice-write-guide-5 c = simp length-set (omega (arith, c .before .before .before .before .before .before .before .before .before .before .pre))
 
 same-length : tie.Need-same-length
 same-length c = search needs
 
 returns : tie.Need-returns
-returns c = let l = c .before .before .before .before .before .before .before .before .before .before .before .args .guide .now in let n = c .before .before .before .before .before .before .before .before .before .before .before .pre in
-    let a = c .before .before .before .before .before .before .before .number .result in let b = c .before .before .before .before .before .number2 .result in let e = c .before .before .before .number3 .result in let f = c .budget .result in let g = c .before .number4 .result in (
+returns c = let l = c .before .before .before .before .before .before .before .before .before .before .args .guide .now in let n = c .before .before .before .before .before .before .before .before .before .before .pre in
+    let a = c .before .before .before .before .before .before .number .result in let b = c .before .before .before .before .number2 .result in let e = c .before .before .number3 .result in let f = c .before .before .before .before .before .before .before .before .before .before .args .budget in let g = c .number4 .result in (
       record {
-        patterns = sized-8 l a b e f g n ∙ c .before .before .before .before .before .before .before .number .ensures .0 ∙ c .before .before .before .before .before .before .before .before .pattern-count .ensures;
-        variables = sized-9 l a b e f g n ∙ c .before .before .before .before .before .number2 .ensures .0 ∙ c .before .before .before .before .before .before .variable-count .ensures;
-        actions = sized-10 l a b e f g n ∙ c .before .before .before .number3 .ensures .0 ∙ c .before .before .before .before .action-count .ensures;
-        budget = sized-11 l a b e f g n ∙ c .budget .ensures;
-        limit = sized-12 l a b e f g n ∙ c .before .number4 .ensures .0 ∙ c .before .before .limit .ensures;
+        patterns = sized-8 l a b e f g n ∙ c .before .before .before .before .before .before .number .ensures .0 ∙ c .before .before .before .before .before .before .before .pattern-count .ensures;
+        variables = sized-9 l a b e f g n ∙ c .before .before .before .before .number2 .ensures .0 ∙ c .before .before .before .before .before .variable-count .ensures;
+        actions = sized-10 l a b e f g n ∙ c .before .before .number3 .ensures .0 ∙ c .before .before .before .action-count .ensures;
+        spends = sized-11 l a b e f g n;
+        limit = sized-12 l a b e f g n ∙ c .number4 .ensures .0 ∙ c .before .limit .ensures;
       },
       sizes-put l a b e f g n,
     )
@@ -77,7 +74,6 @@ put-sizes-spec =
     number-requires-3
     limit-requires
     number-requires-4
-    budget-requires
     slice-write-guide
     slice-write-guide-2
     slice-write-guide-3

@@ -1,0 +1,40 @@
+-- `search::memory::result_word` meets its contract. Assumes nothing.
+use borrow.Author.Needs.{needs}
+use Rattle.search.proofs.memory.result_word.Statement.{statement}
+use Rattle.search.proofs.memory.result_word.Tie as tie
+use mathlib.Core.Path.{refl}
+use Rattle.search.specs.Memory.{resultWord}
+
+mul-result : tie.Need-mul-result
+mul-result c = search needs
+
+add-result : tie.Need-add-result
+add-result c = search needs
+
+mul-result-2 : tie.Need-mul-result-2
+mul-result-2 c = search needs
+
+add-result-2 : tie.Need-add-result-2
+add-result-2 c = search needs
+
+mul-result-3 : tie.Need-mul-result-3
+mul-result-3 c = search needs
+
+add-result-3 : tie.Need-add-result-3
+add-result-3 c = search needs
+
+returns : tie.Need-returns
+unfolding resultWord
+returns c = refl
+
+pub result-word-spec : {M : Type 1} → statement M
+result-word-spec =
+    tie.close
+    (tie.spec
+    mul-result
+    add-result
+    mul-result-2
+    add-result-2
+    mul-result-3
+    add-result-3
+    returns)
