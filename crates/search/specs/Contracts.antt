@@ -7,7 +7,7 @@ use Rattle.planning.specs.Search.{Result}
 use Rattle.search.specs.Examination.{planSize, planHead, visitCount, sizeBy, endingOf, Guided}
 use Rattle.search.specs.Guide.{budgetIn}
 use Rattle.search.specs.Memory.{Remembers}
-use Rattle.search.specs.Packed.{guidedExamination, guidedValue}
+use Rattle.search.specs.Packed.{guidedExamination, guidedOpening, guidedValue}
 use Rattle.search.specs.Value.{Estimated}
 use Rattle.search.specs.declared.examine.Opening.{Opening}
 use Rattle.search.specs.declared.examine.Ending.{Ending}
@@ -43,3 +43,8 @@ pub record Examines {A : Type 0} (size head : A → ℕ) (r : ℕ → ℕ → �
 unfoldable pub Glanced : (ℕ → ℕ → ℕ → Result Plan) → ℕ → Opening → Result Plan → ℕ → List ℕ → Glance → Type 0
 Glanced r budget o x c memory (Decided a) = Examines planSize planHead r budget x c memory a
 Glanced r budget o x c memory Glance.Open = o ≡ Opening.Expand
+
+-- What the leaf answers of a state that may be examined, whatever the arrays that it is not lent.
+abbrev pub Looks : (task guide memory : List ℕ) (s value d c : ℕ) → Glance → Type 0
+Looks task guide memory s value d c a = (sets places rows tables : List ℕ) → Examinable task sets places rows guide tables memory s value d c →
+    Glanced (guidedExamination task rows guide tables) (budgetIn guide) (guidedOpening task rows guide tables d s c) (guidedExamination task rows guide tables d s c) c memory a

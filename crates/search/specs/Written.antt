@@ -8,6 +8,7 @@ use Rattle.planning.specs.Plan.{Plan, encode}
 use Rattle.planning.specs.Search.{Result, succeeded}
 use Rattle.search.specs.Buffer.{Keeps, Holds}
 use Rattle.search.specs.Examination.{planSize}
+use Rattle.search.specs.Guide.{budgetIn}
 use Rattle.search.specs.Memory.{Said, Says, Remembers}
 use Rattle.search.specs.Packed.{guidedExamination}
 use Rattle.search.specs.Contracts.{Examinable}
@@ -52,3 +53,8 @@ pub record Written (r : ℕ → ℕ → ℕ → Result Plan) (budget : ℕ) (p :
   -- The memory is still true, and so is what is known of plans that stand in the buffer.
   pub remembers : Remembers r budget memory
   pub stands : Stands r written new end
+
+-- The same of the plan that state s succeeds with, from count c with depth d.
+abbrev pub Writes : (task rows guide tables : List ℕ) (d s c at : ℕ) (memory written old new : List ℕ) (end : ℕ) → Type 0
+Writes task rows guide tables d s c at memory written old new end = (p : Plan) (k : ℕ) → guidedExamination task rows guide tables d s c ≡ succeeded p k →
+    Written (guidedExamination task rows guide tables) (budgetIn guide) p at memory written old new end

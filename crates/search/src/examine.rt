@@ -2,7 +2,6 @@
 // without examining another state is a leaf beside them (`look`). The count of examinations is carried in every ending, and every result is
 // remembered. Asks for what `Examinable` names, and gives what `Examines` names.
 ghost use mathlib.Core.Path.{_≡_};
-ghost use mathlib.Core.List.{List};
 ghost use Prim.Native.Nat.{ℕ, _+_, _-_, _<_, _≤_};
 ghost use lib.Bits.{bitAnd};
 ghost use lib.Count.{trailingZeros};
@@ -12,8 +11,8 @@ ghost use Rattle.planning.specs.Extended.{ℕ∞, _≤?_};
 ghost use Rattle.tables.specs.Packed.{packedSystem};
 ghost use Rattle.search.specs.Guide.{actionsIn, budgetIn};
 ghost use Rattle.search.specs.Examination.{openingOf, planSize, planHead, plansSize, plansHead};
-ghost use Rattle.search.specs.Packed.{guidedExamination, guidedOpening, guidedOutcomes};
-ghost use Rattle.search.specs.Contracts.{Examinable, Examines, Glanced};
+ghost use Rattle.search.specs.Packed.{guidedExamination, guidedOutcomes};
+ghost use Rattle.search.specs.Contracts.{Examinable, Examines, Looks};
 ghost use Rattle.search.specs.declared.examine.Opening.{Opening};
 use crate::carried::rest_of;
 use crate::carried::sum_with;
@@ -128,7 +127,7 @@ fn look(
     count: u32,
 ) -> Glance
     requires { ⌜ (count ≤ budgetIn (now guide)) × (budgetIn (now guide) ≤ 1000000) × (2 ≤ length (now memory)) ⌝ }
-    ensures { λ r. ⌜ ((sets places rows tables : List ℕ) → Examinable (now (task .entry)) sets places rows (now (guide .entry)) tables (now (memory .entry)) s value d count → Glanced (guidedExamination (now (task .entry)) rows (now (guide .entry)) tables) (budgetIn (now (guide .entry))) (guidedOpening (now (task .entry)) rows (now (guide .entry)) tables d s count) (guidedExamination (now (task .entry)) rows (now (guide .entry)) tables d s count) count (now (memory .entry)) r) ⌝ }
+    ensures { λ r. ⌜ Looks (now (task .entry)) (now (guide .entry)) (now (memory .entry)) s value d count r ⌝ }
 {
     let budget = budget_in(guide);
     match open_state(task, s, value, d, budget, count) {

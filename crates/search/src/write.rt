@@ -8,11 +8,10 @@ ghost use lib.ListN.{length};
 ghost use Rattle.planning.specs.Plan.{Plan, encode};
 ghost use Rattle.planning.specs.Search.{succeeded};
 ghost use Rattle.search.specs.Buffer.{Holds};
-ghost use Rattle.search.specs.Guide.{budgetIn};
 ghost use Rattle.search.specs.Examination.{planSize};
 ghost use Rattle.search.specs.Packed.{guidedExamination};
 ghost use Rattle.search.specs.Contracts.{Examinable};
-ghost use Rattle.search.specs.Written.{Writable, Written};
+ghost use Rattle.search.specs.Written.{Writable, Writes};
 use crate::buffer::put;
 use crate::carried::rest_of;
 use crate::carried::sum_with;
@@ -56,7 +55,7 @@ fn write_plan(
     at: usize,
 ) -> usize
     requires { ⌜ Writable (now task) (now sets) (now places) (now rows) (now guide) (now tables) (now memory) (now written) (now plan) (v .s) (v .value) (v .d) (v .count) at ⌝ }
-    ensures { λ r. ⌜ ((p : Plan) (k : ℕ) → guidedExamination (now (task .entry)) (now (rows .entry)) (now (guide .entry)) (now (tables .entry)) (v .d) (v .s) (v .count) ≡ succeeded p k → Written (guidedExamination (now (task .entry)) (now (rows .entry)) (now (guide .entry)) (now (tables .entry))) (budgetIn (now (guide .entry))) p at (now (memory .exit)) (now (written .exit)) (now (plan .entry)) (now (plan .exit)) r) ⌝ }
+    ensures { λ r. ⌜ Writes (now (task .entry)) (now (rows .entry)) (now (guide .entry)) (now (tables .entry)) (v .d) (v .s) (v .count) at (now (memory .exit)) (now (written .exit)) (now (plan .entry)) (now (plan .exit)) r ⌝ }
 {
     let known = find_passage(written, v.s, v.d);
     if known.size != 0 {

@@ -119,7 +119,9 @@ pub fn prepare(
     sets: &mut [u64; 2048],
     start: &mut u64,
 ) -> EstimateCheck
-    ensures { λ r. ⌜ (r ≡ estimateCheck (now (rec .entry)) (length (now (tables .entry)))) × (now (tables .exit) ≡ tablesPrepared (now (rec .entry)) (now (tables .entry))) × (now (task .exit) ≡ wordsPrepared (now (rec .entry)) (length (now (tables .entry))) (now (task .entry))) × (now (sets .exit) ≡ setsPrepared (now (rec .entry)) (length (now (tables .entry))) (now (sets .entry))) × (now (start .exit) ≡ startPrepared (now (rec .entry)) (length (now (tables .entry))) (now (start .entry))) ⌝ }
+    ensures { λ r. ⌜ (r ≡ estimateCheck (now (rec .entry)) (length (now (tables .entry)))) × (now (tables .exit) ≡ tablesPrepared (now (rec .entry)) (now (tables .entry))) × (now (task .exit) ≡ wordsPrepared (now (rec .entry)) (length (now (tables .entry))) (now (task .entry))) ⌝ }
+    ensures sets { λ _. ⌜ now (sets .exit) ≡ setsPrepared (now (rec .entry)) (length (now (tables .entry))) (now (sets .entry)) ⌝ }
+    ensures start { λ _. ⌜ now (start .exit) ≡ startPrepared (now (rec .entry)) (length (now (tables .entry))) (now (start .entry)) ⌝ }
     ensures numbers { λ r. ⌜ estimateNumbers r ≡ estimateByLines (now (rec .entry)) (length (now (tables .entry))) ⌝ }
 {
     match check_estimate(rec, tables.len()) {

@@ -22,7 +22,7 @@ budget-requires : tie.Need-budget-requires
 budget-requires c κs = search needs
 
 search-built-requires : tie.Need-search-built-requires
-search-built-requires c κs = let a = c .before .before .before .before .before .before .before .before .before .before .before .before .before .before .before .before .before .args in let e = c .before .before .before .before .before .before .before .before .before .prepare .ensures .0 in prepared (a .rec .now) (a .tables .now) (sym (e .0) ∙ c .before .before .before .before .before .enum-told .given .1) (replicate 1282 0) (replicate 2048 0) 0 (e .1) (e .2) (e .3) (e .4) (c .before .before .before .before .budget .ensures)
+search-built-requires c κs = let a = c .before .before .before .before .before .before .before .before .before .before .before .before .before .before .before .before .before .args in let e = c .before .before .before .before .before .before .before .before .before .prepare .ensures in prepared (a .rec .now) (a .tables .now) (sym (e .0 .0) ∙ c .before .before .before .before .before .enum-told .given .1) (replicate 1282 0) (replicate 2048 0) 0 (e .0 .1) (e .0 .2) (e .1 .0) (e .1 .1 .0) (c .before .before .before .before .budget .ensures)
 
 same-length : tie.Need-same-length
 same-length c = search needs

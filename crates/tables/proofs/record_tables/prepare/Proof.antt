@@ -74,7 +74,7 @@ returns : tie.Need-returns
 unfolding whereReady
 returns c = let a = c .before .before .before .before .before .before .args in let h = sym (c .before .before .before .check-estimate .ensures .0) ∙ c .before .number .given .1 in
     let k = left-by (a .rec .now) (a .tables .now) (a .task .now) (a .sets .now) (a .start .now) _ h in
-    ((sym h, k .0, k .1, k .2, k .3), sym (ap estimateNumbers (c .before .number .given .1)) ∙ c .before .before .before .check-estimate .ensures .1)
+    ((sym h, k .0, k .1), (k .2, (k .3, sym (ap estimateNumbers (c .before .number .given .1)) ∙ c .before .before .before .check-estimate .ensures .1)))
 
 same-length : tie.Need-same-length
 same-length c = search needs
@@ -88,8 +88,8 @@ returns-2 c = let a = c .before .before .before .before .before .before .before 
     let sets = c .before .fill-sets .ensures
     ∙ sets-of r (a .sets .now) words (c .before .before .before .before .before .before .wide .ensures .0 ∙ c .before .before .before .before .before .before .before .action-count .ensures)
     (c .before .before .before .before .wide2 .ensures .0 ∙ c .before .before .before .before .before .variable-count .ensures) in (
-      (sym h, c .before .before .before .before .before .before .before .before .before .before .build-all .ensures ∙ k .0, words ∙ k .1, sets ∙ k .2, c .start-word .ensures ∙ k .3),
-      sym (ap estimateNumbers (c .before .before .before .before .before .before .before .before .before .before .before .before .before .before .before .enum-told .given .1)) ∙ c .before .before .before .before .before .before .before .before .before .before .before .before .before .before .before .before .before .check-estimate .ensures .1,
+      (sym h, c .before .before .before .before .before .before .before .before .before .before .build-all .ensures ∙ k .0, words ∙ k .1),
+      (sets ∙ k .2, (c .start-word .ensures ∙ k .3, sym (ap estimateNumbers (c .before .before .before .before .before .before .before .before .before .before .before .before .before .before .before .enum-told .given .1)) ∙ c .before .before .before .before .before .before .before .before .before .before .before .before .before .before .before .before .before .check-estimate .ensures .1)),
     )
 
 pub prepare-spec : {M : Type 1} → statement M
