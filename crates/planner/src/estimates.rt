@@ -1,11 +1,12 @@
-// Tables, the additivity verdict and values, for C.
+// Tables, their spread, the additivity verdict and values, for C.
 ghost use mathlib.Core.Path.{_≡_};
 ghost use lib.ListN.{length};
 ghost use Rattle.tables.specs.RecordTables.{tableBuild, tablesBuilt};
+ghost use Rattle.tables.specs.Spread.{tableSpread, tablesSpread, rowSpread};
 ghost use Rattle.patterns.specs.Additivity.{additivity};
 ghost use Rattle.patterns.specs.Value.{stateValue};
 ghost use Rattle.patterns.specs.Answers.{additivityNumbers, valueNumbers};
-ghost use Rattle.tables.specs.Answers.{tableBuildNumbers};
+ghost use Rattle.tables.specs.Answers.{tableBuildNumbers, spreadNumbers};
 ghost use Rattle.planner.specs.ForC.{fiveNumbers};
 use crate::answer::PlannerAnswer;
 use crate::answer::refuse;
@@ -16,6 +17,8 @@ use patterns::verdict::Additivity;
 use patterns::verdict::additive;
 use tables::record_tables::TableBuild;
 use tables::record_tables::build_tables;
+use tables::spread::TableSpread;
+use tables::spread::spread;
 
 #[no_mangle]
 pub extern "C" fn planner_build_tables(rec: &[u8], tables: &mut [u16]) -> PlannerAnswer
@@ -24,6 +27,21 @@ pub extern "C" fn planner_build_tables(rec: &[u8], tables: &mut [u16]) -> Planne
     match build_tables(rec, tables) {
         TableBuild::Refused(number, second) => refuse(number, second),
         TableBuild::Built(entries) => reply(0, entries, 0, 0),
+    }
+}
+
+#[no_mangle]
+pub extern "C" fn planner_spread(
+    rec: &[u8],
+    pattern: u64,
+    tables: &mut [u16],
+    row: &mut [u32],
+) -> PlannerAnswer
+    ensures { λ r. ⌜ (r ≡ fiveNumbers (spreadNumbers (tableSpread (now (rec .entry)) pattern (length (now (tables .entry))) (length (now (row .entry)))))) × (now (tables .exit) ≡ tablesSpread (now (rec .entry)) pattern (now (tables .entry)) (length (now (row .entry)))) × (now (row .exit) ≡ rowSpread (now (rec .entry)) pattern (length (now (tables .entry))) (now (row .entry))) ⌝ }
+{
+    match spread(rec, pattern, tables, row) {
+        TableSpread::Refused(number, second) => refuse(number, second),
+        TableSpread::Counted(states) => reply(0, states, 0, 0),
     }
 }
 

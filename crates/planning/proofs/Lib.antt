@@ -20,6 +20,7 @@ pub mod Task
 pub mod Pattern
 pub mod Verdict
 pub mod Table
+pub mod Spread
 pub mod Build
 pub mod Estimate
 pub mod Answer

@@ -15,7 +15,7 @@ use Rattle.planning.specs.Extended.{ℕ∞, fin, inf, infiniteFrom}
 use Rattle.planning.specs.System.{iterate, IsCost, costWithin}
 use Rattle.planning.specs.Task.{Action, Task, system, noAction, inSizes, State, WellFormed}
 use Rattle.planning.specs.Pattern.{keep, project, maskAction, abstraction, AbstractState}
-use Rattle.planning.specs.Table.{indexFrom, index, stateCount, stateAt, entryAt, largestWeight, tableRound, tableAfter, roundsEnough, weightedTable, table, entryOf, costOf, tables, value, estimate, Small}
+use Rattle.planning.specs.Table.{indexFrom, index, stateCount, stateAt, entryAt, largestWeight, tableRound, tableAfter, roundsEnough, weightedTable, table, entryOf, costOf, tables, EntriesBelow, value, estimate, Small, mostCost}
 use Rattle.planning.proofs.Test.{false-not-T, and-in, and-l, and-r, by-test, not-equal}
 use Rattle.planning.proofs.Finite.{all-imp, all-at, length-tabulate, getD-tabulate, some-tabulate, getD-map}
 use Rattle.planning.proofs.Extended.{infinite-below, infinite-above}
@@ -156,10 +156,6 @@ module _ (t : Task) (p : List ℕ) (q : Action → ℕ) where
     unfolding entryAt
     table-entry i l = rw (index-at-state (t .sizes) p (w .sizes-positive) i l) at (table-is-cost (stateAt (t .sizes) p i) (state-at-abstract t w p i))
 
--- Finite entries of a table are below n.
-abbrev pub EntriesBelow : ℕ → List ℕ∞ → Type 0
-EntriesBelow n tab = (i k : ℕ) → getD tab i inf ≡ fin k → k < n
-
 finite-below : (n : ℕ) (x : ℕ∞) (k : ℕ) → infiniteFrom (suc n) x ≡ fin k → k < suc n
 finite-below n x k e = by-test (leb k n)
     (λ b. let l : k ≤ n = leb→le k n (rw b tt) in omega arith)
@@ -167,8 +163,8 @@ finite-below n x k e = by-test (leb k n)
     let a : leb k k ≡ leb k n = rw e at (infinite-above n x k (omega arith) ∙ sym (infinite-below (suc n) x n (omega arith))) in
     absurd (false-not-T (a ∙ b) (le→leb k k (omega arith))))
 
--- A finite entry is at most (number of abstract states - 1) times the largest weight; where every action counts 1 at most, at most
--- the number of abstract states - 1.
+-- A finite entry is at most (number of abstract states - 1) times the largest weight; where every action counts 1 at most and the pattern has at
+-- most 4,096 states, at most `mostCost`.
 pub entries-bounded : (t : Task) (p : List ℕ) (q : Action → ℕ) → EntriesBelow (suc ((stateCount (t .sizes) p - 1) * largestWeight (t .actions) q)) (weightedTable t p q)
 unfolding weightedTable roundsEnough infiniteFrom
 entries-bounded t p q i k e = finite-below ((stateCount (t .sizes) p - 1) * largestWeight (t .actions) q) (getD (tableAfter t p q (roundsEnough t p q)) i inf) k
@@ -179,9 +175,9 @@ unfolding largestWeight
 largest-weight-at-most [] q n h = omega arith
 largest-weight-at-most (a ∷ rest) q n h = omega (arith, h .0, largest-weight-at-most rest q n (h .1))
 
-pub unit-entries-bounded : (t : Task) → All (λ a. a .weight ≤ 1) (t .actions) → (p : List ℕ) → EntriesBelow (suc (stateCount (t .sizes) p - 1)) (table t p)
+pub light-entries-bounded : (t : Task) → All (λ a. a .weight ≤ 1) (t .actions) → (p : List ℕ) → stateCount (t .sizes) p ≤ 4096 → EntriesBelow (suc mostCost) (table t p)
 unfolding table
-unit-entries-bounded t u p i k e = let l = entries-bounded t p (λ a. a .weight) i k e in
+light-entries-bounded t u p h i k e = let l = entries-bounded t p (λ a. a .weight) i k e in
     let b = mul-le-mul-left (stateCount (t .sizes) p - 1) (largest-weight-at-most (t .actions) (λ a. a .weight) 1 u) in omega arith
 
 -- An entry of 16 bits holds a value below 65,535, or infinity.
@@ -216,4 +212,4 @@ module _ (t : Task) (s : List ℕ) (o : State t s) where
   -- So it is where each pattern has at most 4,096 states and each action counts 1 at most.
   pub value-of-built : All (λ a. a .weight ≤ 1) (t .actions) → (ps : List (List ℕ)) → Small t ps → (rest : List ℕ) → value (t .sizes) ps (tables t ps ++ rest) s ≡ estimate t ps s
   unfolding Small
-  value-of-built u ps h rest = value-of-entries-below ps (all-imp (λ p l i k e. let b = unit-entries-bounded t u p i k e in omega arith) ps h) rest
+  value-of-built u ps h rest = value-of-entries-below ps (all-imp (λ p l i k e. let b = light-entries-bounded t u p l i k e in omega arith) ps h) rest

@@ -7,6 +7,7 @@ pub mod Estimate
 pub mod Task
 pub mod Pattern
 pub mod Table
+pub mod Spread
 pub mod Search
 pub mod Examinations
 pub mod PlanCheck

@@ -1,7 +1,8 @@
 -- Tables of patterns and the value of a state: document 01, "Patterns and their tables" and "Value". Assumes nothing.
+use mathlib.Core.Path.{_≡_}
 use mathlib.Core.Bool.{cond}
 use mathlib.Core.List.{List, [], _∷_, map}
-use Prim.Native.Nat.{ℕ, zero, suc, _+_, _*_, _-_, _/_, _%_, _≤_, max}
+use Prim.Native.Nat.{ℕ, zero, suc, _+_, _*_, _-_, _/_, _%_, _≤_, _<_, max}
 use lib.Dec.{eqb}
 use lib.ListN.{getD, drop, replicate}
 use Rattle.planning.specs.Finite.{All, tabulate, chain}
@@ -72,6 +73,10 @@ costOf e = cond (eqb e 65535) inf (fin e)
 unfoldable pub tables : Task → List (List ℕ) → List ℕ
 tables t ps = chain (λ p. map entryOf (table t p)) ps
 
+-- Finite entries of a table are below n.
+abbrev pub EntriesBelow : ℕ → List ℕ∞ → Type 0
+EntriesBelow n tab = (i k : ℕ) → getD tab i inf ≡ fin k → k < n
+
 -- "The sum of the entries of a state's projections, infinite if one is", from any tables that are lent.
 unfoldable pub value : List ℕ → List (List ℕ) → List ℕ → List ℕ → ℕ∞
 value zs [] tabs s = fin 0
@@ -84,3 +89,7 @@ estimate t ps s = sum∞ (λ p. entryAt (t .sizes) p (table t p) (project p s)) 
 -- "A pattern has at most 4,096 states".
 unfoldable pub Small : Task → List (List ℕ) → Type 0
 Small t ps = All (λ p. stateCount (t .sizes) p ≤ 4096) ps
+
+-- The largest finite cost that an entry can have: one less than the 4,096 states, where every action counts 1 (light-entries-bounded).
+abbrev pub mostCost : ℕ
+mostCost = 4095

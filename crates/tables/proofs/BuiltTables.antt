@@ -14,7 +14,7 @@ use Rattle.planning.specs.Task.{Task, WellFormed, system}
 use Rattle.planning.specs.Pattern.{Additive, abstraction}
 use Rattle.planning.specs.Table.{stateCount, stateAt, table, tables, entryOf, costOf, estimate, Small}
 use Rattle.planning.proofs.Finite.{all-imp, all-at, getD-map}
-use Rattle.planning.proofs.Table.{table-length, table-entry, unit-entries-bounded, cost-of-entry}
+use Rattle.planning.proofs.Table.{table-length, table-entry, light-entries-bounded, cost-of-entry}
 use Rattle.task_record.specs.Record.{Sound}
 use Rattle.task_record.specs.State.{stateCheck}
 use Rattle.task_record.specs.TaskOf.{taskOf, patternsOf}
@@ -144,17 +144,20 @@ module _ (r tabs : List ℕ) where
           rw (
             entry-is,
             cost-of-entry (getD (table (taskOf r) pattern) i inf)
-                (λ c e. let b = unit-entries-bounded (taskOf r) (unit-weights r) pattern i c e in omega arith),
+                (λ c e. let b = light-entries-bounded (taskOf r) (unit-weights r) pattern h i c e in omega arith),
           )
           (table-entry (taskOf r) pattern (λ a. a .weight) well-formed weights-positive i inside)
 
   -- A build keeps the length of what it is lent, whatever it answers.
-  left-length : (t : TableCheck) → tableCheck r (length tabs) ≡ t → length (whereFits t (builtOver r tabs) tabs) ≡ length tabs
-  unfolding whereFits builtOver
-  left-length (of-tables.Fits n) h =
+  pub built-over-length : Buildable r (length tabs) → length (builtOver r tabs) ≡ length tabs
+  unfolding builtOver
+  built-over-length b =
       let a = length-append (tables (taskOf r) (patternsOf r)) (drop (entriesNeeded (taskOf r .sizes) (patternsOf r)) tabs) in
-      let b = built-length (taskOf r) (patternsOf r) in let d = length-drop (entriesNeeded (taskOf r .sizes) (patternsOf r)) tabs in
-      let m = fits-buildable r (length tabs) n h .room in omega arith
+      let e = built-length (taskOf r) (patternsOf r) in let d = length-drop (entriesNeeded (taskOf r .sizes) (patternsOf r)) tabs in omega (arith, b .room)
+
+  left-length : (t : TableCheck) → tableCheck r (length tabs) ≡ t → length (whereFits t (builtOver r tabs) tabs) ≡ length tabs
+  unfolding whereFits
+  left-length (of-tables.Fits n) h = built-over-length (fits-buildable r (length tabs) n h)
   left-length (of-tables.Refused n x) h = refl
 
   pub build-keeps-length : length (tablesBuilt r tabs) ≡ length tabs

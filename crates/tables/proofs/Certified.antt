@@ -11,13 +11,13 @@ use Rattle.planning.specs.Extended.{ℕ∞, inf, _≤?_, _≤∞_}
 use Rattle.planning.specs.System.{System, applies, Invariant}
 use Rattle.planning.specs.Task.{Task, WellFormed}
 use Rattle.planning.specs.Pattern.{AbstractState}
-use Rattle.planning.specs.Table.{index, weightedTable, table, entryOf}
+use Rattle.planning.specs.Table.{index, weightedTable, table, entryOf, EntriesBelow}
 use Rattle.planning.proofs.Test.{T-true, and-in, by-test}
 use Rattle.planning.proofs.Finite.{all-imp, every-imp}
 use Rattle.planning.proofs.Extended.{mono?}
 use Rattle.planning.proofs.System.{solvable, solves-goal, solves-act, cost-solvable}
 use Rattle.planning.proofs.Pattern.{abstraction-invariant}
-use Rattle.planning.proofs.Table.{index-below, state-at-index, state-at-abstract, table-entry, EntriesBelow}
+use Rattle.planning.proofs.Table.{index-below, state-at-index, state-at-abstract, table-entry}
 use Rattle.tables.specs.Packable.{Packable}
 use Rattle.tables.specs.Steps.{Space, offerAt, permittedAt}
 use Rattle.tables.specs.Certified.{Attained, Exact, Certified}

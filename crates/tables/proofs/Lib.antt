@@ -19,5 +19,7 @@ pub mod Building
 pub mod CompiledAction
 pub mod TableChain
 pub mod BuiltTables
+pub mod Spreading
+pub mod SpreadCounts
 pub mod FromText
 pub mod Sample

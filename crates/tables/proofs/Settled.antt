@@ -16,13 +16,13 @@ use Rattle.planning.specs.Extended.{ℕ∞, fin, inf, _≤?_, _≤∞_}
 use Rattle.planning.specs.System.{System, applies}
 use Rattle.planning.specs.Task.{Action, Task, apply, actionAt, system, fitsSizes, WellFormed}
 use Rattle.planning.specs.Pattern.{mask, maskAction, abstraction, AbstractState}
-use Rattle.planning.specs.Table.{index, stateCount, stateAt, entryAt, weightedTable, table, entryOf, costOf}
+use Rattle.planning.specs.Table.{index, stateCount, stateAt, entryAt, weightedTable, table, entryOf, costOf, EntriesBelow}
 use Rattle.planning.proofs.Test.{T-true, not-T-false, false-not-T, bool-iff, and-in, and-l, and-r, by-test}
 use Rattle.planning.proofs.Finite.{all-imp, all-at, every-imp, any-out, getD-tabulate, map-map}
 use Rattle.planning.proofs.Extended.{mono?, ext∞, zero-le∞}
 use Rattle.planning.proofs.System.{solvable, solves-act, solves-out, bellman-le, cost-solvable}
 use Rattle.planning.proofs.Pattern.{mask-fits, mask-stays-abstract, action-masked, abstraction-actions, abstraction-invariant}
-use Rattle.planning.proofs.Table.{index-below, state-at-index, state-at-abstract, table-length, table-entry, EntriesBelow}
+use Rattle.planning.proofs.Table.{index-below, state-at-index, state-at-abstract, table-length, table-entry}
 use Rattle.planning.proofs.Build.{NotBelow, lowered, built-at-goal, lowered-not-below}
 use Rattle.planning.proofs.Task.{apply-keeps-sizes, action-well-formed}
 use Rattle.tables.specs.Packed.{packBy, picking, low, actionWeight, outcomeCount, keepMask, compiled}

@@ -10,7 +10,7 @@ use lib.Seq.{drop-cons, drop-drop, length-take-le, take-append-seam, drop-append
 use Rattle.planning.specs.Finite.{tabulate, chain}
 use Rattle.planning.specs.Task.{Task}
 use Rattle.planning.specs.Table.{stateCount, table, tables, entryOf}
-use Rattle.planning.proofs.Table.{table-length, unit-entries-bounded}
+use Rattle.planning.proofs.Table.{table-length, light-entries-bounded}
 use Rattle.task_record.specs.Numbers.{variableCount, actionCount, patternCount, sizeOf}
 use Rattle.task_record.specs.Record.{Sound}
 use Rattle.task_record.specs.TaskOf.{taskOf, patternsOf}
@@ -42,7 +42,7 @@ module _ (r : List ℕ) (sound : Sound r) (sizes : List ℕ) (sixteen : Sixteen 
       entries ≡ map entryOf (table (taskOf r) p)
   built-is-table entries b = b .is-table (taskOf r) (sound-well-formed r sound) (sound-packable r sound)
       (sizes-taken r sound sizes sixteen) refl (sym (actions-length r))
-      (λ i k e. let l = unit-entries-bounded (taskOf r) (unit-weights r) p i k e in omega arith)
+      (λ i k e. let l = light-entries-bounded (taskOf r) (unit-weights r) p small i k e in omega arith)
 
 pub entries-length : (t : Task) (p : List ℕ) → length (map entryOf (table t p)) ≡ stateCount (t .sizes) p
 unfolding table

@@ -9,4 +9,5 @@ pub mod Certified
 pub mod Built
 pub mod Compiling
 pub mod RecordTables
+pub mod Spread
 pub mod Sample

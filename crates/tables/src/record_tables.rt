@@ -73,7 +73,7 @@ fn build_all(rec: &[u8], task: &[u64; 1282], tables: &mut [u16])
 }
 
 // The compiled task is needed only while the tables are built, and not at all without patterns.
-fn build_checked(rec: &[u8], tables: &mut [u16])
+pub(crate) fn build_checked(rec: &[u8], tables: &mut [u16])
     requires { ⌜ Buildable (now rec) (length (now tables)) ⌝ }
     ensures { λ _. ⌜ now (tables .exit) ≡ builtOver (now (rec .entry)) (now (tables .entry)) ⌝ }
 {

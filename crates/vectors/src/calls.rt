@@ -10,9 +10,11 @@ use crate::lists::wide;
 use crate::shown::end_line;
 use crate::shown::show_answer;
 use crate::shown::show_bytes;
+use crate::shown::show_counts;
 use crate::shown::show_entries;
 use planner::estimates::planner_additive;
 use planner::estimates::planner_build_tables;
+use planner::estimates::planner_spread;
 use planner::estimates::planner_value;
 use planner::plans::planner_check_plan;
 use planner::plans::planner_search;
@@ -23,6 +25,8 @@ use planner::tasks::planner_read_text;
 const AT_START: usize = 40;
 
 const AT_PATTERNS: usize = 56;
+
+const ROW_ROOM: usize = 4104;
 
 fn read(text: &mut [u8], rec: &mut [u8]) {
     break_lines(text);
@@ -64,6 +68,18 @@ fn build(list: &[u8], rec: &[u8], tables: &mut [u16], numbers: &mut [u32]) {
     show_entries(&tables[..entries]);
 }
 
+// A row that holds 7 where nothing was counted.
+fn spread(list: &[u8], rec: &[u8], tables: &mut [u16], numbers: &mut [u32]) {
+    let mut row = [7u32; ROW_ROOM];
+    let n = read_numbers(list, numbers);
+    let pattern = number_at(&numbers[..n], 0) as u64;
+    let entries = least(number_at(&numbers[..n], 1), tables.len());
+    let counts = least(number_at(&numbers[..n], 2), ROW_ROOM);
+    show_answer(planner_spread(rec, pattern, &mut tables[..entries], &mut row[..counts]));
+    show_entries(&tables[..entries]);
+    show_counts(&row[..counts]);
+}
+
 fn search(list: &[u8], rec: &[u8], tables: &mut [u16], plan: &mut [u8], numbers: &mut [u32]) {
     let n = read_numbers(list, numbers);
     let entries = least(number_at(&numbers[..n], 0), tables.len());
@@ -102,6 +118,7 @@ fn call(
         b's' => state(list, rec, numbers, plan),
         b'b' => build(list, rec, tables, numbers),
         b'f' => search(list, rec, tables, plan, numbers),
+        b'h' => spread(list, rec, tables, numbers),
         b'a' => show_answer(planner_additive(rec)),
         b'v' => value(list, rec, tables, numbers, plan),
         b'p' => check_plan(list, rec, numbers, plan),

@@ -6,6 +6,7 @@
 //   cells NAME: O,V,..         cell O of the record holds V from here on; then the check of the record
 //   state NAME: BYTES          the check of a state
 //   build NAME: N              the tables, with N entries lent; writes them too
+//   how NAME: P,N,L            the spread of pattern P, with N entries and a row of L counts lent; writes both
 //   additive NAME:             the verdict
 //   value NAME: N,BYTES        the value of a state, from the first N table entries
 //   find NAME: N,L             the search, with N entries and L bytes of plan lent; writes the buffer's first bytes too

@@ -5,6 +5,11 @@ use planner::answer::PlannerAnswer;
 // How many entries or bytes of a slice are written.
 const SHOWN: usize = 10;
 
+// The place of the last count of a row, and where it is no longer written.
+const LAST: usize = 4096;
+
+const ROW_SHOWN: usize = 4100;
+
 fn show_field(key: &[u8], x: u64) {
     io::write_all(1, key);
     io::print_decimal(1, x);
@@ -36,6 +41,25 @@ pub(crate) fn show_entries(tables: &[u16]) {
         io::print_decimal(1, entry(tables[i]));
         io::write_all(1, b",");
     }
+}
+
+fn count(x: u32) -> u64 {
+    x as u64
+}
+
+fn show_run(row: &[u32], from: usize, end: usize) {
+    for i in from..least(row.len(), end) {
+        io::print_decimal(1, count(row[i]));
+        io::write_all(1, b",");
+    }
+}
+
+// The first counts of a row, and those from the last one on, that of infinity.
+pub(crate) fn show_counts(row: &[u32]) {
+    io::write_all(1, b" row=");
+    show_run(row, 0, SHOWN);
+    io::write_all(1, b" last=");
+    show_run(row, LAST, ROW_SHOWN);
 }
 
 pub(crate) fn show_bytes(plan: &[u8]) {
