@@ -4,14 +4,15 @@
  * plan_check), which has planner_check_plan alone. Link one of the two. Neither needs another library than C's own, of which they call
  * memcpy and memset at most.
  *
- * Every slice is a pointer and a length in elements: bytes, but for tables, whose elements are uint16_t. The caller owns all memory: a call
- * reads the slices while it runs, writes to those that its declaration does not mark const and as it says there, touches nothing past their
- * lengths, keeps no pointer and allocates nothing. A slice of length 0 may have a null pointer; any other pointer must be valid for its
- * length, and one to tables aligned as uint16_t is. A slice that is written overlaps no other slice of the call; while the call runs
- * nobody else uses it, and nobody writes to any other. There is no global state and there are no locks, so calls on slices of their own
- * may run at the same time.
+ * Every slice is a pointer and a length in elements: bytes, but for tables, whose elements are uint16_t, and a row, whose elements are
+ * uint32_t. The caller owns all memory: a call reads the slices while it runs, writes to those that its declaration does not mark const
+ * and as it says there, touches nothing past their lengths, keeps no pointer and allocates nothing. A slice of length 0 may have a null
+ * pointer; any other pointer must be valid for its length, and one to tables or to a row aligned as its elements are. A slice that is
+ * written overlaps no other slice of the call; while the call runs nobody else uses it, and nobody writes to any other. There is no global
+ * state and there are no locks, so calls on slices of their own may run at the same time.
  *
- * Stack: less than PLANNER_STACK for planner_build_tables and planner_search, less than 16 KB for every other call, whatever its input.
+ * Stack: less than PLANNER_STACK for planner_build_tables, planner_spread and planner_search, less than 16 KB for every other call,
+ * whatever its input.
  *
  * Every input is allowed: a call always returns, with an answer or with the number of a refusal. A refused call leaves every slice as
  * found, apart from refusal 11.
@@ -55,6 +56,12 @@ extern "C" {
 /* The table entry of a state that no plan brings out, infinite. */
 #define PLANNER_INFINITE 65535
 
+/* The counts of a row: one for each value from 0 to 4095, then the one of the infinite states. */
+#define PLANNER_ROW_SIZE 4097
+
+/* Where a row counts the infinite states. */
+#define PLANNER_ROW_INFINITE 4096
+
 /* The byte of a plan that says "arrived". */
 #define PLANNER_ARRIVED 254
 
@@ -77,6 +84,7 @@ extern "C" {
  *  6      a cell of the record is outside its rule                  its offset in the record, the lowest (4 for the budget)
  *  7      a pattern has more than 4096 states                       the lowest such pattern
  *  8      the tables are too short                                  the entries needed
+ * 18      the row is shorter than 4097 counts                       row_length
  *  9      the patterns are not additive                             the lowest move that touches two of them
  * 10      the state's length is not 16                              16
  * 10      a cell of the state is outside its rule                   its offset in the state, the lowest
@@ -122,6 +130,19 @@ struct planner_answer planner_check_state(const uint8_t *record, size_t record_l
  * PLANNER_INFINITE. The index of a state is the sum of value times weight; the weight of the lowest variable is 1, and each next is the
  * previous weight times the previous size. Entries after the last stay as they were. */
 struct planner_answer planner_build_tables(const uint8_t *record, size_t record_length, uint16_t *tables, size_t tables_length);
+
+/* Counts how many states of a pattern have each value, in tables that it builds. Refusals 5 to 8 and 18.
+ *
+ * pattern  the pattern's number, from 0. Any number is allowed: one that is not below P names no states
+ * tables   as for planner_build_tables: the call builds them anew, and what they held before does not matter
+ * row      PLANNER_ROW_SIZE counts or more; that many are written, and nothing after them
+ *
+ * If they are counted: number 0, kind 0, first the states counted, which is the sum of the counts and the number of the pattern's states,
+ * and 0 if pattern is not below P. row[v], for v from 0 to 4095, is then the number of the pattern's states whose entry is v, and
+ * row[PLANNER_ROW_INFINITE] the number of those whose entry is PLANNER_INFINITE; no entry has another value. The tables of all patterns are
+ * as planner_build_tables leaves them, whatever pattern is. After a refusal nothing is built, and tables and row are as they were. */
+struct planner_answer planner_spread(const uint8_t *record, size_t record_length, uint64_t pattern, uint16_t *tables, size_t tables_length,
+                                     uint32_t *row, size_t row_length);
 
 /* Whether the record's patterns are additive: no move touches two of them. Refusals 5 and 6.
  *

@@ -14,6 +14,7 @@
 #define ENTRIES 16384
 #define PLAN_ROOM 65536
 #define AROUND 0xa5
+#define AROUND_COUNT 0xa5a5a5a5u
 
 static const char sample[] =
     "vars=2\nsize=4\nsize=2\nmoves=4\nneed=0:0\noutcomes=1\neff=0:1\nneed=0:1\noutcomes=2\neff=0:2\neff=0:3\nneed=0:3\noutcomes=1\neff=0:2\n"
@@ -148,6 +149,7 @@ static void test_checks(void) {
     expect_refusal("6 goes before 10", planner_check_state(record, PLANNER_RECORD_SIZE, NULL, 0), 6, 4);
     expect_refusal("6 of the verdict", planner_additive(record, PLANNER_RECORD_SIZE), 6, 4);
     expect_refusal("6 of a build", planner_build_tables(record, PLANNER_RECORD_SIZE, NULL, 0), 6, 4);
+    expect_refusal("6 of a spread", planner_spread(record, PLANNER_RECORD_SIZE, 0, NULL, 0, NULL, 0), 6, 4);
     expect_refusal("6 of a value", planner_value(record, PLANNER_RECORD_SIZE, NULL, 0, NULL, 0), 6, 4);
     expect_refusal("6 of a search", planner_search(record, PLANNER_RECORD_SIZE, NULL, 0, NULL, 0), 6, 4);
     expect_refusal("6 of a plan's check", planner_check_plan(record, PLANNER_RECORD_SIZE, NULL, 0, NULL, 0), 6, 4);
@@ -158,6 +160,7 @@ static void test_null(void) {
     expect_refusal("nothing read", planner_read_text(NULL, 0, NULL, 0), 5, 0);
     expect_refusal("no state", planner_check_state(NULL, 0, NULL, 0), 5, 0);
     expect_refusal("no build", planner_build_tables(NULL, 0, NULL, 0), 5, 0);
+    expect_refusal("no spread", planner_spread(NULL, 0, 0, NULL, 0, NULL, 0), 5, 0);
     expect_refusal("no verdict", planner_additive(NULL, 0), 5, 0);
     expect_refusal("no value", planner_value(NULL, 0, NULL, 0, NULL, 0), 5, 0);
     expect_refusal("no search", planner_search(NULL, 0, NULL, 0, NULL, 0), 5, 0);
@@ -222,6 +225,102 @@ static void test_wide_patterns(void) {
     expect_refusal("thirteen", planner_build_tables(wide_record(13, 2), PLANNER_RECORD_SIZE, tables, ENTRIES), 7, 0);
     expect_refusal("sixteen of 16", planner_build_tables(wide_record(16, 16), PLANNER_RECORD_SIZE, tables, ENTRIES), 7, 0);
     expect_refusal("7 goes before 8", planner_build_tables(wide_record(16, 16), PLANNER_RECORD_SIZE, tables, 0), 7, 0);
+}
+
+/* -- Spreads -------------------------------------------------------------------------------------------------------------------------- */
+
+/* Whether a row holds these counts of the first values, this one of the infinite states, 0 for all other values, and after its counts what
+ * was lent. */
+static int row_holds(const uint32_t *row, size_t length, const uint32_t *counts, size_t values, uint32_t infinite) {
+    for (size_t i = 0; i < length; i++) {
+        uint32_t want = i < values ? counts[i] : 0;
+        if (i == PLANNER_ROW_INFINITE) want = infinite;
+        if (i >= PLANNER_ROW_SIZE) want = AROUND_COUNT;
+        if (row[i] != want) return 0;
+    }
+    return 1;
+}
+
+/* A spread of the sample or of a tower like it: `values` of the first four values have the count 1. */
+static void expect_spread(const char *what, const char *text, uint64_t pattern, size_t length, uint64_t states, size_t values,
+                          uint32_t infinite) {
+    static const uint32_t ones[] = {1, 1, 1, 1};
+    uint8_t *record = record_of(text);
+    uint16_t *tables = block(8 * sizeof *tables, AROUND), *built = block(8 * sizeof *built, AROUND);
+    uint32_t *row = block(length * sizeof *row, AROUND);
+    expect(what, planner_build_tables(record, PLANNER_RECORD_SIZE, built, 8), 0, 0, 6, 0, 0);
+    expect(what, planner_spread(record, PLANNER_RECORD_SIZE, pattern, tables, 8, row, length), 0, 0, states, 0, 0);
+    expect_true("a spread leaves the tables as a build does", !memcmp(tables, built, 8 * sizeof *tables));
+    expect_true(what, row_holds(row, length, ones, values, infinite));
+}
+
+static void test_spreads(void) {
+    expect_spread("the pallet's spread", sample, 0, PLANNER_ROW_SIZE, 4, 4, 0);
+    expect_spread("the door's spread", sample, 1, PLANNER_ROW_SIZE, 2, 2, 0);
+    expect_spread("a longer row", sample, 0, 4100, 4, 4, 0);
+    expect_spread("a lift that may fall back", changed("eff=0:3", "eff=0:0"), 0, PLANNER_ROW_SIZE, 4, 2, 2);
+    static const uint64_t none[] = {2, 3, 8, 255, 256, 257, 65536, 1ull << 32, (1ull << 32) + 1, 1ull << 63, UINT64_MAX};
+    for (size_t i = 0; i < sizeof none / sizeof none[0]; i++) expect_spread("no pattern", sample, none[i], PLANNER_ROW_SIZE + 1, 0, 0, 0);
+    uint8_t *record = record_of(changed("patterns=2\npattern=0\npattern=1", "patterns=0"));
+    uint32_t *row = block(PLANNER_ROW_SIZE * sizeof *row, AROUND);
+    expect("no patterns", planner_spread(record, PLANNER_RECORD_SIZE, 0, NULL, 0, row, PLANNER_ROW_SIZE), 0, 0, 0, 0, 0);
+    expect_true("no states", row_holds(row, PLANNER_ROW_SIZE, NULL, 0, 0));
+}
+
+static void expect_refused_spread(const char *what, const uint8_t *record, size_t record_length, size_t entries, size_t counts,
+                                  uint64_t number, uint64_t second) {
+    uint16_t *tables = block(entries * sizeof *tables, AROUND);
+    uint32_t *row = block(counts * sizeof *row, AROUND);
+    expect_refusal(what, planner_spread(record, record_length, 0, tables, entries, row, counts), number, second);
+    expect_true("a refused spread builds nothing", all_bytes((uint8_t *)tables, entries * sizeof *tables, AROUND));
+    expect_true("a refused spread counts nothing", all_bytes((uint8_t *)row, counts * sizeof *row, AROUND));
+}
+
+/* Each refusal where all that come after it would be due as well, and where none would. */
+static void test_refused_spreads(void) {
+    uint8_t *sound = record_of(sample), *faulty = record_of(sample), *wide = wide_record(13, 2);
+    faulty[6] = 255;
+    expect_refused_spread("5 of a spread", faulty, PLANNER_RECORD_SIZE - 1, 5, 4096, 5, PLANNER_RECORD_SIZE - 1);
+    expect_refused_spread("5 alone", sound, PLANNER_RECORD_SIZE - 1, 6, PLANNER_ROW_SIZE, 5, PLANNER_RECORD_SIZE - 1);
+    expect_refused_spread("6 goes before 8 and 18", faulty, PLANNER_RECORD_SIZE, 5, 4096, 6, 4);
+    expect_refused_spread("6 alone", faulty, PLANNER_RECORD_SIZE, 6, PLANNER_ROW_SIZE, 6, 4);
+    expect_refused_spread("7 goes before 8 and 18", wide, PLANNER_RECORD_SIZE, 0, 0, 7, 0);
+    expect_refused_spread("7 goes before 18", wide, PLANNER_RECORD_SIZE, ENTRIES, 4096, 7, 0);
+    expect_refused_spread("7 alone", wide, PLANNER_RECORD_SIZE, ENTRIES, PLANNER_ROW_SIZE, 7, 0);
+    expect_refused_spread("8 goes before 18", sound, PLANNER_RECORD_SIZE, 5, 4096, 8, 6);
+    expect_refused_spread("8 alone", sound, PLANNER_RECORD_SIZE, 5, PLANNER_ROW_SIZE, 8, 6);
+    expect_refused_spread("18", sound, PLANNER_RECORD_SIZE, 6, 4096, 18, 4096);
+    expect_refused_spread("18 of no row", sound, PLANNER_RECORD_SIZE, 8, 0, 18, 0);
+    expect_refusal("18 of a null row", planner_spread(sound, PLANNER_RECORD_SIZE, 9, block(12, 0), 6, NULL, 0), 18, 0);
+}
+
+/* Appends variables 0 to `last`: those below it with one value, itself with another. */
+static char *counter_pairs(char *at, const char *key, int last, int below, int own) {
+    at += sprintf(at, "%s=", key);
+    for (int v = 0; v < last; v++) at += sprintf(at, "%d:%d,", v, below);
+    return at + sprintf(at, "%d:%d\n", last, own);
+}
+
+/* Twelve variables that count up to 4095: the table has every value from 0 to 4095 once. */
+static void test_deepest_spread(void) {
+    static char text[8192];
+    static uint32_t ones[PLANNER_ROW_INFINITE];
+    char *at = text + sprintf(text, "vars=12\n");
+    for (int v = 0; v < 12; v++) at += sprintf(at, "size=2\n");
+    at += sprintf(at, "moves=12\n");
+    for (int v = 0; v < 12; v++) {
+        at = counter_pairs(at, "need", v, 1, 0);
+        at += sprintf(at, "outcomes=1\n");
+        at = counter_pairs(at, "eff", v, 0, 1);
+    }
+    at = counter_pairs(at, "goal", 11, 1, 1);
+    sprintf(at, "start=0,0,0,0,0,0,0,0,0,0,0,0\npatterns=1\npattern=0,1,2,3,4,5,6,7,8,9,10,11\nlimit=0\nbudget=1");
+    uint16_t *tables = block(4096 * sizeof *tables, AROUND);
+    uint32_t *row = block(PLANNER_ROW_SIZE * sizeof *row, AROUND);
+    for (size_t v = 0; v < PLANNER_ROW_INFINITE; v++) ones[v] = 1;
+    uint8_t *record = record_of(text);
+    expect("the deepest table", planner_spread(record, PLANNER_RECORD_SIZE, 0, tables, 4096, row, PLANNER_ROW_SIZE), 0, 0, 4096, 0, 0);
+    expect_true("every value once", row_holds(row, PLANNER_ROW_SIZE, ones, PLANNER_ROW_INFINITE, 0));
 }
 
 /* -- Searches ------------------------------------------------------------------------------------------------------------------------- */
@@ -327,6 +426,21 @@ static const char *random_text(void) {
     return text;
 }
 
+/* The spread of every pattern of a tower, counted again from the tables of a build. Each pattern is one variable. */
+static void test_tower_spreads(const uint8_t *record, const uint16_t *built) {
+    static uint32_t row[PLANNER_ROW_SIZE], counted[PLANNER_ROW_SIZE];
+    uint16_t tables[24];
+    for (size_t pattern = 0, from = 0; pattern < record[2]; pattern++) {
+        size_t states = record[8 + pattern];
+        memset(counted, 0, sizeof counted);
+        for (size_t i = from; i < from + states; i++) counted[built[i] == PLANNER_INFINITE ? PLANNER_ROW_INFINITE : built[i]]++;
+        from += states;
+        expect("a tower's spread", planner_spread(record, PLANNER_RECORD_SIZE, pattern, tables, 24, row, PLANNER_ROW_SIZE), 0, 0, states, 0,
+               0);
+        expect_true("the counts of its entries", !memcmp(row, counted, sizeof row));
+    }
+}
+
 /* What the answers about one tower have to do with each other. */
 static void test_tower(int counts[4]) {
     static uint8_t plan[PLAN_ROOM];
@@ -336,6 +450,7 @@ static void test_tower(int counts[4]) {
     struct planner_answer search = planner_search(record, PLANNER_RECORD_SIZE, tables, 24, plan, sizeof plan);
     struct planner_answer build = planner_build_tables(record, PLANNER_RECORD_SIZE, built, 24);
     struct planner_answer value = planner_value(record, PLANNER_RECORD_SIZE, record + 40, 16, built, 24);
+    test_tower_spreads(record, built);
     if (verdict.kind == 1) {
         expect_refusal("a search of patterns that are not additive", search, 9, verdict.first);
         expect_refusal("their value", value, 9, verdict.first);
@@ -371,6 +486,9 @@ static void *test_all(void *towers) {
     test_tables();
     test_values();
     test_wide_patterns();
+    test_spreads();
+    test_refused_spreads();
+    test_deepest_spread();
     test_found();
     test_other_answers();
     test_plans();

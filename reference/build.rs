@@ -5,11 +5,12 @@ use std::fs;
 use std::path::{Path, PathBuf};
 
 const ARCHIVE: &str = "libplanner.a";
-const ENTRIES: [&str; 8] = [
+const ENTRIES: [&str; 9] = [
     "planner_read_text",
     "planner_check_record",
     "planner_check_state",
     "planner_build_tables",
+    "planner_spread",
     "planner_additive",
     "planner_value",
     "planner_search",

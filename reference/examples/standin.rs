@@ -63,6 +63,24 @@ pub unsafe extern "C" fn planner_build_tables(
 /// # Safety
 /// As above.
 #[unsafe(no_mangle)]
+pub unsafe extern "C" fn planner_spread(
+    record: *const u8,
+    r: usize,
+    pattern: u64,
+    tables: *mut u16,
+    t: usize,
+    row: *mut u32,
+    c: usize,
+) -> Answer {
+    unsafe {
+        let (tables, row) = (lent_mut(tables, t), lent_mut(row, c));
+        Brute.spread(lent(record, r), pattern, tables, row)
+    }
+}
+
+/// # Safety
+/// As above.
+#[unsafe(no_mangle)]
 pub unsafe extern "C" fn planner_additive(record: *const u8, r: usize) -> Answer {
     unsafe { Brute.additive(lent(record, r)) }
 }

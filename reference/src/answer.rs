@@ -1,4 +1,4 @@
-//! Answers as numbers: what the eight entries return.
+//! Answers as numbers: what the nine entries return.
 
 /// Why a call says no; the discriminant is the number of the table.
 #[derive(Clone, Copy, Debug, PartialEq, Eq)]
@@ -21,6 +21,7 @@ pub enum Reason {
     NotArrived = 15,
     BytesAfter = 16,
     TooDeep = 17,
+    ShortRow = 18,
 }
 
 /// A numbered refusal with its second number.

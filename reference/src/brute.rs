@@ -7,6 +7,7 @@ pub mod program;
 pub mod reader;
 pub mod record;
 pub mod search;
+pub mod spread;
 pub mod state;
 pub mod tables;
 pub mod task;
@@ -17,7 +18,7 @@ use crate::planner::Planner;
 use search::Ending;
 use value::Verdict;
 
-/// The reference as a planner with the eight entries.
+/// The reference as a planner with the nine entries.
 pub struct Brute;
 
 /// Refusals and answers in one form.
@@ -45,6 +46,12 @@ impl Planner for Brute {
     fn build_tables(&self, record: &[u8], tables: &mut [u16]) -> Answer {
         answer(tables::build_tables(record, tables), |written| {
             Answer::kind(0, written as u64, 0, 0)
+        })
+    }
+
+    fn spread(&self, record: &[u8], pattern: u64, tables: &mut [u16], row: &mut [u32]) -> Answer {
+        answer(spread::spread(record, pattern, tables, row), |states| {
+            Answer::kind(0, states as u64, 0, 0)
         })
     }
 

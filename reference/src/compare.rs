@@ -3,6 +3,8 @@
 
 pub mod cases;
 pub mod fixed;
+pub mod spreads;
+pub mod sums;
 
 use std::collections::BTreeMap;
 use std::fmt;
@@ -13,13 +15,14 @@ use crate::brute::task::Task;
 use crate::demand;
 use crate::planner::Planner;
 
-/// The eight entries.
+/// The nine entries.
 #[derive(Clone, Copy, Debug, PartialEq, Eq, PartialOrd, Ord)]
 pub enum Entry {
     ReadText,
     CheckRecord,
     CheckState,
     BuildTables,
+    Spread,
     Additive,
     Value,
     Search,
@@ -27,7 +30,7 @@ pub enum Entry {
 }
 
 /// Cells before and after each lent slice that no call may touch.
-const GUARD: usize = 32;
+pub const GUARD: usize = 32;
 
 /// The slices of a call; those the entry does not take are empty.
 #[derive(Clone, Debug, Default, PartialEq, Eq)]
@@ -36,11 +39,17 @@ pub struct Slices {
     pub record: Vec<u8>,
     pub state: Vec<u8>,
     pub tables: Vec<u16>,
+    pub row: Vec<u32>,
     pub plan: Vec<u8>,
 }
 
 fn guarded<T: Copy>(cells: &[T], guard: T) -> Vec<T> {
     [&[guard; GUARD], cells, &[guard; GUARD]].concat()
+}
+
+/// The cells that were lent, to look at.
+fn within<T>(guarded: &[T]) -> &[T] {
+    &guarded[GUARD..guarded.len() - GUARD]
 }
 
 fn lent<T>(guarded: &mut [T]) -> &mut [T] {
@@ -55,6 +64,7 @@ impl Slices {
             record: guarded(&self.record, 0xa5),
             state: guarded(&self.state, 0xa5),
             tables: guarded(&self.tables, 0xa5a5),
+            row: guarded(&self.row, 0xa5a5_a5a5),
             plan: guarded(&self.plan, 0xa5),
         }
     }
@@ -64,6 +74,8 @@ impl Slices {
 #[derive(Clone, Debug, PartialEq, Eq)]
 pub struct Call {
     pub entry: Entry,
+    /// The pattern whose spread is asked for; 0 for the other entries.
+    pub pattern: u64,
     pub slices: Slices,
 }
 
@@ -77,11 +89,31 @@ pub struct Made {
 impl Made {
     /// The lent plan without its guards.
     pub fn lent_plan(&self) -> &[u8] {
-        &self.left.plan[GUARD..self.left.plan.len() - GUARD]
+        within(&self.left.plan)
+    }
+
+    /// The lent tables without their guards.
+    pub fn lent_tables(&self) -> &[u16] {
+        within(&self.left.tables)
+    }
+
+    /// The lent row without its guards.
+    pub fn lent_row(&self) -> &[u32] {
+        within(&self.left.row)
     }
 }
 
 impl Call {
+    /// A call of an entry that takes slices alone.
+    pub fn of(entry: Entry, slices: Slices) -> Self {
+        Self { entry, pattern: 0, slices }
+    }
+
+    /// A call for the spread of a pattern.
+    pub fn spread(pattern: u64, slices: Slices) -> Self {
+        Self { entry: Entry::Spread, pattern, slices }
+    }
+
     /// Makes the call on slices of its own.
     pub fn made(&self, planner: &dyn Planner) -> Made {
         let mut left = self.slices.guarded();
@@ -89,12 +121,14 @@ impl Call {
         let record = lent(&mut left.record);
         let state = lent(&mut left.state);
         let tables = lent(&mut left.tables);
+        let row = lent(&mut left.row);
         let plan = lent(&mut left.plan);
         let answer = match self.entry {
             Entry::ReadText => planner.read_text(text, record),
             Entry::CheckRecord => planner.check_record(record),
             Entry::CheckState => planner.check_state(record, state),
             Entry::BuildTables => planner.build_tables(record, tables),
+            Entry::Spread => planner.spread(record, self.pattern, tables, row),
             Entry::Additive => planner.additive(record),
             Entry::Value => planner.value(record, state, tables),
             Entry::Search => planner.search(record, tables, plan),
@@ -128,11 +162,20 @@ impl fmt::Display for Slices {
         writeln!(out, "  record ({}): {}", self.record.len(), runs(&self.record))?;
         writeln!(out, "  state  ({}): {}", self.state.len(), runs(&self.state))?;
         writeln!(out, "  tables ({}): {}", self.tables.len(), runs(&self.tables))?;
+        writeln!(out, "  row    ({}): {}", self.row.len(), runs(&self.row))?;
         writeln!(out, "  plan   ({}): {}", self.plan.len(), runs(&self.plan))
     }
 }
 
-/// A call that the two makes answer differently, or a breach of demand 3.
+impl fmt::Display for Call {
+    fn fmt(&self, out: &mut fmt::Formatter) -> fmt::Result {
+        writeln!(out, "  pattern: {}", self.pattern)?;
+        self.slices.fmt(out)
+    }
+}
+
+/// A call that the two makes answer differently, a row that does not fit its
+/// tables, or a breach of demand 3.
 #[derive(Clone, Debug)]
 pub struct Difference {
     /// The case of the seed, or none for the fixed calls.
@@ -156,12 +199,13 @@ fn first_cell<T: PartialEq + fmt::Display>(name: &str, expected: &[T], got: &[T]
 fn difference(call: &Call, expected: &Made, got: &Made) -> String {
     let (left, right) = (&expected.left, &got.left);
     let parts = [
-        format!("{:?} differs; it was lent\n{}", call.entry, call.slices),
+        format!("{:?} differs; it was lent\n{call}", call.entry),
         format!("expected {:?}\n     got {:?}\n", expected.answer, got.answer),
         first_cell("text", &left.text, &right.text),
         first_cell("record", &left.record, &right.record),
         first_cell("state", &left.state, &right.state),
         first_cell("tables", &left.tables, &right.tables),
+        first_cell("row", &left.row, &right.row),
         first_cell("plan", &left.plan, &right.plan),
     ];
     parts.concat()
@@ -226,6 +270,7 @@ impl<'a> Run<'a> {
         if expected != got {
             return Err(difference(call, &expected, &got));
         }
+        sums::check(call, &got).map_err(|told| format!("spread: {told}; it was lent\n{call}"))?;
         let Answer { number, kind, .. } = got.answer;
         let times = self.tally.answers.entry((call.entry, number, kind));
         *times.or_default() += 1;

@@ -21,7 +21,7 @@ pub struct Tried {
 }
 
 /// Words for a breach, so that it can be printed with its task.
-fn ensure(holds: bool, breach: impl FnOnce() -> String) -> Result<(), String> {
+pub(crate) fn ensure(holds: bool, breach: impl FnOnce() -> String) -> Result<(), String> {
     if holds { Ok(()) } else { Err(breach()) }
 }
 

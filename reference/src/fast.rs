@@ -10,6 +10,7 @@ mod plan;
 mod record;
 mod results;
 mod search;
+mod spread;
 mod table;
 mod text;
 mod write;
@@ -49,6 +50,16 @@ impl Planner for Fast {
             Ok(spaces.entries)
         });
         answer(built, |entries| Answer::kind(0, entries as u64, 0, 0))
+    }
+
+    fn spread(&self, record: &[u8], pattern: u64, tables: &mut [u16], row: &mut [u32]) -> Answer {
+        let counted = record::check(record).and_then(|record| {
+            let spaces = patterns::spaces(&record, tables.len())?;
+            let row = spread::counts(row)?;
+            table::build(&record, &spaces, tables);
+            Ok(spread::count(spaces.table(pattern, tables), row))
+        });
+        answer(counted, |states| Answer::kind(0, states as u64, 0, 0))
     }
 
     fn additive(&self, record: &[u8]) -> Answer {

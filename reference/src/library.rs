@@ -24,6 +24,15 @@ unsafe extern "C" {
         tables: *mut u16,
         tables_length: usize,
     ) -> Answer;
+    fn planner_spread(
+        record: *const u8,
+        record_length: usize,
+        pattern: u64,
+        tables: *mut u16,
+        tables_length: usize,
+        row: *mut u32,
+        row_length: usize,
+    ) -> Answer;
     fn planner_additive(record: *const u8, record_length: usize) -> Answer;
     fn planner_value(
         record: *const u8,
@@ -98,6 +107,21 @@ impl Planner for Library {
         entry!(
             "planner_build_tables",
             planner_build_tables(record.as_ptr(), record.len(), tables.as_mut_ptr(), tables.len())
+        )
+    }
+
+    fn spread(&self, record: &[u8], pattern: u64, tables: &mut [u16], row: &mut [u32]) -> Answer {
+        entry!(
+            "planner_spread",
+            planner_spread(
+                record.as_ptr(),
+                record.len(),
+                pattern,
+                tables.as_mut_ptr(),
+                tables.len(),
+                row.as_mut_ptr(),
+                row.len(),
+            )
         )
     }
 

@@ -1,13 +1,16 @@
 //! The differential test itself: it passes the reference, it notices makes
 //! with a fault, and its calls leave memory as laid down.
 
+mod common;
+
 use std::collections::BTreeSet;
 
+use common::spread_faults::SpreadFault;
 use reference::answer::Answer;
 use reference::brute::plan::ARRIVED;
 use reference::brute::task::Task;
 use reference::brute::{Brute, record};
-use reference::compare::{Call, Difference, Entry, Run, Tally, cases, fixed};
+use reference::compare::{Call, Difference, Entry, Made, Run, Tally, cases, fixed, spreads, sums};
 use reference::planner::Planner;
 
 const SEED: u64 = 5;
@@ -24,7 +27,7 @@ fn the_reference_agrees_with_itself() {
     println!("{tally}");
     // Every refusal number and every ending of the search comes up.
     let numbers: BTreeSet<u64> = tally.answers.keys().map(|key| key.1).collect();
-    assert_eq!(numbers, (0..=17).collect());
+    assert_eq!(numbers, (0..=18).collect());
     let searches = tally.answers.keys().filter(|key| key.0 == Entry::Search);
     let endings: BTreeSet<u64> = searches.map(|key| key.2).collect();
     assert_eq!(endings, (0..=3).collect());
@@ -41,7 +44,8 @@ fn the_fixed_calls_agree() {
 fn assert_memory(call: &Call) {
     let made = call.made(&Brute);
     let Answer { number, kind, third, .. } = made.answer;
-    let writes = matches!(call.entry, Entry::ReadText | Entry::BuildTables | Entry::Search);
+    let writes =
+        matches!(call.entry, Entry::ReadText | Entry::BuildTables | Entry::Spread | Entry::Search);
     if !writes || number != 0 && number != 11 {
         assert!(call.untouched(&made), "{call:?}");
     }
@@ -76,6 +80,7 @@ enum Faulty {
     WritesBehindTheRecord,
     SaysAdditive,
     CapsTheValue,
+    Spreads(SpreadFault),
 }
 
 /// The record of the task after a change.
@@ -121,6 +126,13 @@ impl Planner for Faulty {
             }
             Faulty::LeavesTablesAsLent => Brute.build_tables(record, &mut tables.to_vec()),
             _ => Brute.build_tables(record, tables),
+        }
+    }
+
+    fn spread(&self, record: &[u8], pattern: u64, tables: &mut [u16], row: &mut [u32]) -> Answer {
+        match self {
+            Faulty::Spreads(fault) => fault.spread(record, pattern, tables, row),
+            _ => Brute.spread(record, pattern, tables, row),
         }
     }
 
@@ -193,4 +205,41 @@ fn faulty_makes_are_noticed() {
     for (number, make) in makes.iter().enumerate() {
         assert!(run(make, 200).is_err(), "make {number} passes");
     }
+}
+
+/// Whether the two answer one of the spreads without a seed differently.
+fn differs_near_the_sample(fault: SpreadFault) -> bool {
+    let mut calls = spreads::near_the_sample().chain(spreads::refused());
+    calls.any(|call| call.made(&Faulty::Spreads(fault)) != call.made(&Brute))
+}
+
+#[test]
+fn faulty_spreads_are_noticed() {
+    for fault in SpreadFault::ALL {
+        assert!(run(&Faulty::Spreads(fault), 100).is_err(), "{fault:?} passes");
+        assert!(differs_near_the_sample(fault), "{fault:?} passes the fixed calls");
+    }
+}
+
+/// The sums tell a wrong count without another make to compare with.
+#[test]
+fn the_sums_notice_every_count() {
+    let spreads = |case| cases::calls(SEED, case).into_iter().filter(|c| c.entry == Entry::Spread);
+    let told = |call: &Call, made: &Made| sums::check(call, made).is_err();
+    let mut tried = 0;
+    for call in (0..20).flat_map(spreads) {
+        let made = call.made(&Brute);
+        assert!(!told(&call, &made));
+        if made.answer.number != 0 {
+            continue;
+        }
+        for place in (0..made.lent_row().len()).step_by(512) {
+            let mut wrong = made.clone();
+            let count = &mut wrong.left.row[reference::compare::GUARD + place];
+            *count = count.wrapping_add(1);
+            assert!(told(&call, &wrong), "{place}");
+            tried += 1;
+        }
+    }
+    assert!(tried > 200);
 }

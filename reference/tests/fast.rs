@@ -20,7 +20,9 @@ fn it_agrees_on_random_tasks() {
             panic!("case {case}: {}", difference.told);
         }
     }
-    for entry in [Entry::ReadText, Entry::BuildTables, Entry::Search, Entry::CheckPlan] {
+    for entry in
+        [Entry::ReadText, Entry::BuildTables, Entry::Spread, Entry::Search, Entry::CheckPlan]
+    {
         assert!(run.tally.calls(entry) > 250, "{entry:?}");
     }
 }

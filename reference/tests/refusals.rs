@@ -121,6 +121,7 @@ fn short_record_in_every_entry() {
     assert_eq!(Brute.check_record(record), answer);
     assert_eq!(Brute.check_state(record, &[]), answer);
     assert_eq!(Brute.build_tables(record, &mut []), answer);
+    assert_eq!(Brute.spread(record, 0, &mut [], &mut []), answer);
     assert_eq!(Brute.additive(record), answer);
     assert_eq!(Brute.value(record, &[], &[]), answer);
     assert_eq!(Brute.search(record, &mut [], &mut []), answer);
@@ -199,6 +200,7 @@ fn faulty_record_before_everything_else() {
     let answer = refused(6, 3);
     assert_eq!(Brute.check_state(&record, &[]), answer);
     assert_eq!(Brute.build_tables(&record, &mut []), answer);
+    assert_eq!(Brute.spread(&record, 0, &mut [], &mut []), answer);
     assert_eq!(Brute.additive(&record), answer);
     assert_eq!(Brute.value(&record, &[], &[]), answer);
     assert_eq!(Brute.search(&record, &mut [], &mut []), answer);

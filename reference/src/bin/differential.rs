@@ -47,7 +47,7 @@ fn options() -> Result<Options, String> {
 }
 
 fn tell(call: &Call) {
-    eprintln!("{:?} lent\n{}", call.entry, call.slices);
+    eprintln!("{:?} lent\n{call}", call.entry);
 }
 
 /// The fixed calls and all cases, or the one case that is to be replayed.

@@ -3,7 +3,7 @@
 use super::{Call, Entry, Slices};
 use crate::brute::task::{State, Task};
 use crate::brute::{record, search, state, tables, value};
-use crate::generate::{Random, damage, plans, tasks, text};
+use crate::generate::{Random, damage, plans, rows, tasks, text};
 
 /// Bytes a plan may take without being called long.
 const ROOM: usize = 64;
@@ -18,7 +18,7 @@ struct Case {
 
 impl Case {
     fn call(&mut self, entry: Entry, slices: Slices) {
-        self.calls.push(Call { entry, slices });
+        self.calls.push(Call::of(entry, slices));
     }
 
     /// The record, now and then damaged or with bytes after it.
@@ -112,6 +112,20 @@ impl Case {
             let length = self.tables_length();
             let tables = self.noise_tables(length);
             self.call(Entry::BuildTables, Slices { record, tables, ..Slices::default() });
+        }
+    }
+
+    /// Spreads of every pattern, and of numbers that no pattern has.
+    fn spreads(&mut self) {
+        let patterns = self.task.patterns.len() as u64;
+        let far = rows::far_number(&mut self.random, patterns);
+        for pattern in (0..=patterns).chain([far]) {
+            let record = self.any_record();
+            let length = self.tables_length();
+            let tables = self.noise_tables(length);
+            let row = rows::row(&mut self.random);
+            let slices = Slices { record, tables, row, ..Slices::default() };
+            self.calls.push(Call::spread(pattern, slices));
         }
     }
 
@@ -224,6 +238,7 @@ pub fn calls(seed: u64, case: u64) -> Vec<Call> {
     let found = case.found();
     case.searches(found.as_ref().map_or(0, Vec::len));
     case.plans(found);
+    case.spreads();
     case.deep_plans();
     case.calls
 }

@@ -1,7 +1,7 @@
 //! Calls that do not depend on a seed: the sample tower and everything near
 //! it, tried through.
 
-use super::{Call, Entry, Slices};
+use super::{Call, Entry, Slices, spreads};
 use crate::brute::record::{self, LENGTH, ROW};
 use crate::brute::task::Task;
 use crate::brute::{plan::ARRIVED, reader, state, tables};
@@ -11,16 +11,16 @@ use crate::sample::{self, PLAN};
 /// Calls made up one by one: all records at once would fill the memory.
 pub type Calls = Box<dyn Iterator<Item = Call>>;
 
-fn task(text: &str) -> Task {
+pub(super) fn task(text: &str) -> Task {
     reader::parse(text.as_bytes()).expect("a sound text")
 }
 
-fn record(text: &str) -> Vec<u8> {
+pub(super) fn record(text: &str) -> Vec<u8> {
     record::encode(&task(text))
 }
 
 fn call(entry: Entry, slices: Slices) -> Call {
-    Call { entry, slices }
+    Call::of(entry, slices)
 }
 
 /// The sample text with every byte removed, doubled or replaced, cut off at
@@ -100,7 +100,7 @@ fn states() -> Calls {
 }
 
 /// The sample and its variants in the specification.
-fn variants() -> Vec<String> {
+pub(super) fn variants() -> Vec<String> {
     vec![
         sample::sample(),
         sample::without_patterns(),
@@ -205,4 +205,15 @@ fn deep_plans() -> Calls {
 }
 
 /// The fixed calls, part by part.
-pub const PARTS: [fn() -> Calls; 7] = [reads, records, states, builds, searches, plans, deep_plans];
+pub const PARTS: [fn() -> Calls; 10] = [
+    reads,
+    records,
+    states,
+    builds,
+    spreads::near_the_sample,
+    spreads::refused,
+    spreads::deepest,
+    searches,
+    plans,
+    deep_plans,
+];

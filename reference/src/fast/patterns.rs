@@ -63,6 +63,16 @@ impl Spaces {
         self.all[..self.number].iter()
     }
 
+    /// The table of a pattern; a number that no pattern has gives an empty one.
+    pub fn table<'a>(&self, pattern: u64, tables: &'a [u16]) -> &'a [u16] {
+        // The number is compared in all its 64 bits before it is an index.
+        if pattern >= self.number as u64 {
+            return &[];
+        }
+        let space = &self.all[pattern as usize];
+        &tables[space.offset..space.offset + space.states]
+    }
+
     /// The sum of the entries of the state's projections, or infinite.
     pub fn value(&self, state: &Row, tables: &[u16]) -> Option<u32> {
         let mut sum = 0;

@@ -1,6 +1,8 @@
 //! What several test files need. Each of them uses a part of it.
 #![allow(dead_code)]
 
+pub mod spread_faults;
+
 use reference::answer::Answer;
 use reference::brute::record::LENGTH;
 use reference::brute::task::Task;

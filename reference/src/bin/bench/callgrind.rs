@@ -7,6 +7,7 @@ use std::process::{Command, Stdio};
 
 use reference::planner::Planner;
 
+use crate::added::{self, Figures};
 use crate::operations::{Lent, Operation};
 use crate::{Options, each, ours};
 
@@ -71,22 +72,28 @@ fn table(options: &Options, out: &Path) -> Result<(), String> {
     let mut number = 0;
     let mut next = || {
         number += 1;
-        count(out, number)
+        count(out, number).map(|count| count as f64)
     };
-    let mut told = Ok(());
+    let mut all = Vec::new();
+    let mut told: Result<(), String> = Ok(());
     each(options, |row, _, operation| {
-        let mut line = || {
+        let line = || {
             let theirs = next()?;
             let ours = ours(operation).map(|_| next()).transpose()?;
-            let ratio =
-                ours.map_or("–".to_owned(), |own| format!("{:.2}", own as f64 / theirs as f64));
-            let own = ours.map_or("–".to_owned(), |own| own.to_string());
-            println!("| {} | {} | {own} | {theirs} | {ratio} |", row.instance, operation.name());
+            let figures = Figures { instance: row.instance, operation, theirs, ours };
+            println!("{}", figures.line(instructions));
+            all.push(figures);
             Ok(())
         };
         if told.is_ok() {
             told = line();
         }
     });
-    told
+    told?;
+    added::report(&all, "instructions", instructions);
+    Ok(())
+}
+
+fn instructions(count: f64) -> String {
+    format!("{count:.0}")
 }

@@ -28,8 +28,8 @@ impl Instance {
     }
 }
 
-const ALL: [Operation; 6] = [ReadText, CheckRecord, BuildTables, Value, Search, CheckPlan];
-const TABLES: [Operation; 4] = [ReadText, CheckRecord, BuildTables, Value];
+const ALL: [Operation; 7] = [ReadText, CheckRecord, BuildTables, Spread, Value, Search, CheckPlan];
+const TABLES: [Operation; 5] = [ReadText, CheckRecord, BuildTables, Spread, Value];
 const SEARCHES: [Operation; 3] = [BuildTables, Value, Search];
 
 /// Values for some variables, the others unnamed.
@@ -306,6 +306,11 @@ pub fn largest() -> Task {
     }
 }
 
+/// The sample without patterns: a spread clears the row and does no more.
+fn no_tables() -> Task {
+    Task { patterns: Vec::new(), ..sample_task() }
+}
+
 fn sample_task() -> Task {
     reader::parse(sample::sample().as_bytes()).expect("the sample is sound")
 }
@@ -347,8 +352,10 @@ pub fn instances(seed: u64) -> Vec<Instance> {
         Instance::of("Gray code, 6 variables", gray(6), &[BuildTables]),
         Instance::of("counter, 12 variables", counter(12), &TABLES),
         Instance::of("Gray code, 11 variables", gray(11), &TABLES),
-        Instance::of("8 tables of 16^3, 64 actions", large(seed, 16, 8, 64), &TABLES[..3]),
-        Instance::of("8 tables of 2^12, 64 actions", large(seed, 2, 8, 64), &TABLES[..3]),
+        Instance::of("8 tables of 16^3, 64 actions", large(seed, 16, 8, 64), &TABLES[..4]),
+        Instance::of("8 tables of 2^12, 64 actions", large(seed, 2, 8, 64), &TABLES[..4]),
+        Instance::of("table of 16^3, no actions", large(seed, 16, 1, 0), &[BuildTables, Spread]),
+        Instance::of("no tables", no_tables(), &[BuildTables, Spread]),
         Instance::of("largest text", largest(), &[ReadText, CheckRecord]),
     ];
     all.extend(heavy(seed));

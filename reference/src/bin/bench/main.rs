@@ -1,6 +1,7 @@
 //! Times the planner library and the fast make on the same inputs, and prints
 //! the ratios. Without the feature `library` the fast make is timed alone.
 
+mod added;
 mod callgrind;
 mod instances;
 mod operations;
@@ -76,9 +77,12 @@ fn ours(_: Operation) -> Option<&'static dyn Planner> {
 fn each(options: &Options, mut act: impl FnMut(Row, &Lent, Operation)) {
     for instance in instances::instances(options.seed) {
         let chosen = |name: &str| name.contains(&options.only);
-        let operations = instance.operations.iter().copied();
+        // A spread is held against the build that it contains.
+        let spread = instance.operations.contains(&Operation::Spread) && chosen("spread");
+        let beside = |o: &Operation| spread && *o == Operation::BuildTables;
+        let wanted = |o: &Operation| chosen(&instance.name) || chosen(o.name()) || beside(o);
         let operations: Vec<Operation> =
-            operations.filter(|o| chosen(&instance.name) || chosen(o.name())).collect();
+            instance.operations.iter().copied().filter(wanted).collect();
         if operations.is_empty() {
             continue;
         }

@@ -14,6 +14,7 @@ pub enum Operation {
     ReadText,
     CheckRecord,
     BuildTables,
+    Spread,
     Value,
     Search,
     CheckPlan,
@@ -25,6 +26,7 @@ impl Operation {
             Operation::ReadText => "read_text",
             Operation::CheckRecord => "check_record",
             Operation::BuildTables => "build_tables",
+            Operation::Spread => "spread",
             Operation::Value => "value",
             Operation::Search => "search",
             Operation::CheckPlan => "check_plan",
@@ -32,9 +34,10 @@ impl Operation {
     }
 }
 
-/// The plan buffer and the table entries that are lent.
+/// The plan buffer, the table entries and the row that are lent.
 const BUFFER: usize = 65_536;
 const ENTRIES: usize = 32_768;
+const COUNTS: usize = 4_097;
 
 /// What a call is lent to read, and to write.
 #[derive(Clone, PartialEq, Eq)]
@@ -43,9 +46,12 @@ pub struct Lent {
     record: Vec<u8>,
     start: Vec<u8>,
     plan: Vec<u8>,
+    /// The pattern whose spread is asked for: the last, or none.
+    pattern: u64,
     built: Vec<u16>,
     written_record: Vec<u8>,
     written_tables: Vec<u16>,
+    written_row: Vec<u32>,
     written_plan: Vec<u8>,
 }
 
@@ -58,9 +64,11 @@ impl Lent {
             record: instance.record(),
             start: state::encode(&instance.task.start),
             plan: Vec::new(),
+            pattern: instance.task.patterns.len().saturating_sub(1) as u64,
             built: vec![0; ENTRIES],
             written_record: vec![0; instance.record().len()],
             written_tables: vec![0; ENTRIES],
+            written_row: vec![0; COUNTS],
             written_plan: vec![0; BUFFER],
         };
         let Lent { record, built, written_plan, .. } = &mut lent;
@@ -87,6 +95,10 @@ impl Lent {
             Operation::ReadText => planner.read_text(&lent.text, &mut lent.written_record),
             Operation::CheckRecord => planner.check_record(&lent.record),
             Operation::BuildTables => planner.build_tables(&lent.record, &mut lent.written_tables),
+            Operation::Spread => {
+                let Lent { record, pattern, written_tables, written_row, .. } = lent;
+                planner.spread(record, *pattern, written_tables, written_row)
+            }
             Operation::Value => planner.value(&lent.record, &lent.start, &lent.built),
             Operation::Search => {
                 planner.search(&lent.record, &mut lent.written_tables, &mut lent.written_plan)

@@ -3,6 +3,7 @@
 use reference::answer::Answer;
 
 use crate::Options;
+use crate::added::{self, Figures};
 use crate::instances::Instance;
 use crate::operations::{Lent, Operation};
 use crate::timing::{Measured, Times};
@@ -16,12 +17,18 @@ pub struct Row {
     times: Option<(Times, Option<Times>)>,
 }
 
+fn states_of(instance: &Instance, pattern: &[bool]) -> u128 {
+    let members = pattern.iter().zip(&instance.task.sizes).filter(|(member, _)| **member);
+    members.map(|(_, &size)| u128::from(size)).product()
+}
+
 fn states(instance: &Instance) -> u128 {
-    let sizes = |pattern: &Vec<bool>| -> u128 {
-        let members = pattern.iter().zip(&instance.task.sizes).filter(|(member, _)| **member);
-        members.map(|(_, &size)| u128::from(size)).product()
-    };
-    instance.task.patterns.iter().map(sizes).sum()
+    instance.task.patterns.iter().map(|pattern| states_of(instance, pattern)).sum()
+}
+
+/// The states that a spread counts.
+fn counted(instance: &Instance) -> u128 {
+    instance.task.patterns.last().map_or(0, |pattern| states_of(instance, pattern))
 }
 
 impl Row {
@@ -31,6 +38,7 @@ impl Row {
             Operation::ReadText => format!("{} bytes", lent.text_length()),
             Operation::CheckRecord | Operation::Search => format!("{actions} actions"),
             Operation::BuildTables => format!("{} states, {actions} actions", states(instance)),
+            Operation::Spread => format!("{} states", counted(instance)),
             Operation::Value => format!("{} patterns", instance.task.patterns.len()),
             Operation::CheckPlan => format!("{} bytes", lent.plan_length()),
         };
@@ -43,6 +51,14 @@ impl Row {
         }
         self.times = Some((measured.theirs, measured.ours));
         self
+    }
+
+    /// The least times, for what one operation adds to another.
+    fn figures(&self) -> Option<Figures> {
+        let (theirs, ours) = self.times?;
+        let (instance, operation) = (self.instance.clone(), self.operation);
+        let ours = ours.map(|ours| ours.least);
+        Some(Figures { instance, operation, theirs: theirs.least, ours })
     }
 }
 
@@ -100,6 +116,8 @@ pub fn times(rows: &[Row]) {
     }
     println!();
     summary(rows);
+    let figures: Vec<Figures> = rows.iter().filter_map(Row::figures).collect();
+    added::report(&figures, "least times", duration);
 }
 
 /// The ratios of each operation taken together.
