@@ -82,7 +82,7 @@ acting : {task rows guide tables : List ℕ} {value d s : ℕ} (j from m : ℕ) 
     (j ≡ m) × (leb (actionWeight task j) d ≡ true) × (examineOutcomes (guidedExamination task rows guide tables (d - actionWeight task j)) (packedSystem task (actionsIn guide) .successors j s) from ≡ succeeded ps e) → Acts task rows guide tables value d s m (act m ps)
 acting {task} {d = d} j from m ps e l b v t = rw (← t .0) (record { rest = ps; is = refl; within = b; light = leb-true (actionWeight task j) d (t .1); small = v; from = from; to = e; succeeds = t .2; budgeted = l })
 
-module _ (task sets places rows guide tables memory : List ℕ) (s value d c : ℕ) (x : Examinable task sets places rows guide tables memory s value d c) where
+module _ {task sets places rows guide tables memory : List ℕ} {s value d c : ℕ} (x : Examinable task sets places rows guide tables memory s value d c) where
   opens : (m : ℕ) (ps : Plans) (e : ℕ) (o : Opening) → guidedOpening task rows guide tables d s c ≡ o → guidedExamination task rows guide tables d s c ≡ succeeded (act m ps) e → guidedOpening task rows guide tables d s c ≡ Opening.Expand
   opens m ps e Opening.Spent o h = let q = sym h ∙ spent-stops _ (packed-invariant task (actionsIn guide) (x .guided .ready .weights)) _ _ _ _ _ o in let z : _≡_ {A = ℕ} 0 1 = cc in absurd (omega arith)
   opens m ps e Opening.Arrived o h = let q = sym h ∙ arrived-succeeds _ (packed-invariant task (actionsIn guide) (x .guided .ready .weights)) _ _ _ _ _ o in let z : _≡_ {A = ℕ} 0 1 = cc in absurd (omega arith)
@@ -94,7 +94,7 @@ module _ (task sets places rows guide tables memory : List ℕ) (s value d c : �
   acts-so m ps e h l =
       let o = opens m ps e (guidedOpening task rows guide tables d s c) refl h in
       let w = winner _ _ _ _ _ _ (sym (expand-tries-all task (actionsIn guide) _ _ _ _ _ (x .guided .ready .weights) o) ∙ h) in
-      acting (w .action) (w .count) m ps e l (omega (arith, w .below)) (opened-value task sets places rows guide tables memory s value d c x o)
+      acting (w .action) (w .count) m ps e l (omega (arith, w .below)) (opened-value x o)
       (chosen-acts (applies (packedSystem task (actionsIn guide)) (w .action) s) (leb (actionWeight task (w .action)) d) (examineOutcomes (guidedExamination task rows guide tables (d - actionWeight task (w .action))) (packedSystem task (actionsIn guide) .successors (w .action) s) (w .count)) (w .action) m (w .count) ps e (w .wins))
 
   pub acts : (p : Plan) (e b m : ℕ) → guidedExamination task rows guide tables d s c ≡ succeeded p e → e ≤ budgetIn guide → planHead p ≡ b → m ≡ b → (b ≡ 254 → ⊥) → Acts task rows guide tables value d s m p

@@ -20,7 +20,7 @@ use crate::compiled::outcome_count;
 use crate::compiled::successor;
 use crate::examine::Ending;
 use crate::examine::Visit;
-use crate::examine::examine;
+use crate::examine::examine_any;
 use crate::examine::place_of;
 use crate::examine::visit_of;
 use crate::written::copy;
@@ -62,7 +62,7 @@ fn write_plan(
         copy(plan, known.from, at, known.size);
         return at + known.size;
     }
-    match examine(task, sets, places, rows, guide, tables, memory, v) {
+    match examine_any(task, sets, places, rows, guide, tables, memory, v) {
         Ending::Stopped(e) => at,
         Ending::Failed(e) => at,
         Ending::Succeeded(e, n, b) => {
