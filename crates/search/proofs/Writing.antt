@@ -19,23 +19,41 @@ use Rattle.planning.proofs.Budget.{countOf, outcomes-grow, count-grows}
 use Rattle.planning.proofs.Shift.{succeeded-anywhere}
 use Rattle.tables.specs.Packed.{actionWeight, outcomeCount, keepMask, setValue, packedSystem}
 use Rattle.search.specs.declared.examine.Opening.{Opening}
+use Rattle.search.specs.declared.examine.Ending.{Ending}
+use Rattle.search.specs.declared.examine.Ending.the-variants.{Stopped, Failed, Succeeded}
 use Rattle.search.specs.Buffer.{Keeps, Holds}
 use Rattle.search.specs.Examination.{planSize, planHead, plansSize}
 use Rattle.search.specs.Guide.{actionsIn, budgetIn}
 use Rattle.search.specs.Memory.{said, Noted, Remembers}
 use Rattle.search.specs.Packed.{guidedExamination, guidedOpening}
-use Rattle.search.specs.Contracts.{Examinable}
-use Rattle.search.specs.Written.{Stands, Written}
+use Rattle.search.specs.Contracts.{Examinable, Examines}
+use Rattle.search.specs.Written.{Stands, Writable, Written}
 use Rattle.search.proofs.Bytes.{keeps-itself, keeps-trans, keeps-stored, holds-stored, holds-nothing, holds-joined}
 use Rattle.search.proofs.Openings.{spent-stops, arrived-succeeds, cut-fails, expand-tries-all, packed-invariant, successors-step, successors-end}
+use Rattle.search.proofs.Endings.{Success, told-success, told-failure, told-stop}
 use Rattle.search.proofs.Looking.{opened-value}
-use Rattle.search.proofs.Standing.{stands-stored, stands-noted}
+use Rattle.search.proofs.Standing.{same-plan, stands-stored, stands-noted}
 
-pub stop-no-success : {x : Result Plan} {p : Plan} {i j : ℕ} → x ≡ stopped i → x ≡ succeeded p j → ⊥
+stop-no-success : {x : Result Plan} {p : Plan} {i j : ℕ} → x ≡ stopped i → x ≡ succeeded p j → ⊥
 stop-no-success a b = let z : _≡_ {A = ℕ} 0 1 = cc in omega arith
 
-pub failure-no-success : {x : Result Plan} {p : Plan} {i j : ℕ} → x ≡ failed i → x ≡ succeeded p j → ⊥
+failure-no-success : {x : Result Plan} {p : Plan} {i j : ℕ} → x ≡ failed i → x ≡ succeeded p j → ⊥
 failure-no-success a b = let z : _≡_ {A = ℕ} 0 1 = cc in omega arith
+
+plan-told : {x : Result Plan} {budget c e n b k : ℕ} {p : Plan} → Success planSize planHead x c budget e n b → x ≡ succeeded p k → (x ≡ succeeded p e) × (planSize p ≡ n) × (planHead p ≡ b) × (e ≤ budget)
+plan-told q f = let z = same-plan (q .is) f in rw (← z) (q .is, q .sized, q .headed, q .budgeted)
+
+-- What examining the state of a plan that is to be written answers: the numbers of that plan.
+module _ {task sets places rows guide tables memory written plan : List ℕ} {s value d c at : ℕ} (w : Writable task sets places rows guide tables memory written plan s value d c at) {later : List ℕ} {a : Ending}
+    (h : Examines planSize planHead (guidedExamination task rows guide tables) (budgetIn guide) (guidedExamination task rows guide tables d s c) c later a) where
+  pub never-stops : {e : ℕ} → a ≡ Stopped e → ⊥
+  never-stops {e} f = stop-no-success (told-stop (guidedExamination task rows guide tables d s c) e (rw f at h) .0) (w .succeeds)
+
+  pub never-fails : {e : ℕ} → a ≡ Failed e → ⊥
+  never-fails {e} f = failure-no-success (told-failure (guidedExamination task rows guide tables d s c) e (rw f at h) .0) (w .succeeds)
+
+  pub told-found : {e n b : ℕ} → a ≡ Succeeded e n b → (guidedExamination task rows guide tables d s c ≡ succeeded (w .found) e) × (planSize (w .found) ≡ n) × (planHead (w .found) ≡ b) × (e ≤ budgetIn guide)
+  told-found {e} {n} {b} f = plan-told (told-success (guidedExamination task rows guide tables d s c) e n b (rw f at h)) (w .succeeds)
 
 -- A row of actions that succeeds: one of them does.
 record Winner (t : ℕ → ℕ → Result Plan) (bound : ℕ) (p : Plan) (e : ℕ) : Type 0 where

@@ -37,9 +37,8 @@ use Rattle.search.specs.Memory.{Remembers}
 use Rattle.search.specs.Packed.{guidedExamination}
 use Rattle.search.specs.Written.{Stands}
 use Rattle.search.proofs.Carrying.{carried}
-use Rattle.search.proofs.Endings.{told-success, told-failure, told-stop}
 use Rattle.search.proofs.Standing.{same-plan, stands-stored, stands-before, stands-sized, copy-written}
-use Rattle.search.proofs.Writing.{stop-no-success, failure-no-success, acts, head-small, arrived-written, Writing, writing-begins, writing-next, next-fits, writing-goes-on, writing-ends, written-noted, written-same}
+use Rattle.search.proofs.Writing.{never-stops, never-fails, told-found, acts, head-small, arrived-written, Writing, writing-begins, writing-next, next-fits, writing-goes-on, writing-ends, written-noted, written-same}
 
 abbrev μ-write-plan : Measures 9 write-plan-kinds.ps ℕ
 μ-write-plan κs a = a .1 .1 .1 .1 .1 .1 .1 .1 .1 .0 .d
@@ -78,44 +77,43 @@ write-plan-examine-any-requires : (t : ℕ) → write-plan-lts.Need-examine-any-
 write-plan-examine-any-requires t c κs = c .before .before .before .before .before .before .before .before .before .pre .1 .examinable
 
 write-plan-byte-of-requires : (t : ℕ) → write-plan-lts.Need-byte-of-requires (write-plan-calls t) (write-plan-at t) write-plan.Post write-plan-Inv-loop write-plan-μ-loop
-write-plan-byte-of-requires t c κs = let x = c .before .before .before .before .before .before .before .before .before .before .before .before .before .before .before .before .pre .1 .examinable in let q = told-success _ _ _ _ (rw (c .before .before .e3 .given .1) at (c .before .before .before .before .before .before .examine-any .ensures)) in head-small x (q .found) _ _ (q .is) (q .budgeted) (q .headed)
+write-plan-byte-of-requires t c κs = let w = c .before .before .before .before .before .before .before .before .before .before .before .before .before .before .before .before .pre .1 in let x = w .examinable in let q = told-found w (c .before .before .before .before .before .before .examine-any .ensures) (c .before .before .e3 .given .1) in head-small x (w .found) _ _ (q .0) (q .3) (q .2)
 
 write-plan-add-result-2 : (t : ℕ) → write-plan-lts.Need-add-result-2 (write-plan-calls t) (write-plan-at t) write-plan.Post write-plan-Inv-loop write-plan-μ-loop
 write-plan-add-result-2 t c = omega (arith, c .before .before .before .before .before .before .before .before .before .before .before .before .before .before .before .before .before .before .before .before .before .pre .1 .near)
 
 write-plan-returns-2 : (t : ℕ) → write-plan-lts.Need-returns-2 (write-plan-calls t) (write-plan-at t) write-plan.Post write-plan-Inv-loop write-plan-μ-loop
-write-plan-returns-2 t c = let w = c .before .before .before .before .before .before .before .before .before .before .before .before .before .before .before .before .before .before .before .before .before .pre .1 in let x = w .examinable in let h = rw (c .before .before .before .before .before .before .before .e3 .given .1) at (c .before .before .before .before .before .before .before .before .before .before .before .examine-any .ensures) in let q = told-success _ _ _ _ h in
-    λ p k f. written-same (same-plan (q .is) f) (arrived-written x (q .found) _ _ _ _ _ _ _ _ (q .is) (q .budgeted) (q .headed) (c .if2 .taken) (c .before .before .before .put .ensures) (c .before .before .before .before .byte-of .ensures) (h .remembers) (w .stands))
+write-plan-returns-2 t c = let w = c .before .before .before .before .before .before .before .before .before .before .before .before .before .before .before .before .before .before .before .before .before .pre .1 in let x = w .examinable in let h = c .before .before .before .before .before .before .before .before .before .before .before .examine-any .ensures in let q = told-found w h (c .before .before .before .before .before .before .before .e3 .given .1) in
+    λ p k f. written-same (same-plan (w .succeeds) f) (arrived-written x (w .found) _ _ _ _ _ _ _ _ (q .0) (q .3) (q .2) (c .if2 .taken) (c .before .before .before .put .ensures) (c .before .before .before .before .byte-of .ensures) (h .remembers) (w .stands))
 
 write-plan-left-after-requires : (t : ℕ) → write-plan-lts.Need-left-after-requires (write-plan-calls t) (write-plan-at t) write-plan.Post write-plan-Inv-loop write-plan-μ-loop
-write-plan-left-after-requires t c κs = let x = c .before .before .before .before .before .before .before .before .before .before .before .before .before .before .before .before .before .before .before .before .before .before .pre .1 .examinable in let q = told-success _ _ _ _ (rw (c .before .before .before .before .before .before .before .before .e3 .given .1) at (c .before .before .before .before .before .before .before .before .before .before .before .before .examine-any .ensures)) in let a = acts x (q .found) _ _ _ (q .is) (q .budgeted) (q .headed) (c .action-of .ensures) (c .before .if2 .left) in
+write-plan-left-after-requires t c κs = let w = c .before .before .before .before .before .before .before .before .before .before .before .before .before .before .before .before .before .before .before .before .before .before .pre .1 in let x = w .examinable in let q = told-found w (c .before .before .before .before .before .before .before .before .before .before .before .before .examine-any .ensures) (c .before .before .before .before .before .before .before .before .e3 .given .1) in let a = acts x (w .found) _ _ _ (q .0) (q .3) (q .2) (c .action-of .ensures) (c .before .if2 .left) in
     (omega (arith, a .within, x .guided .ready .few-actions), a .light)
 
 write-plan-rest-of-requires : (t : ℕ) → write-plan-lts.Need-rest-of-requires (write-plan-calls t) (write-plan-at t) write-plan.Post write-plan-Inv-loop write-plan-μ-loop
-write-plan-rest-of-requires t c κs = let x = c .before .before .before .before .before .before .before .before .before .before .before .before .before .before .before .before .before .before .before .before .before .before .before .pre .1 .examinable in let g = x .guided in let q = told-success _ _ _ _ (rw (c .before .before .before .before .before .before .before .before .before .e3 .given .1) at (c .before .before .before .before .before .before .before .before .before .before .before .before .before .examine-any .ensures)) in let a = acts x (q .found) _ _ _ (q .is) (q .budgeted) (q .headed) (c .before .action-of .ensures) (c .before .before .if2 .left) in
+write-plan-rest-of-requires t c κs = let w = c .before .before .before .before .before .before .before .before .before .before .before .before .before .before .before .before .before .before .before .before .before .before .before .pre .1 in let x = w .examinable in let g = x .guided in let q = told-found w (c .before .before .before .before .before .before .before .before .before .before .before .before .before .examine-any .ensures) (c .before .before .before .before .before .before .before .before .before .e3 .given .1) in let a = acts x (w .found) _ _ _ (q .0) (q .3) (q .2) (c .before .action-of .ensures) (c .before .before .if2 .left) in
     (g .placed, g .ready .few-patterns, g .ready .few-variables, omega (arith, a .within, g .ready .few-actions), x .valued .exact (omega (arith, a .small)))
 
 write-plan-add-end : (t : ℕ) → write-plan-lts.Need-add-end (write-plan-calls t) (write-plan-at t) write-plan.Post write-plan-Inv-loop write-plan-μ-loop
 write-plan-add-end t c = omega (arith, c .before .before .before .before .before .before .before .before .before .before .before .before .before .before .before .before .before .before .before .before .before .before .before .before .pre .1 .near)
 
 write-plan-outcome-count-requires : (t : ℕ) → write-plan-lts.Need-outcome-count-requires (write-plan-calls t) (write-plan-at t) write-plan.Post write-plan-Inv-loop write-plan-μ-loop
-write-plan-outcome-count-requires t c κs = let x = c .before .before .before .before .before .before .before .before .before .before .before .before .before .before .before .before .before .before .before .before .before .before .before .before .pre .1 .examinable in let q = told-success _ _ _ _ (rw (c .before .before .before .before .before .before .before .before .before .before .e3 .given .1) at (c .before .before .before .before .before .before .before .before .before .before .before .before .before .before .examine-any .ensures)) in let a = acts x (q .found) _ _ _ (q .is) (q .budgeted) (q .headed) (c .before .before .action-of .ensures) (c .before .before .before .if2 .left) in omega (arith, a .within, x .guided .ready .few-actions)
+write-plan-outcome-count-requires t c κs = let w = c .before .before .before .before .before .before .before .before .before .before .before .before .before .before .before .before .before .before .before .before .before .before .before .before .pre .1 in let x = w .examinable in let q = told-found w (c .before .before .before .before .before .before .before .before .before .before .before .before .before .before .examine-any .ensures) (c .before .before .before .before .before .before .before .before .before .before .e3 .given .1) in let a = acts x (w .found) _ _ _ (q .0) (q .3) (q .2) (c .before .before .action-of .ensures) (c .before .before .before .if2 .left) in omega (arith, a .within, x .guided .ready .few-actions)
 
 write-plan-loop-holds : (t : ℕ) → write-plan-lts.Need-loop-holds (write-plan-calls t) (write-plan-at t) write-plan.Post write-plan-Inv-loop write-plan-μ-loop
-write-plan-loop-holds t c = let w = c .before .before .before .before .before .before .before .before .before .before .before .before .before .before .before .before .before .before .before .before .before .before .before .before .before .before .pre .1 in let x = w .examinable in let h = rw (c .before .before .before .before .before .before .before .before .before .before .before .before .e3 .given .1) at (c .before .before .before .before .before .before .before .before .before .before .before .before .before .before .before .before .examine-any .ensures) in let q = told-success _ _ _ _ h in let a = acts x (q .found) _ _ _ (q .is) (q .budgeted) (q .headed) (c .before .before .before .before .action-of .ensures) (c .before .before .before .before .before .if2 .left) in
-    let s = same-plan (q .is) (w .succeeds) in
-    ((q .found, _, q .is, q .sized, writing-begins _ _ _ _ _ _ _ _ _ _ _ _ _ (q .found) (c .before .before .before .before .before .before .before .before .before .before .before .before .before .before .before .before .before .before .before .before .before .before .before .before .before .before .args .plan .now) _ a (rw (← s) at (w .near)) (rw (← s) at (w .fits)) (c .before .before .before .before .action-of .ensures) (c .before .before .before .left-after .ensures) (c .place-of .ensures ∙ c .before .outcome-count .ensures) (c .before .before .before .before .before .before .before .before .put .ensures) (c .before .before .before .before .before .before .before .before .before .byte-of .ensures)), omega arith, h .remembers, stands-stored _ (w .stands) _ _ (c .before .before .before .before .before .before .before .before .put .ensures), refl, refl)
+write-plan-loop-holds t c = let w = c .before .before .before .before .before .before .before .before .before .before .before .before .before .before .before .before .before .before .before .before .before .before .before .before .before .before .pre .1 in let x = w .examinable in let h = c .before .before .before .before .before .before .before .before .before .before .before .before .before .before .before .before .examine-any .ensures in let q = told-found w h (c .before .before .before .before .before .before .before .before .before .before .before .before .e3 .given .1) in let a = acts x (w .found) _ _ _ (q .0) (q .3) (q .2) (c .before .before .before .before .action-of .ensures) (c .before .before .before .before .before .if2 .left) in
+    ((w .found, _, q .0, q .1, writing-begins _ _ _ _ _ _ _ _ _ _ _ _ _ (w .found) (c .before .before .before .before .before .before .before .before .before .before .before .before .before .before .before .before .before .before .before .before .before .before .before .before .before .before .args .plan .now) _ a (w .near) (w .fits) (c .before .before .before .before .action-of .ensures) (c .before .before .before .left-after .ensures) (c .place-of .ensures ∙ c .before .outcome-count .ensures) (c .before .before .before .before .before .before .before .before .put .ensures) (c .before .before .before .before .before .before .before .before .before .byte-of .ensures)), omega arith, h .remembers, stands-stored _ (w .stands) _ _ (c .before .before .before .before .before .before .before .before .put .ensures), refl, refl)
 
 write-plan-successor-requires : (t : ℕ) → write-plan-lts.Need-successor-requires (write-plan-calls t) (write-plan-at t) write-plan.Post write-plan-Inv-loop write-plan-μ-loop
-write-plan-successor-requires t c κs = let x = c .before .before .before .before .before .before .before .before .before .before .before .before .before .before .before .before .before .before .before .before .before .before .before .before .before .before .before .before .pre .1 .examinable in let q = told-success _ _ _ _ (rw (c .before .before .before .before .before .before .before .before .before .before .before .before .before .before .e3 .given .1) at (c .before .before .before .before .before .before .before .before .before .before .before .before .before .before .before .before .before .before .examine-any .ensures)) in let a = acts x (q .found) _ _ _ (q .is) (q .budgeted) (q .headed) (c .before .before .before .before .before .before .action-of .ensures) (c .before .before .before .before .before .before .before .if2 .left) in let n = x .guided .ready .few-outcomes _ (a .within) in
+write-plan-successor-requires t c κs = let w = c .before .before .before .before .before .before .before .before .before .before .before .before .before .before .before .before .before .before .before .before .before .before .before .before .before .before .before .before .pre .1 in let x = w .examinable in let q = told-found w (c .before .before .before .before .before .before .before .before .before .before .before .before .before .before .before .before .before .before .examine-any .ensures) (c .before .before .before .before .before .before .before .before .before .before .before .before .before .before .e3 .given .1) in let a = acts x (w .found) _ _ _ (q .0) (q .3) (q .2) (c .before .before .before .before .before .before .action-of .ensures) (c .before .before .before .before .before .before .before .if2 .left) in let n = x .guided .ready .few-outcomes _ (a .within) in
     (omega (arith, a .within, x .guided .ready .few-actions), omega (arith, n, c .loop-test .taken, c .before .before .place-of .ensures, c .before .before .before .outcome-count .ensures))
 
 write-plan-sum-with-requires : (t : ℕ) → write-plan-lts.Need-sum-with-requires (write-plan-calls t) (write-plan-at t) write-plan.Post write-plan-Inv-loop write-plan-μ-loop
-write-plan-sum-with-requires t c κs = let x = c .before .before .before .before .before .before .before .before .before .before .before .before .before .before .before .before .before .before .before .before .before .before .before .before .before .before .before .before .before .pre .1 .examinable in let g = x .guided in let q = told-success _ _ _ _ (rw (c .before .before .before .before .before .before .before .before .before .before .before .before .before .before .before .e3 .given .1) at (c .before .before .before .before .before .before .before .before .before .before .before .before .before .before .before .before .before .before .before .examine-any .ensures)) in let a = acts x (q .found) _ _ _ (q .is) (q .budgeted) (q .headed) (c .before .before .before .before .before .before .before .action-of .ensures) (c .before .before .before .before .before .before .before .before .if2 .left) in
+write-plan-sum-with-requires t c κs = let w = c .before .before .before .before .before .before .before .before .before .before .before .before .before .before .before .before .before .before .before .before .before .before .before .before .before .before .before .before .before .pre .1 in let x = w .examinable in let g = x .guided in let q = told-found w (c .before .before .before .before .before .before .before .before .before .before .before .before .before .before .before .before .before .before .before .examine-any .ensures) (c .before .before .before .before .before .before .before .before .before .before .before .before .before .before .before .e3 .given .1) in let a = acts x (w .found) _ _ _ (q .0) (q .3) (q .2) (c .before .before .before .before .before .before .before .action-of .ensures) (c .before .before .before .before .before .before .before .before .if2 .left) in
     (g .placed, g .ready .few-patterns, g .ready .few-variables, omega (arith, a .within, g .ready .few-actions), omega (arith, c .before .before .before .before .before .rest-of .ensures .1, a .small))
 
 write-plan-write-plan-requires : (t : ℕ) → write-plan-lts.Need-write-plan-requires (write-plan-calls t) (write-plan-at t) write-plan.Post write-plan-Inv-loop write-plan-μ-loop
-write-plan-write-plan-requires t c κs = let x = c .before .before .before .before .before .before .before .before .before .before .before .before .before .before .before .before .before .before .before .before .before .before .before .before .before .before .before .before .before .before .before .before .before .before .pre .1 .examinable in let q = told-success _ _ _ _ (rw (c .before .before .before .before .before .before .before .before .before .before .before .before .before .before .before .before .before .before .before .before .e3 .given .1) at (c .before .before .before .before .before .before .before .before .before .before .before .before .before .before .before .before .before .before .before .before .before .before .before .before .examine-any .ensures)) in let a = acts x (q .found) _ _ _ (q .is) (q .budgeted) (q .headed) (c .before .before .before .before .before .before .before .before .before .before .before .before .action-of .ensures) (c .before .before .before .before .before .before .before .before .before .before .before .before .before .if2 .left) in
+write-plan-write-plan-requires t c κs = let w = c .before .before .before .before .before .before .before .before .before .before .before .before .before .before .before .before .before .before .before .before .before .before .before .before .before .before .before .before .before .before .before .before .before .before .pre .1 in let x = w .examinable in let q = told-found w (c .before .before .before .before .before .before .before .before .before .before .before .before .before .before .before .before .before .before .before .before .before .before .before .before .examine-any .ensures) (c .before .before .before .before .before .before .before .before .before .before .before .before .before .before .before .before .before .before .before .before .e3 .given .1) in let a = acts x (w .found) _ _ _ (q .0) (q .3) (q .2) (c .before .before .before .before .before .before .before .before .before .before .before .before .action-of .ensures) (c .before .before .before .before .before .before .before .before .before .before .before .before .before .if2 .left) in
     let i = c .before .before .before .before .before .before .before .loop .inv in let e = c .before .before .before .visit-of .ensures in let f = c .before .before .before .before .before .before .before .before .before .before .before .left-after .ensures in let w = writing-next _ _ _ _ _ _ _ _ _ _ _ _ _ (c .before .before .before .before .before .before .loop-test .taken) (c .before .before .before .before .before .successor .ensures) (i .0 .4) in let r = next-fits _ _ _ _ _ _ _ _ _ _ _ _ _ (c .before .before .before .before .before .before .loop-test .taken) (c .before .before .before .before .before .successor .ensures) (i .0 .4) in (
       omega (arith, e .2, f, x .guided .ready .weights (c .before .before .before .before .before .before .before .before .before .before .before .before .action-of .result) (a .within), a .light, c .before .before .before .before .before .before .before .before .before .before .before .before .before .before .before .before .before .before .before .before .before .before .before .before .before .before .before .before .before .before .before .before .before .before .pre .0),
       rw (e .0, e .1, e .2, e .3) (
@@ -147,10 +145,10 @@ write-plan-note-passage-requires : (t : ℕ) → write-plan-lts.Need-note-passag
 write-plan-note-passage-requires t c κs = let i = c .before .before .loop .inv in (i .3 .long, c .before .before .before .before .before .before .before .before .before .before .before .before .before .before .before .before .before .before .before .before .before .before .before .before .before .before .before .before .before .pre .1 .examinable .shallow, omega (arith, i .0 .3, i .0 .4 .near))
 
 write-plan-returns-3 : (t : ℕ) → write-plan-lts.Need-returns-3 (write-plan-calls t) (write-plan-at t) write-plan.Post write-plan-Inv-loop write-plan-μ-loop
-write-plan-returns-3 t c = λ p k f. absurd (stop-no-success (told-stop _ _ (rw (c .before .e .given .1) at (c .before .before .before .before .before .examine-any .ensures)) .0) f)
+write-plan-returns-3 t c = λ p k f. absurd (never-stops (c .before .before .before .before .before .before .before .before .before .before .before .before .before .before .before .pre .1) (c .before .before .before .before .before .examine-any .ensures) (c .before .e .given .1))
 
 write-plan-returns-4 : (t : ℕ) → write-plan-lts.Need-returns-4 (write-plan-calls t) (write-plan-at t) write-plan.Post write-plan-Inv-loop write-plan-μ-loop
-write-plan-returns-4 t c = λ p k f. absurd (failure-no-success (told-failure _ _ (rw (c .before .e2 .given .1) at (c .before .before .before .before .before .examine-any .ensures)) .0) f)
+write-plan-returns-4 t c = λ p k f. absurd (never-fails (c .before .before .before .before .before .before .before .before .before .before .before .before .before .before .before .pre .1) (c .before .before .before .before .before .examine-any .ensures) (c .before .e2 .given .1))
 
 write-plan-returns-5 : (t : ℕ) → write-plan-lts.Need-returns-5 (write-plan-calls t) (write-plan-at t) write-plan.Post write-plan-Inv-loop write-plan-μ-loop
 write-plan-returns-5 t c = let i = c .before .before .before .before .before .loop .inv in λ p k f. written-same (same-plan (i .0 .2) f) (written-noted _ _ _ _ _ _ (writing-ends _ _ _ _ _ (c .before .before .before .before .loop-test .left) (i .0 .4) (c .before .before .before .before .before .before .before .before .before .before .before .before .before .before .put .ensures) (i .2) (i .3)) (c .before .before .note-passage .ensures) (c .before .before .before .before .before .before .before .before .before .before .before .before .before .before .before .before .before .before .before .before .before .before .before .before .before .before .before .before .before .before .before .before .pre .1 .fresh) (i .0 .2) (i .0 .3))
