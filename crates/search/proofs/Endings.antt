@@ -141,7 +141,3 @@ arrived-size = refl
 pub arrived-head : planHead arrived ≡ 254
 unfolding planHead
 arrived-head = refl
-
--- The numbers after one outcome more: its place, the count and the size so far.
-pub row-grows : (k end count c n e z : ℕ) → k < end → count ≤ c → n ≤ c - count → c ≤ e → z ≤ e - c → (k + 1 ≤ end) × (count ≤ e) × (n + z ≤ e - count)
-row-grows k end count c n e z a b l h g = (omega arith, omega arith, omega arith)

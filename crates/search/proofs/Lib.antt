@@ -20,6 +20,7 @@ pub mod Trying
 pub mod Endings
 pub mod Remembering
 pub mod Looking
+pub mod Examining
 pub mod Standing
 pub mod Writing
 pub mod Conclusions

@@ -5,38 +5,26 @@ use mathlib.Core.List.{List}
 use Prim.Native.Nat.{ℕ, _+_, _-_, _<_, _≤_}
 use native.Mathlib.Numerals.{add-one}
 use native.Mathlib.Omega.{arith}
-use Rattle.planning.specs.Extended.{ℕ∞}
-use Rattle.planning.specs.System.{System, Invariant}
-use Rattle.planning.specs.Plan.{Plan, arrived, act, Plans}
-use Rattle.planning.specs.Search.{Result, succeeded, failed, examination}
+use Rattle.planning.specs.System.{Invariant}
+use Rattle.planning.specs.Plan.{arrived}
+use Rattle.planning.specs.Search.{succeeded, failed}
 use Rattle.tables.specs.Packed.{packedSystem}
 use Rattle.search.specs.declared.examine.Opening.{Opening}
 use Rattle.search.specs.declared.examine.Ending.{Ending}
 use Rattle.search.specs.declared.examine.Ending.the-variants.{Stopped, Failed, Succeeded}
 use Rattle.search.specs.declared.examine.Glance.{Glance}
 use Rattle.search.specs.declared.examine.Glance.the-variants.{Decided}
-use Rattle.search.specs.Examination.{planSize, planHead, plansSize, plansHead}
+use Rattle.search.specs.Examination.{planSize, planHead}
 use Rattle.search.specs.Guide.{actionsIn, budgetIn}
-use Rattle.search.specs.Memory.{said, Says, Remembers, Noted}
+use Rattle.search.specs.Memory.{said, Says}
 use Rattle.search.specs.Packed.{guidedExamination, guidedOpening}
-use Rattle.search.specs.Contracts.{Examinable, Examines, Glanced}
+use Rattle.search.specs.Contracts.{Examinable, Openable, Examines, Glanced, Looks}
 use Rattle.search.proofs.Openings.{packed-invariant, spent-stops, arrived-succeeds, cut-fails, opened-below, arrived-not-spent, cut-not-spent, expand-facts}
 use Rattle.search.proofs.Carrying.{opened-within, opened-exact}
 use Rattle.search.proofs.Trying.{not-zero}
-use Rattle.search.proofs.Endings.{Success, ends-success, ends-failure, ends-stop, arrived-size, arrived-head, act-size, act-head}
-use Rattle.search.proofs.Remembering.{success-remembered}
+use Rattle.search.proofs.Endings.{ends-success, ends-failure, ends-stop, arrived-size, arrived-head}
 
--- What was seen, by the code's word for it.
-module _ (r : ℕ → ℕ → ℕ → Result Plan) (budget : ℕ) (o : Opening) (x : Result Plan) (c : ℕ) (memory : List ℕ) (g : Glance) (h : Glanced r budget o x c memory g) where
-  pub seen-decided : (a : Ending) → g ≡ Decided a → Examines planSize planHead r budget x c memory a
-  unfolding Glanced
-  seen-decided a e = rw e at h
-
-  pub seen-open : g ≡ Glance.Open → o ≡ Opening.Expand
-  unfolding Glanced
-  seen-open e = rw e at h
-
-module _ (task sets places rows guide tables memory : List ℕ) (s value d c : ℕ) (x : Examinable task sets places rows guide tables memory s value d c) where
+module _ {task sets places rows guide tables memory : List ℕ} {s value d c : ℕ} (x : Examinable task sets places rows guide tables memory s value d c) where
   abbrev Seen : Glance → Type 0
   Seen g = Glanced (guidedExamination task rows guide tables) (budgetIn guide) (guidedOpening task rows guide tables d s c) (guidedExamination task rows guide tables d s c) c memory g
 
@@ -78,17 +66,12 @@ module _ (task sets places rows guide tables memory : List ℕ) (s value d c : �
     pub opened-value : value < 256
     opened-value = let v = opened-within _ sound _ _ _ _ _ o value (opened-exact _ sound _ _ _ _ _ o value (x .valued) (omega (arith, x .shallow))) in omega (arith, v, x .shallow)
 
--- The same state again, with a later memory and count.
-pub examinable-again : (task sets places rows guide tables memory later : List ℕ) (s value d c c₁ : ℕ) → Examinable task sets places rows guide tables memory s value d c → Remembers (guidedExamination task rows guide tables) (budgetIn guide) later → c₁ ≤ budgetIn guide →
-    Examinable task sets places rows guide tables later s value d c₁
-examinable-again task sets places rows guide tables memory later s value d c c₁ x m l = record { guided = x .guided; remembers = m; within = l; shallow = x .shallow; valued = x .valued }
+  -- What was seen, by the code's word for it: an ending, or that the state opens.
+  module _ {g : Glance} (h : Looks task guide memory s value d c g) where
+    pub seen-decided : (a : Ending) → g ≡ Decided a → Examines planSize planHead (guidedExamination task rows guide tables) (budgetIn guide) (guidedExamination task rows guide tables d s c) c memory a
+    unfolding Glanced
+    seen-decided a e = rw e at (h sets places rows tables x)
 
--- An action whose outcomes all succeed from the count c wins, and the success is noted.
-module _ (Y : System ℕ) (h : ℕ → ℕ∞) (budget d s count c e n b m first : ℕ) (old new : List ℕ) (x : Result Plans) (q : Success plansSize plansHead x c budget e n b) (l : count + 1 ≤ c)
-    (f : first ≡ m) (w : examination Y h budget d s count ≡ succeeded (act m (q .found)) e) where
-  later : (count ≤ e) × (n + 1 ≤ e - count)
-  later = let k = q .counted in let g = q .short in (omega arith, omega arith)
-
-  pub action-wins : Remembers (examination Y h budget) budget old → Noted old new (said s d (e - count) (n + 1) first) → Examines planSize planHead (examination Y h budget) budget (examination Y h budget d s count) count new (Succeeded e (n + 1) first)
-  action-wins t a = let u = act-size m (q .found) n (q .sized) in let v = act-head m (q .found) ∙ sym f in
-      ends-success planSize planHead (success-remembered Y h budget d s count e old new t (later .0) _ _ _ a w u v (omega arith) (later .1)) (later .0) (q .budgeted) _ _ _ w u v (later .1)
+    pub seen-open : g ≡ Glance.Open → Openable task sets places rows guide tables memory s value d c
+    unfolding Glanced
+    seen-open e = record { examinable = x; opens = rw e at (h sets places rows tables x) }

@@ -27,6 +27,11 @@ pub record Examinable (task sets places rows guide tables memory : List ℕ) (s 
   -- The number carried along stands for the value of s.
   pub valued : Estimated (guidedValue rows guide tables s) value
 
+-- What it asks where the leaf decided nothing: the state opens besides, so that its actions are to be tried.
+pub record Openable (task sets places rows guide tables memory : List ℕ) (s value d c : ℕ) : Type 0 where
+  pub examinable : Examinable task sets places rows guide tables memory s value d c
+  pub opens : guidedOpening task rows guide tables d s c ≡ Opening.Expand
+
 -- What an examination from count c leaves, where x is its result by the definition: over plans, or over the plans of an action's outcomes.
 pub record Examines {A : Type 0} (size head : A → ℕ) (r : ℕ → ℕ → ℕ → Result Plan) (budget : ℕ) (x : Result A) (c : ℕ) (memory : List ℕ) (a : Ending) : Type 0 where
   -- The answer is the definition's: count, size of the plan and its first byte.

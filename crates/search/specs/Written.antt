@@ -7,11 +7,10 @@ use lib.ListN.{length, getD}
 use Rattle.planning.specs.Plan.{Plan, encode}
 use Rattle.planning.specs.Search.{Result, succeeded}
 use Rattle.search.specs.Buffer.{Keeps, Holds}
-use Rattle.search.specs.Examination.{planSize}
+use Rattle.search.specs.Examination.{planSize, planHead, Guided}
 use Rattle.search.specs.Guide.{budgetIn}
 use Rattle.search.specs.Memory.{Said, Says, Remembers}
 use Rattle.search.specs.Packed.{guidedExamination}
-use Rattle.search.specs.Contracts.{Examinable}
 
 -- Slots as those of the memory of results say of a state and a depth how many bytes its plan has (in place of the examinations) and where the
 -- first of them stands (in place of the size). They are right about every plan that r finds from the count 0, and speak of bytes before `at`.
@@ -28,19 +27,29 @@ pub record Copied (from to n : ℕ) (old new : List ℕ) : Type 0 where
   pub keeps : Keeps to old new
   pub copies : (i : ℕ) → i < n → getD new (to + i) 0 ≡ getD old (from + i) 0
 
--- What writing the plan of state s at `at` asks, with its value, depth d and count c.
-pub record Writable (task sets places rows guide tables memory written plan : List ℕ) (s value d c at : ℕ) : Type 0 where
-  -- The state may be examined.
-  pub examinable : Examinable task sets places rows guide tables memory s value d c
-  -- It is examined from the count 0, as all that the writer examines.
-  pub fresh : c ≡ 0
+-- What is known of a state whose plan is to be written: with depth d it succeeds from the count 0, from which all that the writer examines is examined.
+pub record Succeeding (task sets places rows guide tables memory : List ℕ) (s d : ℕ) : Type 0 where
+  -- The arrays are those of one task, and what the memory says is so.
+  pub guided : Guided task sets places rows guide
+  pub remembers : Remembers (guidedExamination task rows guide tables) (budgetIn guide) memory
+  -- The depth fits a byte of a slot.
+  pub shallow : d < 256
   -- It succeeds, with this plan.
   pub found : Plan
   pub made : ℕ
-  pub succeeds : guidedExamination task rows guide tables d s c ≡ succeeded found made
+  pub is : guidedExamination task rows guide tables d s 0 ≡ succeeded found made
+
+-- How its plan begins: with byte b, of n bytes; and it is found within the budget. The memory is still true.
+pub record Starts (r : ℕ → ℕ → ℕ → Result Plan) (budget d s : ℕ) (memory : List ℕ) (n b : ℕ) : Type 0 where
+  pub told : (p : Plan) (k : ℕ) → r d s 0 ≡ succeeded p k → (planSize p ≡ n) × (planHead p ≡ b) × (k ≤ budget)
+  pub remembers : Remembers r budget memory
+
+-- What writing the plan of state s with depth d at `at` asks.
+pub record Writable (task sets places rows guide tables memory written plan : List ℕ) (s d at : ℕ) : Type 0 where
+  pub succeeding : Succeeding task sets places rows guide tables memory s d
   -- The plan fits the buffer, and its places fit a slot.
-  pub fits : at + planSize found ≤ length plan
-  pub near : at + planSize found ≤ 1000000
+  pub fits : at + planSize (succeeding .found) ≤ length plan
+  pub near : at + planSize (succeeding .found) ≤ 1000000
   -- What was written before is known rightly.
   pub stands : Stands (guidedExamination task rows guide tables) written plan at
 
@@ -54,7 +63,7 @@ pub record Written (r : ℕ → ℕ → ℕ → Result Plan) (budget : ℕ) (p :
   pub remembers : Remembers r budget memory
   pub stands : Stands r written new end
 
--- The same of the plan that state s succeeds with, from count c with depth d.
-abbrev pub Writes : (task rows guide tables : List ℕ) (d s c at : ℕ) (memory written old new : List ℕ) (end : ℕ) → Type 0
-Writes task rows guide tables d s c at memory written old new end = (p : Plan) (k : ℕ) → guidedExamination task rows guide tables d s c ≡ succeeded p k →
+-- The same of the plan that state s succeeds with, with depth d.
+abbrev pub Writes : (task rows guide tables : List ℕ) (d s at : ℕ) (memory written old new : List ℕ) (end : ℕ) → Type 0
+Writes task rows guide tables d s at memory written old new end = (p : Plan) (k : ℕ) → guidedExamination task rows guide tables d s 0 ≡ succeeded p k →
     Written (guidedExamination task rows guide tables) (budgetIn guide) p at memory written old new end

@@ -1,6 +1,6 @@
-// Examining a state and examining an action's outcomes call each other, and the depth left falls by the action's weight. What is decided
-// without examining another state is a leaf beside them (`look`). The count of examinations is carried in every ending, and every result is
-// remembered. Asks for what `Examinable` names, and gives what `Examines` names.
+// Examining a state that opens and examining an action's outcomes call each other, and the depth left falls by the action's weight. What is decided
+// without examining another state is a leaf beside them (`look`), asked before the call. The count of examinations is carried in every ending, and every
+// result is remembered. Asks for what `Examinable` names, of a state that opens for `Openable`, and gives what `Examines` names.
 ghost use mathlib.Core.Path.{_≡_};
 ghost use Prim.Native.Nat.{ℕ, _+_, _-_, _<_, _≤_};
 ghost use lib.Bits.{bitAnd};
@@ -12,7 +12,7 @@ ghost use Rattle.tables.specs.Packed.{packedSystem};
 ghost use Rattle.search.specs.Guide.{actionsIn, budgetIn};
 ghost use Rattle.search.specs.Examination.{openingOf, planSize, planHead, plansSize, plansHead};
 ghost use Rattle.search.specs.Packed.{guidedExamination, guidedOutcomes};
-ghost use Rattle.search.specs.Contracts.{Examinable, Examines, Looks};
+ghost use Rattle.search.specs.Contracts.{Examinable, Openable, Examines, Looks};
 ghost use Rattle.search.specs.declared.examine.Opening.{Opening};
 use crate::carried::rest_of;
 use crate::carried::sum_with;
@@ -147,7 +147,7 @@ fn look(
     }
 }
 
-// Examines a state: where it opens, the actions that apply are tried by number, and the first that succeeds wins.
+// Examines a state that opens: the actions that apply are tried by number, and the first that succeeds wins.
 pub(crate) fn examine(
     task: &[u64; 1282],
     sets: &[u64; 2048],
@@ -158,15 +158,9 @@ pub(crate) fn examine(
     memory: &mut [u64],
     v: Visit,
 ) -> Ending
-    requires { ⌜ Examinable (now task) (now sets) (now places) (now rows) (now guide) (now tables) (now memory) (v .s) (v .value) (v .d) (v .count) ⌝ }
+    requires { ⌜ Openable (now task) (now sets) (now places) (now rows) (now guide) (now tables) (now memory) (v .s) (v .value) (v .d) (v .count) ⌝ }
     ensures { λ r. ⌜ Examines planSize planHead (guidedExamination (now (task .entry)) (now (rows .entry)) (now (guide .entry)) (now (tables .entry))) (budgetIn (now (guide .entry))) (guidedExamination (now (task .entry)) (now (rows .entry)) (now (guide .entry)) (now (tables .entry)) (v .d) (v .s) (v .count)) (v .count) (now (memory .exit)) r ⌝ }
 {
-    match look(task, guide, memory, v.s, v.value, v.d, v.count) {
-        Glance::Decided(e) => {
-            return e;
-        }
-        Glance::Open => {}
-    }
     let mut c = v.count + 1;
     let mut set = applying(sets, v.s, bytes_in(guide));
     while set != 0 {
@@ -191,7 +185,8 @@ pub(crate) fn examine(
     Ending::Failed(c)
 }
 
-// Examines the states after an action's outcomes, in order, up to the first that does not succeed, with the depth that the action leaves.
+// Examines the states after an action's outcomes, in order, up to the first that does not succeed, with the depth that the action leaves. Only a
+// state that opens is a call: most do not. The endings are taken apart in each arm, since a joined one would go through memory.
 pub(crate) fn outcomes(
     task: &[u64; 1282],
     sets: &[u64; 2048],
@@ -216,25 +211,47 @@ pub(crate) fn outcomes(
     for k in 0..place_of(outcome_count(task, m)) {
         let x = successor(task, v.s, m, k);
         let value = sum_with(places, rows, guide, tables, x, m, rest);
-        let seen = match look(task, guide, memory, x, value, left, c) {
-            Glance::Decided(a) => a,
+        match look(task, guide, memory, x, value, left, c) {
+            Glance::Decided(a) => match a {
+                Ending::Stopped(e) => return Ending::Stopped(e),
+                Ending::Failed(e) => return Ending::Failed(e),
+                Ending::Succeeded(e, size, b) => {
+                    c = e;
+                    n += size;
+                }
+            },
             Glance::Open => {
                 let w = visit_of(x, value, left, c);
-                examine(task, sets, places, rows, guide, tables, memory, w)
-            }
-        };
-        match seen {
-            Ending::Stopped(e) => {
-                return Ending::Stopped(e);
-            }
-            Ending::Failed(e) => {
-                return Ending::Failed(e);
-            }
-            Ending::Succeeded(e, size, b) => {
-                c = e;
-                n += size;
+                match examine(task, sets, places, rows, guide, tables, memory, w) {
+                    Ending::Stopped(e) => return Ending::Stopped(e),
+                    Ending::Failed(e) => return Ending::Failed(e),
+                    Ending::Succeeded(e, size, b) => {
+                        c = e;
+                        n += size;
+                    }
+                }
             }
         }
     }
     Ending::Succeeded(c, n, 0)
+}
+
+// Examines any state, for a round and for the writer: what the leaf decides, or the examination of a state that opens.
+pub(crate) fn examine_any(
+    task: &[u64; 1282],
+    sets: &[u64; 2048],
+    places: &[u16; 4120],
+    rows: &[u16; 2048],
+    guide: &[u32; 80],
+    tables: &[u16],
+    memory: &mut [u64],
+    v: Visit,
+) -> Ending
+    requires { ⌜ Examinable (now task) (now sets) (now places) (now rows) (now guide) (now tables) (now memory) (v .s) (v .value) (v .d) (v .count) ⌝ }
+    ensures { λ r. ⌜ Examines planSize planHead (guidedExamination (now (task .entry)) (now (rows .entry)) (now (guide .entry)) (now (tables .entry))) (budgetIn (now (guide .entry))) (guidedExamination (now (task .entry)) (now (rows .entry)) (now (guide .entry)) (now (tables .entry)) (v .d) (v .s) (v .count)) (v .count) (now (memory .exit)) r ⌝ }
+{
+    match look(task, guide, memory, v.s, v.value, v.d, v.count) {
+        Glance::Decided(a) => a,
+        Glance::Open => examine(task, sets, places, rows, guide, tables, memory, v),
+    }
 }

@@ -15,7 +15,7 @@ use crate::estimate::Value;
 use crate::estimate::value_of;
 use crate::examine::Ending;
 use crate::examine::Visit;
-use crate::examine::examine;
+use crate::examine::examine_any;
 use crate::examine::visit_of;
 use crate::guide::limit_in;
 use crate::guide::patterns_in;
@@ -80,7 +80,7 @@ fn deepen(
             return Conclusion::Unfinished(d, c);
         }
         let w = visit_of(v.s, v.value, d, c);
-        match examine(task, sets, places, rows, guide, tables, memory, w) {
+        match examine_any(task, sets, places, rows, guide, tables, memory, w) {
             Ending::Stopped(e) => {
                 return Conclusion::Spent(d, e);
             }

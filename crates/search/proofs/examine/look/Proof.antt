@@ -44,28 +44,28 @@ recall-requires : tie.Need-recall-requires
 recall-requires c κs = search needs
 
 returns : tie.Need-returns
-returns c = λ sets places rows tables x. let g = c .before .before .before .before .before .before .before .before .args .guide .now in looked-open _ _ _ _ _ _ _ _ _ _ _ x (sym (rw (c .before .before .before .before .before .before .budget-in .ensures) at (c .before .before .before .before .before .open-state .ensures (actionsIn g) (guidedValue rows g tables) (x .valued .within _ (omega (arith, x .shallow))))) ∙ c .before .before .before .enum-told4 .given .1)
+returns c = λ sets places rows tables x. let g = c .before .before .before .before .before .before .before .before .args .guide .now in looked-open x (sym (rw (c .before .before .before .before .before .before .budget-in .ensures) at (c .before .before .before .before .before .open-state .ensures (actionsIn g) (guidedValue rows g tables) (x .valued .within _ (omega (arith, x .shallow))))) ∙ c .before .before .before .enum-told4 .given .1)
 
 add-t19 : tie.Need-add-t19
 add-t19 c = omega (arith, c .before .before .before .before .before .recall .ensures (c .before .before .before .if1 .left) .1, c .before .before .before .before .before .before .before .before .before .budget-in .ensures, c .before .before .before .before .before .before .before .before .before .before .before .pre .0, c .before .before .before .before .before .before .before .before .before .before .before .pre .1)
 
 returns-2 : tie.Need-returns-2
-returns-2 c = λ sets places rows tables x. let h = c .before .before .before .before .before .recall .ensures (c .before .before .before .if1 .left) in looked-failed _ _ _ _ _ _ _ _ _ _ _ x _ _ _ (h .0) (omega (arith, h .1, c .before .before .before .before .before .before .before .before .before .budget-in .ensures)) (c .before .if2 .taken)
+returns-2 c = λ sets places rows tables x. let h = c .before .before .before .before .before .recall .ensures (c .before .before .before .if1 .left) in looked-failed x _ _ _ (h .0) (omega (arith, h .1, c .before .before .before .before .before .before .before .before .before .budget-in .ensures)) (c .before .if2 .taken)
 
 add-t17 : tie.Need-add-t17
 add-t17 c = omega (arith, c .before .before .before .before .before .recall .ensures (c .before .before .before .if1 .left) .1, c .before .before .before .before .before .before .before .before .before .budget-in .ensures, c .before .before .before .before .before .before .before .before .before .before .before .pre .0, c .before .before .before .before .before .before .before .before .before .before .before .pre .1)
 
 returns-3 : tie.Need-returns-3
-returns-3 c = λ sets places rows tables x. let g = c .before .before .before .before .before .args .guide .now in looked-spent _ _ _ _ _ _ _ _ _ _ _ x (sym (rw (c .before .before .before .budget-in .ensures) at (c .before .before .open-state .ensures (actionsIn g) (guidedValue rows g tables) (x .valued .within _ (omega (arith, x .shallow))))) ∙ c .enum-told .given .1)
+returns-3 c = λ sets places rows tables x. let g = c .before .before .before .before .before .args .guide .now in looked-spent x (sym (rw (c .before .before .before .budget-in .ensures) at (c .before .before .open-state .ensures (actionsIn g) (guidedValue rows g tables) (x .valued .within _ (omega (arith, x .shallow))))) ∙ c .enum-told .given .1)
 
 returns-4 : tie.Need-returns-4
-returns-4 c = λ sets places rows tables x. let g = c .before .before .before .before .before .args .guide .now in looked-cut _ _ _ _ _ _ _ _ _ _ _ x (sym (rw (c .before .before .before .budget-in .ensures) at (c .before .before .open-state .ensures (actionsIn g) (guidedValue rows g tables) (x .valued .within _ (omega (arith, x .shallow))))) ∙ c .enum-told2 .given .1)
+returns-4 c = λ sets places rows tables x. let g = c .before .before .before .before .before .args .guide .now in looked-cut x (sym (rw (c .before .before .before .budget-in .ensures) at (c .before .before .open-state .ensures (actionsIn g) (guidedValue rows g tables) (x .valued .within _ (omega (arith, x .shallow))))) ∙ c .enum-told2 .given .1)
 
 returns-5 : tie.Need-returns-5
-returns-5 c = λ sets places rows tables x. let g = c .before .before .before .before .before .args .guide .now in looked-arrived _ _ _ _ _ _ _ _ _ _ _ x (sym (rw (c .before .before .before .budget-in .ensures) at (c .before .before .open-state .ensures (actionsIn g) (guidedValue rows g tables) (x .valued .within _ (omega (arith, x .shallow))))) ∙ c .enum-told3 .given .1)
+returns-5 c = λ sets places rows tables x. let g = c .before .before .before .before .before .args .guide .now in looked-arrived x (sym (rw (c .before .before .before .budget-in .ensures) at (c .before .before .open-state .ensures (actionsIn g) (guidedValue rows g tables) (x .valued .within _ (omega (arith, x .shallow))))) ∙ c .enum-told3 .given .1)
 
 returns-6 : tie.Need-returns-6
-returns-6 c = λ sets places rows tables x. let h = c .before .before .before .before .before .recall .ensures (c .before .before .before .if1 .left) in looked-won _ _ _ _ _ _ _ _ _ _ _ x _ _ _ (h .0) (omega (arith, h .1, c .before .before .before .before .before .before .before .before .before .budget-in .ensures)) (c .before .if2 .left)
+returns-6 c = λ sets places rows tables x. let h = c .before .before .before .before .before .recall .ensures (c .before .before .before .if1 .left) in looked-won x _ _ _ (h .0) (omega (arith, h .1, c .before .before .before .before .before .before .before .before .before .budget-in .ensures)) (c .before .if2 .left)
 
 pub look-spec : {M : Type 1} → statement M
 look-spec =

@@ -39,8 +39,8 @@ returns c = let i = c .before .before .before .before .loop .inv in
 visit-of-requires : tie.Need-visit-of-requires Inv-loop μ-loop
 visit-of-requires c κs = search needs
 
-examine-requires : tie.Need-examine-requires Inv-loop μ-loop
-examine-requires c κs = let p = c .before .before .before .before .before .before .before .before .before .before .pre in let i = c .before .before .before .before .before .before .loop .inv in let e = c .before .visit-of .ensures in
+examine-any-requires : tie.Need-examine-any-requires Inv-loop μ-loop
+examine-any-requires c κs = let p = c .before .before .before .before .before .before .before .before .before .before .pre in let i = c .before .before .before .before .before .before .loop .inv in let e = c .before .visit-of .ensures in
     rw (e .0, e .1, e .2, e .3) (record { guided = p .guided; remembers = i .2; within = i .1; shallow = omega (arith, c .before .before .before .before .before .loop-test .taken, c .before .before .before .before .before .before .before .limit-in .ensures, p .startable .limited); valued = p .startable .valued })
 
 enum-known-e : tie.Need-enum-known-e Inv-loop μ-loop
@@ -51,7 +51,7 @@ same-length-2 c = search needs
 
 returns-2 : tie.Need-returns-2 Inv-loop μ-loop
 unfolding Concludes
-returns-2 c = let i = c .before .before .before .before .before .before .before .before .before .before .before .before .loop .inv in let e = c .before .before .before .before .before .before .before .visit-of .ensures in let h = rw (c .before .e .given .1, e .0, e .2, e .3) at (c .before .before .before .before .before .examine .ensures) in
+returns-2 c = let i = c .before .before .before .before .before .before .before .before .before .before .before .before .loop .inv in let e = c .before .before .before .before .before .before .before .visit-of .ensures in let h = rw (c .before .e .given .1, e .0, e .2, e .3) at (c .before .before .before .before .before .examine-any .ensures) in
     (round-stops _ _ _ _ _ _ _ _ (i .0) (rw (c .before .before .before .before .before .before .before .before .before .before .before .before .before .limit-in .ensures) at (c .before .before .before .before .before .before .before .before .before .before .before .loop-test .taken)) _ (told-stop _ _ h .0), h .remembers)
 
 enum-known-e-2 : tie.Need-enum-known-e-2 Inv-loop μ-loop
@@ -65,7 +65,7 @@ same-length-3 c = search needs
 
 returns-3 : tie.Need-returns-3 Inv-loop μ-loop
 unfolding Concludes
-returns-3 c = let i = c .before .before .before .before .before .before .before .before .before .before .before .before .loop .inv in let e = c .before .before .before .before .before .before .before .visit-of .ensures in let h = rw (c .before .e3 .given .1, e .0, e .2, e .3) at (c .before .before .before .before .before .examine .ensures) in
+returns-3 c = let i = c .before .before .before .before .before .before .before .before .before .before .before .before .loop .inv in let e = c .before .before .before .before .before .before .before .visit-of .ensures in let h = rw (c .before .e3 .given .1, e .0, e .2, e .3) at (c .before .before .before .before .before .examine-any .ensures) in
     (round-found _ _ _ _ _ _ _ _ (i .0) (rw (c .before .before .before .before .before .before .before .before .before .before .before .before .before .limit-in .ensures) at (c .before .before .before .before .before .before .before .before .before .before .before .loop-test .taken)) (c .before .before .before .before .before .before .before .before .before .before .before .before .before .before .before .before .pre .guided .ready .small-budget) _ _ _ (told-success _ _ _ _ h), h .remembers)
 
 add-d : tie.Need-add-d Inv-loop μ-loop
@@ -75,8 +75,8 @@ loop-less : tie.Need-loop-less Inv-loop μ-loop
 loop-less c = omega (arith, c .before .before .before .before .before .before .before .before .before .before .before .loop-test .taken)
 
 loop-again : tie.Need-loop-again Inv-loop μ-loop
-loop-again c = let i = c .before .before .before .before .before .before .before .before .before .before .before .before .loop .inv in let e = c .before .before .before .before .before .before .before .visit-of .ensures in let h = rw (c .before .e2 .given .1, e .0, e .2, e .3) at (c .before .before .before .before .before .examine .ensures) in let q = told-failure _ _ h in
-    (round-fails _ _ _ _ _ _ _ _ (i .0) (rw (c .before .before .before .before .before .before .before .before .before .before .before .before .before .limit-in .ensures) at (c .before .before .before .before .before .before .before .before .before .before .before .loop-test .taken)) _ (q .0), q .2, h .remembers, c .before .before .before .before .before .examine .kept .1 .1 .1 .1 .1 .1 .0 ∙ i .3)
+loop-again c = let i = c .before .before .before .before .before .before .before .before .before .before .before .before .loop .inv in let e = c .before .before .before .before .before .before .before .visit-of .ensures in let h = rw (c .before .e2 .given .1, e .0, e .2, e .3) at (c .before .before .before .before .before .examine-any .ensures) in let q = told-failure _ _ h in
+    (round-fails _ _ _ _ _ _ _ _ (i .0) (rw (c .before .before .before .before .before .before .before .before .before .before .before .before .before .limit-in .ensures) at (c .before .before .before .before .before .before .before .before .before .before .before .loop-test .taken)) _ (q .0), q .2, h .remembers, c .before .before .before .before .before .examine-any .kept .1 .1 .1 .1 .1 .1 .0 ∙ i .3)
 
 same-length-4 : tie.Need-same-length-4 Inv-loop μ-loop
 same-length-4 c = search needs
@@ -97,7 +97,7 @@ deepen-spec =
     same-length
     returns
     visit-of-requires
-    examine-requires
+    examine-any-requires
     enum-known-e
     same-length-2
     returns-2

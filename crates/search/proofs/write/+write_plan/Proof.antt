@@ -1,48 +1,33 @@
 -- `search::write::write_plan` meets its contract. Invariant of the loop: the outcomes left succeed, and their bytes after those written make the
--- whole plan (`Writing`); what is known of plans that stand in the buffer is right. The depth falls. Assumes nothing.
+-- whole plan (`Underway`); what is known of plans that stand in the buffer is right. The depth falls. Assumes nothing.
+use Prim.Native.Nat.{ℕ, _-_, _<_}
 use borrow.Fn.Kinds.{In}
 use borrow.Fn.PlainCycle.{Measures, is, falls, and}
 use Rattle.search.proofs.write.write_plan.Reads as write-plan
 use Rattle.search.proofs.write.write_plan.Kinds as write-plan-kinds
 use Rattle.search.proofs.write.+write_plan.Lts-write_plan as write-plan-lts
 use Rattle.search.proofs.buffer.put.Reads as put-reads
-use Rattle.search.proofs.carried.rest_of.Reads as rest-of-reads
-use Rattle.search.proofs.carried.sum_with.Reads as sum-with-reads
 use Rattle.search.proofs.compiled.left_after.Reads as left-after-reads
 use Rattle.search.proofs.compiled.outcome_count.Reads as outcome-count-reads
 use Rattle.search.proofs.compiled.successor.Reads as successor-reads
-use Rattle.search.proofs.examine.examine.Reads as examine-reads
 use Rattle.search.proofs.examine.place_of.Reads as place-of-reads
-use Rattle.search.proofs.examine.visit_of.Reads as visit-of-reads
 use Rattle.search.proofs.write.action_of.Reads as action-of-reads
 use Rattle.search.proofs.write.byte_of.Reads as byte-of-reads
+use Rattle.search.proofs.write.start_of.Reads as start-of-reads
 use Rattle.search.proofs.written.copy.Reads as copy-reads
 use Rattle.search.proofs.written.find_passage.Reads as find-passage-reads
 use Rattle.search.proofs.written.note_passage.Reads as note-passage-reads
 use Rattle.search.proofs.write.+write_plan.{statement}
 use Rattle.search.proofs.write.+write_plan.Tie.{close}
-use Prim.Native.Nat.{ℕ, _-_, _<_, _≤_}
 use mathlib.Core.Path.{_≡_, refl, _∙_}
 use native.Mathlib.Omega.{arith}
 use borrow.Author.Needs.{needs}
-use lib.Bits.{bitAnd, bitOr}
 use lib.ListN.{length}
-use Rattle.planning.specs.Finite.{tabulate}
-use Rattle.planning.specs.Plan.{Plan}
-use Rattle.planning.specs.Search.{succeeded}
-use Rattle.tables.specs.Packed.{keepMask, setValue}
-use Rattle.search.specs.Examination.{planSize}
-use Rattle.search.specs.Guide.{budgetIn}
-use Rattle.search.specs.Memory.{Remembers}
-use Rattle.search.specs.Packed.{guidedExamination}
-use Rattle.search.specs.Written.{Stands}
-use Rattle.search.proofs.Carrying.{carried}
-use Rattle.search.proofs.Endings.{told-success, told-failure, told-stop}
-use Rattle.search.proofs.Standing.{same-plan, stands-stored, stands-before, stands-sized, copy-written}
-use Rattle.search.proofs.Writing.{stop-no-success, failure-no-success, acts, head-small, arrived-written, Writing, writing-begins, writing-next, next-fits, writing-goes-on, writing-ends, written-noted, written-same}
+use Rattle.search.proofs.Standing.{stands-before, stands-sized, copy-written}
+use Rattle.search.proofs.Writing.{first-small, acts, arrived-written, Underway, underway-begins, next-writable, underway-goes-on, underway-near, underway-ends}
 
 abbrev μ-write-plan : Measures 9 write-plan-kinds.ps ℕ
-μ-write-plan κs a = a .1 .1 .1 .1 .1 .1 .1 .1 .1 .0 .d
+μ-write-plan κs a = a .1 .1 .1 .1 .1 .1 .1 .1 .1 .1 .0
 
 abbrev write-plan-at : ℕ → In 9 write-plan-kinds.ps
 write-plan-at t =
@@ -53,107 +38,64 @@ write-plan-below t =
     and 9 write-plan-kinds.ps (falls 9 write-plan-kinds.ps _<_ μ-write-plan t) write-plan.Pre
 
 abbrev write-plan-calls : ℕ → write-plan-lts.Claims
-write-plan-calls t = (find-passage-reads.Asked, find-passage-reads.Learnt, copy-reads.Asked, copy-reads.Learnt, examine-reads.Asked, examine-reads.Learnt, byte-of-reads.Asked, byte-of-reads.Learnt, put-reads.Asked, put-reads.Learnt, action-of-reads.Asked, action-of-reads.Learnt, left-after-reads.Asked, left-after-reads.Learnt, rest-of-reads.Asked, rest-of-reads.Learnt, outcome-count-reads.Asked, outcome-count-reads.Learnt, place-of-reads.Asked, place-of-reads.Learnt, successor-reads.Asked, successor-reads.Learnt, sum-with-reads.Asked, sum-with-reads.Learnt, visit-of-reads.Asked, visit-of-reads.Learnt, write-plan-below t, write-plan.Post, note-passage-reads.Asked, note-passage-reads.Learnt)
+write-plan-calls t = (find-passage-reads.Asked, find-passage-reads.Learnt, copy-reads.Asked, copy-reads.Learnt, start-of-reads.Asked, start-of-reads.Learnt, byte-of-reads.Asked, byte-of-reads.Learnt, put-reads.Asked, put-reads.Learnt, action-of-reads.Asked, action-of-reads.Learnt, left-after-reads.Asked, left-after-reads.Learnt, outcome-count-reads.Asked, outcome-count-reads.Learnt, place-of-reads.Asked, place-of-reads.Learnt, successor-reads.Asked, successor-reads.Learnt, write-plan-below t, write-plan.Post, note-passage-reads.Asked, note-passage-reads.Learnt)
 
 abbrev write-plan-Inv-loop : write-plan-lts.InvT-loop
-write-plan-Inv-loop task sets places rows guide tables memory₀ written₀ plan₀ v at e n b m left rest end₀ k₀ k-end memory written plan end k = ((p : Plan) × (z : ℕ) × (guidedExamination task rows guide tables (v .d) (v .s) (v .count) ≡ succeeded p z) × (planSize p ≡ n) × Writing (guidedExamination task rows guide tables left) (budgetIn guide) (tabulate (λ j. bitOr (bitAnd (v .s) (keepMask task m j)) (setValue task m j)) k (k-end - k)) p at end plan₀ plan) × (k ≤ k-end) × Remembers (guidedExamination task rows guide tables) (budgetIn guide) memory × Stands (guidedExamination task rows guide tables) written plan end × (length memory ≡ length memory₀) × (length written ≡ length written₀)
+write-plan-Inv-loop task sets places rows guide tables memory₀ written₀ plan₀ s d at start end₀ m left k₀ k-end memory written plan end k = Underway task rows guide tables s d m left k-end k at end (start .size) memory written plan₀ plan × (length memory ≡ length memory₀) × (length written ≡ length written₀)
 
 abbrev write-plan-μ-loop : write-plan-lts.MeasureT-loop
-write-plan-μ-loop task sets places rows guide tables memory₀ written₀ plan₀ v at e n b m left rest end₀ k₀ k-end memory written plan end k = k-end - k
+write-plan-μ-loop task sets places rows guide tables memory₀ written₀ plan₀ s d at start end₀ m left k₀ k-end memory written plan end k = k-end - k
 
 write-plan-find-passage-requires : (t : ℕ) → write-plan-lts.Need-find-passage-requires (write-plan-calls t) (write-plan-at t) write-plan.Post write-plan-Inv-loop write-plan-μ-loop
 write-plan-find-passage-requires t c κs = c .before .before .before .before .before .pre .1 .stands .long
 
 write-plan-copy-requires : (t : ℕ) → write-plan-lts.Need-copy-requires (write-plan-calls t) (write-plan-at t) write-plan.Post write-plan-Inv-loop write-plan-μ-loop
-write-plan-copy-requires t c κs = let w = c .before .before .before .before .before .before .before .before .before .pre .1 in let h = c .before .before .before .find-passage .ensures (c .before .if1 .taken) in let e = rw (w .fresh) at (w .succeeds) in
-    (stands-before _ (w .stands) _ _ _ _ _ _ _ (h .1) e, omega (arith, stands-sized _ (w .stands) _ _ _ _ _ _ _ (h .1) e, w .fits))
+write-plan-copy-requires t c κs = let w = c .before .before .before .before .before .before .before .before .before .pre .1 in let h = c .before .before .before .find-passage .ensures (c .before .if1 .taken) in (stands-before _ (w .stands) _ _ _ _ _ _ _ (h .1) (w .succeeding .is), omega (arith, stands-sized _ (w .stands) _ _ _ _ _ _ _ (h .1) (w .succeeding .is), w .fits))
 
 write-plan-add-result : (t : ℕ) → write-plan-lts.Need-add-result (write-plan-calls t) (write-plan-at t) write-plan.Post write-plan-Inv-loop write-plan-μ-loop
-write-plan-add-result t c = let w = c .before .before .before .before .before .before .before .before .before .before .before .before .before .pre .1 in let h = c .before .before .before .before .before .before .before .find-passage .ensures (c .before .before .before .before .before .if1 .taken) in let e = rw (w .fresh) at (w .succeeds) in omega (arith, stands-sized _ (w .stands) _ _ _ _ _ _ _ (h .1) e, w .near)
+write-plan-add-result t c = let w = c .before .before .before .before .before .before .before .before .before .before .before .before .before .pre .1 in let h = c .before .before .before .before .before .before .before .find-passage .ensures (c .before .before .before .before .before .if1 .taken) in omega (arith, stands-sized _ (w .stands) _ _ _ _ _ _ _ (h .1) (w .succeeding .is), w .near)
 
 write-plan-returns : (t : ℕ) → write-plan-lts.Need-returns (write-plan-calls t) (write-plan-at t) write-plan.Post write-plan-Inv-loop write-plan-μ-loop
-write-plan-returns t c = let w = c .before .before .before .before .before .before .before .before .before .before .before .before .before .pre .1 in let h = c .before .before .before .before .before .before .before .find-passage .ensures (c .before .before .before .before .before .if1 .taken) in λ p k f. copy-written _ (w .stands) _ _ _ _ _ _ p (h .1) (rw (w .fresh) at f) _ _ _ (w .examinable .remembers) (c .before .before .before .copy .ensures) (c .before .before .before .copy .kept .0)
+write-plan-returns t c = let w = c .before .before .before .before .before .before .before .before .before .before .before .before .before .pre .1 in let h = c .before .before .before .before .before .before .before .find-passage .ensures (c .before .before .before .before .before .if1 .taken) in λ p k f. copy-written _ (w .stands) _ _ _ _ _ _ p (h .1) f _ _ _ (w .succeeding .remembers) (c .before .before .before .copy .ensures) (c .before .before .before .copy .kept .0)
 
-write-plan-examine-requires : (t : ℕ) → write-plan-lts.Need-examine-requires (write-plan-calls t) (write-plan-at t) write-plan.Post write-plan-Inv-loop write-plan-μ-loop
-write-plan-examine-requires t c κs = c .before .before .before .before .before .before .before .before .before .pre .1 .examinable
+write-plan-start-of-requires : (t : ℕ) → write-plan-lts.Need-start-of-requires (write-plan-calls t) (write-plan-at t) write-plan.Post write-plan-Inv-loop write-plan-μ-loop
+write-plan-start-of-requires t c κs = c .before .before .before .before .before .before .before .before .before .pre .1 .succeeding
 
 write-plan-byte-of-requires : (t : ℕ) → write-plan-lts.Need-byte-of-requires (write-plan-calls t) (write-plan-at t) write-plan.Post write-plan-Inv-loop write-plan-μ-loop
-write-plan-byte-of-requires t c κs = let x = c .before .before .before .before .before .before .before .before .before .before .before .before .before .before .before .before .pre .1 .examinable in let q = told-success _ _ _ _ (rw (c .before .before .e3 .given .1) at (c .before .before .before .before .before .before .examine .ensures)) in head-small _ _ _ _ _ _ _ _ _ _ _ x (q .found) _ _ (q .is) (q .budgeted) (q .headed)
-
-write-plan-add-result-2 : (t : ℕ) → write-plan-lts.Need-add-result-2 (write-plan-calls t) (write-plan-at t) write-plan.Post write-plan-Inv-loop write-plan-μ-loop
-write-plan-add-result-2 t c = omega (arith, c .before .before .before .before .before .before .before .before .before .before .before .before .before .before .before .before .before .before .before .before .before .pre .1 .near)
-
-write-plan-returns-2 : (t : ℕ) → write-plan-lts.Need-returns-2 (write-plan-calls t) (write-plan-at t) write-plan.Post write-plan-Inv-loop write-plan-μ-loop
-write-plan-returns-2 t c = let w = c .before .before .before .before .before .before .before .before .before .before .before .before .before .before .before .before .before .before .before .before .before .pre .1 in let x = w .examinable in let h = rw (c .before .before .before .before .before .before .before .e3 .given .1) at (c .before .before .before .before .before .before .before .before .before .before .before .examine .ensures) in let q = told-success _ _ _ _ h in
-    λ p k f. written-same (same-plan (q .is) f) (arrived-written _ _ _ _ _ _ _ _ _ _ _ x (q .found) _ _ _ _ _ _ _ _ (q .is) (q .budgeted) (q .headed) (c .if2 .taken) (c .before .before .before .put .ensures) (c .before .before .before .before .byte-of .ensures) (h .remembers) (w .stands))
-
-write-plan-left-after-requires : (t : ℕ) → write-plan-lts.Need-left-after-requires (write-plan-calls t) (write-plan-at t) write-plan.Post write-plan-Inv-loop write-plan-μ-loop
-write-plan-left-after-requires t c κs = let x = c .before .before .before .before .before .before .before .before .before .before .before .before .before .before .before .before .before .before .before .before .before .before .pre .1 .examinable in let q = told-success _ _ _ _ (rw (c .before .before .before .before .before .before .before .before .e3 .given .1) at (c .before .before .before .before .before .before .before .before .before .before .before .before .examine .ensures)) in let a = acts _ _ _ _ _ _ _ _ _ _ _ x (q .found) _ _ _ (q .is) (q .budgeted) (q .headed) (c .action-of .ensures) (c .before .if2 .left) in
-    (omega (arith, a .within, x .guided .ready .few-actions), a .light)
-
-write-plan-rest-of-requires : (t : ℕ) → write-plan-lts.Need-rest-of-requires (write-plan-calls t) (write-plan-at t) write-plan.Post write-plan-Inv-loop write-plan-μ-loop
-write-plan-rest-of-requires t c κs = let x = c .before .before .before .before .before .before .before .before .before .before .before .before .before .before .before .before .before .before .before .before .before .before .before .pre .1 .examinable in let g = x .guided in let q = told-success _ _ _ _ (rw (c .before .before .before .before .before .before .before .before .before .e3 .given .1) at (c .before .before .before .before .before .before .before .before .before .before .before .before .before .examine .ensures)) in let a = acts _ _ _ _ _ _ _ _ _ _ _ x (q .found) _ _ _ (q .is) (q .budgeted) (q .headed) (c .before .action-of .ensures) (c .before .before .if2 .left) in
-    (g .placed, g .ready .few-patterns, g .ready .few-variables, omega (arith, a .within, g .ready .few-actions), x .valued .exact (omega (arith, a .small)))
+write-plan-byte-of-requires t c κs = first-small (c .before .before .before .before .before .before .before .before .before .before .before .before .before .pre .1 .succeeding) (c .before .before .before .start-of .ensures)
 
 write-plan-add-end : (t : ℕ) → write-plan-lts.Need-add-end (write-plan-calls t) (write-plan-at t) write-plan.Post write-plan-Inv-loop write-plan-μ-loop
-write-plan-add-end t c = omega (arith, c .before .before .before .before .before .before .before .before .before .before .before .before .before .before .before .before .before .before .before .before .before .before .before .before .pre .1 .near)
+write-plan-add-end t c = omega (arith, c .before .before .before .before .before .before .before .before .before .before .before .before .before .before .before .before .before .pre .1 .near)
+
+write-plan-returns-2 : (t : ℕ) → write-plan-lts.Need-returns-2 (write-plan-calls t) (write-plan-at t) write-plan.Post write-plan-Inv-loop write-plan-μ-loop
+write-plan-returns-2 t c = arrived-written (c .before .before .before .before .before .before .before .before .before .before .before .before .before .before .before .before .before .before .before .pre .1 .succeeding) (c .before .before .before .before .before .before .before .before .before .start-of .ensures) (c .if2 .taken) (c .before .before .before .before .put .ensures) (c .before .before .before .before .before .byte-of .ensures) (c .before .before .before .before .before .before .before .before .before .before .before .before .before .before .before .before .before .before .before .pre .1 .stands)
+
+write-plan-left-after-requires : (t : ℕ) → write-plan-lts.Need-left-after-requires (write-plan-calls t) (write-plan-at t) write-plan.Post write-plan-Inv-loop write-plan-μ-loop
+write-plan-left-after-requires t c κs = let x = c .before .before .before .before .before .before .before .before .before .before .before .before .before .before .before .before .before .before .before .before .pre .1 .succeeding in let a = acts x (c .before .before .before .before .before .before .before .before .before .before .start-of .ensures) (c .action-of .ensures) (c .before .if2 .left) in (omega (arith, a .within, x .guided .ready .few-actions), a .light)
 
 write-plan-outcome-count-requires : (t : ℕ) → write-plan-lts.Need-outcome-count-requires (write-plan-calls t) (write-plan-at t) write-plan.Post write-plan-Inv-loop write-plan-μ-loop
-write-plan-outcome-count-requires t c κs = let x = c .before .before .before .before .before .before .before .before .before .before .before .before .before .before .before .before .before .before .before .before .before .before .before .before .pre .1 .examinable in let q = told-success _ _ _ _ (rw (c .before .before .before .before .before .before .before .before .before .before .e3 .given .1) at (c .before .before .before .before .before .before .before .before .before .before .before .before .before .before .examine .ensures)) in let a = acts _ _ _ _ _ _ _ _ _ _ _ x (q .found) _ _ _ (q .is) (q .budgeted) (q .headed) (c .before .before .action-of .ensures) (c .before .before .before .if2 .left) in omega (arith, a .within, x .guided .ready .few-actions)
+write-plan-outcome-count-requires t c κs = let x = c .before .before .before .before .before .before .before .before .before .before .before .before .before .before .before .before .before .before .before .before .before .pre .1 .succeeding in let a = acts x (c .before .before .before .before .before .before .before .before .before .before .before .start-of .ensures) (c .before .action-of .ensures) (c .before .before .if2 .left) in omega (arith, a .within, x .guided .ready .few-actions)
 
 write-plan-loop-holds : (t : ℕ) → write-plan-lts.Need-loop-holds (write-plan-calls t) (write-plan-at t) write-plan.Post write-plan-Inv-loop write-plan-μ-loop
-write-plan-loop-holds t c = let w = c .before .before .before .before .before .before .before .before .before .before .before .before .before .before .before .before .before .before .before .before .before .before .before .before .before .before .pre .1 in let x = w .examinable in let h = rw (c .before .before .before .before .before .before .before .before .before .before .before .before .e3 .given .1) at (c .before .before .before .before .before .before .before .before .before .before .before .before .before .before .before .before .examine .ensures) in let q = told-success _ _ _ _ h in let a = acts _ _ _ _ _ _ _ _ _ _ _ x (q .found) _ _ _ (q .is) (q .budgeted) (q .headed) (c .before .before .before .before .action-of .ensures) (c .before .before .before .before .before .if2 .left) in
-    let s = same-plan (q .is) (w .succeeds) in
-    ((q .found, _, q .is, q .sized, writing-begins _ _ _ _ _ _ _ _ _ _ _ _ _ (q .found) (c .before .before .before .before .before .before .before .before .before .before .before .before .before .before .before .before .before .before .before .before .before .before .before .before .before .before .args .plan .now) _ a (rw (← s) at (w .near)) (rw (← s) at (w .fits)) (c .before .before .before .before .action-of .ensures) (c .before .before .before .left-after .ensures) (c .place-of .ensures ∙ c .before .outcome-count .ensures) (c .before .before .before .before .before .before .before .before .put .ensures) (c .before .before .before .before .before .before .before .before .before .byte-of .ensures)), omega arith, h .remembers, stands-stored _ (w .stands) _ _ (c .before .before .before .before .before .before .before .before .put .ensures), refl, refl)
+write-plan-loop-holds t c = (underway-begins (c .before .before .before .before .before .before .before .before .before .before .before .before .before .before .before .before .before .before .before .before .before .before .before .pre .1) (c .before .before .before .before .before .before .before .before .before .before .before .before .before .start-of .ensures) (c .before .before .before .action-of .ensures) (c .before .before .before .before .if2 .left) (c .before .before .left-after .ensures) (c .place-of .ensures ∙ c .before .outcome-count .ensures) (c .before .before .before .before .before .before .before .before .put .ensures) (c .before .before .before .before .before .before .before .before .before .byte-of .ensures), refl, refl)
 
 write-plan-successor-requires : (t : ℕ) → write-plan-lts.Need-successor-requires (write-plan-calls t) (write-plan-at t) write-plan.Post write-plan-Inv-loop write-plan-μ-loop
-write-plan-successor-requires t c κs = let x = c .before .before .before .before .before .before .before .before .before .before .before .before .before .before .before .before .before .before .before .before .before .before .before .before .before .before .before .before .pre .1 .examinable in let q = told-success _ _ _ _ (rw (c .before .before .before .before .before .before .before .before .before .before .before .before .before .before .e3 .given .1) at (c .before .before .before .before .before .before .before .before .before .before .before .before .before .before .before .before .before .before .examine .ensures)) in let a = acts _ _ _ _ _ _ _ _ _ _ _ x (q .found) _ _ _ (q .is) (q .budgeted) (q .headed) (c .before .before .before .before .before .before .action-of .ensures) (c .before .before .before .before .before .before .before .if2 .left) in let n = x .guided .ready .few-outcomes _ (a .within) in
+write-plan-successor-requires t c κs = let x = c .before .before .before .before .before .before .before .before .before .before .before .before .before .before .before .before .before .before .before .before .before .before .before .before .before .pre .1 .succeeding in let a = acts x (c .before .before .before .before .before .before .before .before .before .before .before .before .before .before .before .start-of .ensures) (c .before .before .before .before .before .action-of .ensures) (c .before .before .before .before .before .before .if2 .left) in let n = x .guided .ready .few-outcomes _ (a .within) in
     (omega (arith, a .within, x .guided .ready .few-actions), omega (arith, n, c .loop-test .taken, c .before .before .place-of .ensures, c .before .before .before .outcome-count .ensures))
 
-write-plan-sum-with-requires : (t : ℕ) → write-plan-lts.Need-sum-with-requires (write-plan-calls t) (write-plan-at t) write-plan.Post write-plan-Inv-loop write-plan-μ-loop
-write-plan-sum-with-requires t c κs = let x = c .before .before .before .before .before .before .before .before .before .before .before .before .before .before .before .before .before .before .before .before .before .before .before .before .before .before .before .before .before .pre .1 .examinable in let g = x .guided in let q = told-success _ _ _ _ (rw (c .before .before .before .before .before .before .before .before .before .before .before .before .before .before .before .e3 .given .1) at (c .before .before .before .before .before .before .before .before .before .before .before .before .before .before .before .before .before .before .before .examine .ensures)) in let a = acts _ _ _ _ _ _ _ _ _ _ _ x (q .found) _ _ _ (q .is) (q .budgeted) (q .headed) (c .before .before .before .before .before .before .before .action-of .ensures) (c .before .before .before .before .before .before .before .before .if2 .left) in
-    (g .placed, g .ready .few-patterns, g .ready .few-variables, omega (arith, a .within, g .ready .few-actions), omega (arith, c .before .before .before .before .before .rest-of .ensures .1, a .small))
-
 write-plan-write-plan-requires : (t : ℕ) → write-plan-lts.Need-write-plan-requires (write-plan-calls t) (write-plan-at t) write-plan.Post write-plan-Inv-loop write-plan-μ-loop
-write-plan-write-plan-requires t c κs = let x = c .before .before .before .before .before .before .before .before .before .before .before .before .before .before .before .before .before .before .before .before .before .before .before .before .before .before .before .before .before .before .before .before .before .before .pre .1 .examinable in let q = told-success _ _ _ _ (rw (c .before .before .before .before .before .before .before .before .before .before .before .before .before .before .before .before .before .before .before .before .e3 .given .1) at (c .before .before .before .before .before .before .before .before .before .before .before .before .before .before .before .before .before .before .before .before .before .before .before .before .examine .ensures)) in let a = acts _ _ _ _ _ _ _ _ _ _ _ x (q .found) _ _ _ (q .is) (q .budgeted) (q .headed) (c .before .before .before .before .before .before .before .before .before .before .before .before .action-of .ensures) (c .before .before .before .before .before .before .before .before .before .before .before .before .before .if2 .left) in
-    let i = c .before .before .before .before .before .before .before .loop .inv in let e = c .before .before .before .visit-of .ensures in let f = c .before .before .before .before .before .before .before .before .before .before .before .left-after .ensures in let w = writing-next _ _ _ _ _ _ _ _ _ _ _ _ _ (c .before .before .before .before .before .before .loop-test .taken) (c .before .before .before .before .before .successor .ensures) (i .0 .4) in let r = next-fits _ _ _ _ _ _ _ _ _ _ _ _ _ (c .before .before .before .before .before .before .loop-test .taken) (c .before .before .before .before .before .successor .ensures) (i .0 .4) in (
-      omega (arith, e .2, f, x .guided .ready .weights (c .before .before .before .before .before .before .before .before .before .before .before .before .action-of .result) (a .within), a .light, c .before .before .before .before .before .before .before .before .before .before .before .before .before .before .before .before .before .before .before .before .before .before .before .before .before .before .before .before .before .before .before .before .before .before .pre .0),
-      rw (e .0, e .1, e .2, e .3) (
-          record {
-            examinable = record {
-              guided = x .guided;
-              remembers = i .2;
-              within = omega arith;
-              shallow = omega (arith, x .shallow, f);
-              valued = carried _ _ _ _ _ _ _ _ (x .guided .owned) _ _ _ _ _ (a .within) (omega (arith, c .before .before .before .before .before .before .loop-test .taken, c .before .before .before .before .before .before .before .before .place-of .ensures, c .before .before .before .before .before .before .before .before .before .outcome-count .ensures)) (c .before .before .before .before .before .successor .ensures) refl _ _ _ (x .valued .exact (omega (arith, a .small))) (c .before .before .before .before .before .before .before .before .before .before .rest-of .ensures .0) (c .before .before .before .before .sum-with .ensures);
-            };
-            fresh = refl;
-            found = w .plan;
-            made = w .made;
-            succeeds = w .succeeds;
-            fits = omega (arith, r, i .0 .4 .fits);
-            near = omega (arith, r, i .0 .4 .near);
-            stands = i .3;
-          }
-          ),
-    )
+write-plan-write-plan-requires t c κs = let x = c .before .before .before .before .before .before .before .before .before .before .before .before .before .before .before .before .before .before .before .before .before .before .before .before .before .before .before .before .before .pre .1 .succeeding in let a = acts x (c .before .before .before .before .before .before .before .before .before .before .before .before .before .before .before .before .before .before .before .start-of .ensures) (c .before .before .before .before .before .before .before .before .before .action-of .ensures) (c .before .before .before .before .before .before .before .before .before .before .if2 .left) in let f = c .before .before .before .before .before .before .before .before .left-after .ensures in
+    (omega (arith, f, x .guided .ready .weights (c .before .before .before .before .before .before .before .before .before .action-of .result) (a .within), a .light, c .before .before .before .before .before .before .before .before .before .before .before .before .before .before .before .before .before .before .before .before .before .before .before .before .before .before .before .before .before .pre .0), next-writable (c .before .before .before .before .before .loop .inv .0) (c .before .before .before .before .loop-test .taken) (c .before .before .before .successor .ensures) (x .guided) (omega (arith, x .shallow, f)))
 
 write-plan-loop-again : (t : ℕ) → write-plan-lts.Need-loop-again (write-plan-calls t) (write-plan-at t) write-plan.Post write-plan-Inv-loop write-plan-μ-loop
-write-plan-loop-again t c = let i = c .before .before .before .before .before .before .before .before .before .before .before .before .before .before .loop .inv in let e = c .before .before .before .before .before .before .before .before .before .before .visit-of .ensures in let w = writing-next _ _ _ _ _ _ _ _ _ _ _ _ _ (c .before .before .before .before .before .before .before .before .before .before .before .before .before .loop-test .taken) (c .before .before .before .before .before .before .before .before .before .before .before .before .successor .ensures) (i .0 .4) in
-    let h = rw (e .0, e .2, e .3) at (c .before .before .before .before .before .before .write-plan .ensures) (w .plan) (w .made) (w .succeeds) in let y = c .before .before .before .before .before .before .write-plan .kept in
-    ((i .0 .0, i .0 .1, i .0 .2, i .0 .3, writing-goes-on _ _ _ _ _ _ _ _ _ _ _ _ _ (c .before .before .before .before .before .before .before .before .before .before .before .before .before .loop-test .taken) (c .before .before .before .before .before .before .before .before .before .before .before .before .successor .ensures) (i .0 .4) _ _ _ _ _ _ (y .1 .1 .1 .1 .1 .1 .1 .1 .0) h), omega (arith, c .before .before .before .before .before .before .before .before .before .before .before .before .before .loop-test .taken), h .remembers, h .stands, y .1 .1 .1 .1 .1 .1 .0 ∙ i .4, y .1 .1 .1 .1 .1 .1 .1 .0 ∙ i .5)
+write-plan-loop-again t c = let i = c .before .before .before .before .before .before .before .before .before .before .before .before .loop .inv in let y = c .before .before .before .before .before .before .write-plan .kept in
+    (underway-goes-on (i .0) (c .before .before .before .before .before .before .before .before .before .before .before .loop-test .taken) (c .before .before .before .before .before .before .before .before .before .before .successor .ensures) (y .1 .1 .1 .1 .1 .1 .1 .1 .0) (c .before .before .before .before .before .before .write-plan .ensures), y .1 .1 .1 .1 .1 .1 .0 ∙ i .1, y .1 .1 .1 .1 .1 .1 .1 .0 ∙ i .2)
 
 write-plan-note-passage-requires : (t : ℕ) → write-plan-lts.Need-note-passage-requires (write-plan-calls t) (write-plan-at t) write-plan.Post write-plan-Inv-loop write-plan-μ-loop
-write-plan-note-passage-requires t c κs = let i = c .before .before .loop .inv in (i .3 .long, c .before .before .before .before .before .before .before .before .before .before .before .before .before .before .before .before .before .before .before .before .before .before .before .before .before .before .before .before .before .pre .1 .examinable .shallow, omega (arith, i .0 .3, i .0 .4 .near))
+write-plan-note-passage-requires t c κs = let i = c .before .before .loop .inv .0 in (i .stands .long, c .before .before .before .before .before .before .before .before .before .before .before .before .before .before .before .before .before .before .before .before .before .before .before .before .before .before .pre .1 .succeeding .shallow, underway-near i)
 
 write-plan-returns-3 : (t : ℕ) → write-plan-lts.Need-returns-3 (write-plan-calls t) (write-plan-at t) write-plan.Post write-plan-Inv-loop write-plan-μ-loop
-write-plan-returns-3 t c = λ p k f. absurd (stop-no-success (told-stop _ _ (rw (c .before .e .given .1) at (c .before .before .before .before .before .examine .ensures)) .0) f)
-
-write-plan-returns-4 : (t : ℕ) → write-plan-lts.Need-returns-4 (write-plan-calls t) (write-plan-at t) write-plan.Post write-plan-Inv-loop write-plan-μ-loop
-write-plan-returns-4 t c = λ p k f. absurd (failure-no-success (told-failure _ _ (rw (c .before .e2 .given .1) at (c .before .before .before .before .before .examine .ensures)) .0) f)
-
-write-plan-returns-5 : (t : ℕ) → write-plan-lts.Need-returns-5 (write-plan-calls t) (write-plan-at t) write-plan.Post write-plan-Inv-loop write-plan-μ-loop
-write-plan-returns-5 t c = let i = c .before .before .before .before .before .loop .inv in λ p k f. written-same (same-plan (i .0 .2) f) (written-noted _ _ _ _ _ _ (writing-ends _ _ _ _ _ (c .before .before .before .before .loop-test .left) (i .0 .4) (c .before .before .before .before .before .before .before .before .before .before .before .before .before .before .put .ensures) (i .2) (i .3)) (c .before .before .note-passage .ensures) (c .before .before .before .before .before .before .before .before .before .before .before .before .before .before .before .before .before .before .before .before .before .before .before .before .before .before .before .before .before .before .before .before .pre .1 .fresh) (i .0 .2) (i .0 .3))
+write-plan-returns-3 t c = underway-ends (c .before .before .before .before .before .loop .inv .0) _ (c .before .before .before .before .loop-test .left) (c .before .before .before .before .before .before .before .before .before .before .before .before .before .before .put .ensures) (c .before .before .note-passage .ensures)
 
 pub +write-plan-spec : {M : Type 1} → statement M
 +write-plan-spec = close μ-write-plan λ t. write-plan-lts.spec (write-plan-calls t)
@@ -167,27 +109,20 @@ pub +write-plan-spec : {M : Type 1} → statement M
     (λ c. search needs)
     (λ c. search needs)
     (write-plan-returns t)
-    (write-plan-examine-requires t)
-    (λ c. search needs)
-    (λ c. search needs)
-    (λ c. search needs)
+    (write-plan-start-of-requires t)
     (write-plan-byte-of-requires t)
     (λ c κs. search needs)
-    (write-plan-add-result-2 t)
+    (write-plan-add-end t)
     (λ c. search needs)
     (λ c. search needs)
     (λ c. search needs)
     (write-plan-returns-2 t)
     (λ c κs. search needs)
     (write-plan-left-after-requires t)
-    (write-plan-rest-of-requires t)
-    (write-plan-add-end t)
     (write-plan-outcome-count-requires t)
     (λ c κs. search needs)
     (write-plan-loop-holds t)
     (write-plan-successor-requires t)
-    (write-plan-sum-with-requires t)
-    (λ c κs. search needs)
     (write-plan-write-plan-requires t)
     (λ c. search needs)
     (λ c. search needs)
@@ -195,11 +130,5 @@ pub +write-plan-spec : {M : Type 1} → statement M
     (write-plan-note-passage-requires t)
     (λ c. search needs)
     (λ c. search needs)
+    (λ c. search needs)
     (write-plan-returns-3 t)
-    (λ c. search needs)
-    (λ c. search needs)
-    (write-plan-returns-4 t)
-    (λ c. search needs)
-    (λ c. search needs)
-    (λ c. search needs)
-    (write-plan-returns-5 t)

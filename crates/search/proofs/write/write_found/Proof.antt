@@ -10,7 +10,7 @@ slice-aggregate-write-plan c = search needs
 
 write-plan-requires : tie.Need-write-plan-requires
 write-plan-requires c κs = let p = c .before .before .before .before .before .before .pre in
-    record { examinable = p .0; fresh = p .1; found = p .2 .0; made = p .2 .1; succeeds = rw (p .1) (p .2 .2); fits = omega (arith, p .2 .3); near = omega (arith, p .2 .4); stands = nothing-stands _ 256 _ (omega arith) }
+    record { succeeding = record { guided = p .0 .guided; remembers = p .0 .remembers; shallow = p .0 .shallow; found = p .2 .0; made = p .2 .1; is = p .2 .2 }; fits = omega (arith, p .2 .3); near = omega (arith, p .2 .4); stands = nothing-stands _ 256 _ (omega arith) }
 
 same-length : tie.Need-same-length
 same-length c = search needs
@@ -19,7 +19,7 @@ same-length-2 : tie.Need-same-length-2
 same-length-2 c = search needs
 
 returns : tie.Need-returns
-returns c = λ p k f. c .before .before .before .before .before .write-plan .ensures p k (rw (c .before .before .before .before .before .before .before .before .before .before .before .before .pre .1) f) .holds
+returns c = λ p k f. c .before .before .before .before .before .write-plan .ensures p k f .holds
 
 pub write-found-spec : {M : Type 1} → statement M
 write-found-spec =
