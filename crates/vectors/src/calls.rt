@@ -68,16 +68,20 @@ fn build(list: &[u8], rec: &[u8], tables: &mut [u16], numbers: &mut [u32]) {
     show_entries(&tables[..entries]);
 }
 
-// A row that holds 7 where nothing was counted.
-fn spread(list: &[u8], rec: &[u8], tables: &mut [u16], numbers: &mut [u32]) {
-    let mut row = [7u32; ROW_ROOM];
+fn spread(list: &[u8], rec: &[u8], tables: &mut [u16], row: &mut [u32], numbers: &mut [u32]) {
     let n = read_numbers(list, numbers);
     let pattern = number_at(&numbers[..n], 0) as u64;
     let entries = least(number_at(&numbers[..n], 1), tables.len());
-    let counts = least(number_at(&numbers[..n], 2), ROW_ROOM);
+    let counts = least(number_at(&numbers[..n], 2), row.len());
     show_answer(planner_spread(rec, pattern, &mut tables[..entries], &mut row[..counts]));
     show_entries(&tables[..entries]);
     show_counts(&row[..counts]);
+}
+
+// Into a row that holds 7 where nothing is counted.
+fn spread_anew(list: &[u8], rec: &[u8], tables: &mut [u16], numbers: &mut [u32]) {
+    let mut row = [7u32; ROW_ROOM];
+    spread(list, rec, tables, &mut row, numbers);
 }
 
 fn search(list: &[u8], rec: &[u8], tables: &mut [u16], plan: &mut [u8], numbers: &mut [u32]) {
@@ -118,7 +122,7 @@ fn call(
         b's' => state(list, rec, numbers, plan),
         b'b' => build(list, rec, tables, numbers),
         b'f' => search(list, rec, tables, plan, numbers),
-        b'h' => spread(list, rec, tables, numbers),
+        b'h' => spread_anew(list, rec, tables, numbers),
         b'a' => show_answer(planner_additive(rec)),
         b'v' => value(list, rec, tables, numbers, plan),
         b'p' => check_plan(list, rec, numbers, plan),
