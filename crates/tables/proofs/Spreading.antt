@@ -2,11 +2,11 @@
 use mathlib.Core.Path.{_≡_, refl, sym, ap, _∙_}
 use mathlib.Core.Bool.{cond}
 use mathlib.Core.List.{List, [], _∷_, _++_, map, append-assoc}
-use Prim.Native.Nat.{ℕ, zero, suc, _+_, _*_, _-_, _≤_, _<_}
+use Prim.Native.Nat.{ℕ, zero, suc, _+_, _*_, _-_, _≤_, _<_, min}
 use native.Mathlib.Numerals.{add-one}
 use native.Mathlib.Omega.{arith}
-use borrow.Author.Tests.{lt-ltb, le-ltb}
-use lib.Dec.{ltb}
+use borrow.Author.Tests.{lt-ltb, le-ltb, eqb-true}
+use lib.Dec.{ltb, eqb}
 use lib.ListN.{length, getD, take, drop, set, replicate, length-map, length-take, replicate-append-replicate}
 use lib.Seq.{take-length, take-at, drop-at, take-suc-set, drop-append-add}
 use Rattle.planning.specs.Extended.{ℕ∞, fin, inf}
@@ -14,6 +14,7 @@ use Rattle.planning.specs.Task.{Task}
 use Rattle.planning.specs.Finite.{chain}
 use Rattle.planning.specs.Table.{stateCount, table, tables, entryOf, costOf, EntriesBelow, Small, mostCost}
 use Rattle.planning.specs.Spread.{rowSize, spread, placeOf}
+use Rattle.planning.proofs.Test.{by-test}
 use Rattle.planning.proofs.Finite.{all-at, getD-map}
 use Rattle.planning.proofs.Table.{table-length, light-entries-bounded, cost-of-entry}
 use Rattle.planning.proofs.Spread.{place-inside, counts-few, raisedAt, spread-of-none, spread-next}
@@ -45,6 +46,12 @@ pub counting-small : (entries : List ℕ) → length entries ≤ 4096 → (i : �
 counting-small entries few i row e k l = let h = counts-few (take i (map costOf entries)) k l in
     let m = length-take i (map costOf entries) in let n = length-map entries costOf in rw e (omega arith)
 
+entry-place : (e : ℕ) → ((k : ℕ) → costOf e ≡ fin k → k < suc mostCost) → min e (suc mostCost) ≡ placeOf (costOf e)
+unfolding costOf placeOf
+entry-place e h = by-test (eqb e 65535)
+    (λ t. rw (eqb-true e 65535 t))
+    (λ t. let l = h e (rw t) in rw t (omega arith))
+
 module _ (entries : List ℕ) (bounded : EntriesBelow (suc mostCost) (map costOf entries)) (i : ℕ) (l : i < length entries) where
   entry-cost : getD (map costOf entries) i inf ≡ costOf (getD entries i 0)
   entry-cost = getD-map costOf entries i 0 inf l
@@ -52,8 +59,11 @@ module _ (entries : List ℕ) (bounded : EntriesBelow (suc mostCost) (map costOf
   inside : i < length (map costOf entries)
   inside = rw (length-map entries costOf) l
 
-  pub counted-place : placeOf (costOf (getD entries i 0)) < rowSize
-  counted-place = rw entry-cost at (place-inside (getD (map costOf entries) i inf) (bounded i))
+  pub place-in-row : placeOf (costOf (getD entries i 0)) < rowSize
+  place-in-row = rw entry-cost at (place-inside (getD (map costOf entries) i inf) (bounded i))
+
+  pub cut-place : min (getD entries i 0) (suc mostCost) ≡ placeOf (costOf (getD entries i 0))
+  cut-place = entry-place (getD entries i 0) (λ k e. bounded i k (entry-cost ∙ e))
 
   pub counting-next : spread (take (i + 1) (map costOf entries)) ≡ raisedAt (spread (take i (map costOf entries))) (placeOf (costOf (getD entries i 0)))
   counting-next = rw (add-one i, ← entry-cost) (spread-next (map costOf entries) bounded i inside)

@@ -9,7 +9,7 @@ use Rattle.planning.specs.Table.{table, entryOf}
 use Rattle.tables.specs.Packed.{compiled}
 use Rattle.tables.specs.Packable.{Packable}
 
--- Finite entries are below 65,535: where every action counts 1, at most the number of states less 1 (unit-entries-bounded of planning).
+-- Finite entries are below 65,535: where every action counts 1, at most 4,095 (light-entries-bounded of planning).
 pub record Built (words : List ℕ) (actions n : ℕ) (sizes p entries : List ℕ) : Type 0 where
   pub is-table : (t : Task) → WellFormed t → Packable t → take n sizes ≡ t .sizes → words ≡ compiled t → actions ≡ length (t .actions) →
       ((i k : ℕ) → getD (table t p) i inf ≡ fin k → k < 65535) → entries ≡ map entryOf (table t p)

@@ -2,10 +2,10 @@
 // states apart.
 ghost use mathlib.Core.Path.{_≡_};
 ghost use mathlib.Core.List.{[], map};
-ghost use Prim.Native.Nat.{suc, _+_, _<_, _≤_};
+ghost use Prim.Native.Nat.{suc, _+_, _<_, _≤_, min};
 ghost use lib.ListN.{length, take, replicate};
 ghost use Rattle.planning.specs.Table.{costOf, EntriesBelow, mostCost, Small};
-ghost use Rattle.planning.specs.Spread.{rowSize, spread, placeOf};
+ghost use Rattle.planning.specs.Spread.{rowSize, spread};
 ghost use Rattle.task_record.specs.Numbers.{patternCount};
 ghost use Rattle.task_record.specs.Record.{Sound};
 ghost use Rattle.task_record.specs.TaskOf.{taskOf, patternsOf};
@@ -41,14 +41,15 @@ fn clear(row: &mut [u32])
     }
 }
 
-// The place of an entry in the row.
+// The place of an entry in the row: its own where it is finite, and so at most 4,095; an infinite one is cut to the last.
 fn place_of(e: u16) -> usize
-    ensures { λ r. ⌜ (r ≡ placeOf (costOf e)) × (r < 65536) ⌝ }
+    ensures { λ r. ⌜ r ≡ min e (suc mostCost) ⌝ }
 {
-    if e == 65535 {
-        return ROW - 1;
+    let k = e as usize;
+    if k < ROW {
+        return k;
     }
-    e as usize
+    ROW - 1
 }
 
 // Counts the entries of a table in a row that is cleared.
@@ -62,19 +63,27 @@ fn count_entries(entries: &[u16], row: &mut [u32])
     }
 }
 
-// Where the table of pattern p begins: behind the entries of the patterns before it.
-fn begin_of(rec: &[u8], p: u8) -> usize
-    requires { ⌜ (Sound (now rec)) × (Small (taskOf (now rec)) (patternsOf (now rec))) × (p ≤ patternCount (now rec)) ⌝ }
-    ensures { λ r. ⌜ r ≡ entriesNeeded (taskOf (now (rec .entry)) .sizes) (take p (patternsOf (now (rec .entry)))) ⌝ }
+// The part of the tables that a pattern's table takes.
+struct Part {
+    begin: usize,
+    end: usize,
+}
+
+// The part of pattern p: behind the entries of the patterns before it.
+fn part_of(rec: &[u8], p: u8) -> Part
+    requires { ⌜ (Sound (now rec)) × (Small (taskOf (now rec)) (patternsOf (now rec))) × (p < patternCount (now rec)) ⌝ }
+    ensures { λ r. ⌜ (r .begin ≡ entriesNeeded (taskOf (now (rec .entry)) .sizes) (take p (patternsOf (now (rec .entry))))) × (r .end ≡ entriesNeeded (taskOf (now (rec .entry)) .sizes) (take (p + 1) (patternsOf (now (rec .entry))))) ⌝ }
 {
     let sizes = sizes_of(rec);
     let n = wide(variable_count(rec));
     let mut begin = 0usize;
-    for q in 0..p {
+    let mut end = 0usize;
+    for q in 0..p + 1 {
         let pattern = state_of(pattern_cells(rec, q));
-        begin = begin + state_count(sizes, pattern, n);
+        begin = end;
+        end = begin + state_count(sizes, pattern, n);
     }
-    begin
+    Part { begin, end }
 }
 
 fn narrow(pattern: u64) -> u8
@@ -93,8 +102,9 @@ fn count_pattern(rec: &[u8], pattern: u64, tables: &[u16], row: &mut [u32]) -> u
     clear(row);
     if pattern < wide(pattern_count(rec)) as u64 {
         let p = narrow(pattern);
-        let begin = begin_of(rec, p);
-        let end = begin_of(rec, p + 1);
+        let part = part_of(rec, p);
+        let begin = part.begin;
+        let end = part.end;
         count_entries(&tables[begin..end], row);
         return (end - begin) as u64;
     }

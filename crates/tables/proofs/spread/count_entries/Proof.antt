@@ -6,12 +6,12 @@ use mathlib.Core.Path.{_≡_, refl, sym, ap, _∙_}
 use mathlib.Core.List.{[], map}
 use Prim.Native.Nat.{_-_, _≤_, _<_}
 use native.Mathlib.Omega.{arith}
-use lib.ListN.{length, take, length-map}
+use lib.ListN.{length, getD, take, length-map}
 use lib.Seq.{take-all}
 use Rattle.planning.specs.Table.{costOf}
-use Rattle.planning.specs.Spread.{rowSize, spread}
+use Rattle.planning.specs.Spread.{rowSize, spread, placeOf}
 use Rattle.planning.proofs.Spread.{spread-length}
-use Rattle.tables.proofs.Spreading.{counted-place, counting-small, counting-next}
+use Rattle.tables.proofs.Spreading.{place-in-row, cut-place, counting-small, counting-next}
 
 abbrev Inv-loop : tie.InvT-loop
 Inv-loop entries row₀ i₀ i-end row i = (i ≤ length entries) × (row ≡ spread (take i (map costOf entries)))
@@ -32,9 +32,13 @@ place-of-requires : tie.Need-place-of-requires Inv-loop μ-loop
 place-of-requires c κs = search needs
 
 -- The entry's place is in the row, and its count is small.
+place-is : (c : tie.After-place-of Inv-loop μ-loop) → c .place-of .result ≡ placeOf (costOf (getD (c .before .before .before .before .before .before .args .entries .now) (c .before .before .before .loop .i) 0))
+place-is c = let a = c .before .before .before .before .before .before in
+    c .place-of .ensures ∙ cut-place (a .args .entries .now) (a .pre .1) (c .before .before .before .loop .i) (c .before .before .loop-test .taken)
+
 place-known : (c : tie.After-place-of Inv-loop μ-loop) → c .place-of .result < rowSize
-place-known c = let a = c .before .before .before .before .before .before in let l = c .before .before .before .loop in
-    rw (c .place-of .ensures .0) (counted-place (a .args .entries .now) (a .pre .1) (l .i) (c .before .before .loop-test .taken))
+place-known c = let a = c .before .before .before .before .before .before in
+    rw (place-is c) (place-in-row (a .args .entries .now) (a .pre .1) (c .before .before .before .loop .i) (c .before .before .loop-test .taken))
 
 place-inside : (c : tie.After-place-of Inv-loop μ-loop) → c .place-of .result < length (c .before .before .before .loop .row)
 place-inside c = let l = c .before .before .before .loop in
@@ -65,7 +69,7 @@ loop-less c = omega (arith, c .before .before .before .loop-test .taken)
 loop-again : tie.Need-loop-again Inv-loop μ-loop
 loop-again c = let a = c .before .before .before .before .before .before .before in let l = c .before .before .before .before .loop in
     let t = c .before .before .before .loop-test .taken in
-    (omega arith, rw (l .inv .1, c .before .place-of .ensures .0) (sym (counting-next (a .args .entries .now) (a .pre .1) (l .i) t)))
+    (omega arith, rw (l .inv .1, place-is (c .before)) (sym (counting-next (a .args .entries .now) (a .pre .1) (l .i) t)))
 
 same-length : tie.Need-same-length Inv-loop μ-loop
 same-length c = let a = c .before .before .before .before in let l = c .before .loop in

@@ -19,39 +19,39 @@ patterns-known : (c : tie.After-wide) → c .wide .result ≡ patternCount (c .b
 patterns-known c = c .wide .ensures .0 ∙ c .before .pattern-count .ensures
 
 -- A number that names a pattern: where its table begins and ends.
-module _ (c : tie.After-begin-of2) where
+module _ (c : tie.After-part-of) where
   abbrev rec : List ℕ
-  rec = c .before .before .before .before .before .before .before .before .before .before .before .before .before .args .rec .now
+  rec = c .before .before .before .before .before .before .before .before .before .before .before .before .args .rec .now
 
   abbrev number : ℕ
-  number = c .before .before .before .before .before .before .before .before .before .before .before .before .before .args .pattern
+  number = c .before .before .before .before .before .before .before .before .before .before .before .before .args .pattern
 
   abbrev tabs : List ℕ
-  tabs = c .before .before .before .before .before .before .before .before .before .before .before .before .before .args .tables .now
+  tabs = c .before .before .before .before .before .before .before .before .before .before .before .before .args .tables .now
 
   below : number < patternCount rec
-  below = omega (arith, c .before .before .before .if1 .taken, patterns-known (c .before .before .before .before))
+  below = omega (arith, c .before .before .if1 .taken, patterns-known (c .before .before .before))
 
-  begins : c .before .begin-of .result ≡ entriesNeeded (taskOf rec .sizes) (take number (patternsOf rec))
-  begins = c .before .begin-of .ensures ∙ ap (λ k. entriesNeeded (taskOf rec .sizes) (take k (patternsOf rec))) (c .before .before .narrow .ensures)
+  begins : c .part-of .result .begin ≡ entriesNeeded (taskOf rec .sizes) (take number (patternsOf rec))
+  begins = c .part-of .ensures .0 ∙ ap (λ k. entriesNeeded (taskOf rec .sizes) (take k (patternsOf rec))) (c .before .narrow .ensures)
 
   abbrev states : ℕ
   states = stateCount (taskOf rec .sizes) (getD (patternsOf rec) number [])
 
-  ends-known : c .begin-of2 .result ≡ entriesNeeded (taskOf rec .sizes) (take (number + 1) (patternsOf rec))
-  ends-known = c .begin-of2 .ensures ∙ ap (λ k. entriesNeeded (taskOf rec .sizes) (take (k + 1) (patternsOf rec))) (c .before .before .narrow .ensures)
+  ends-known : c .part-of .result .end ≡ entriesNeeded (taskOf rec .sizes) (take (number + 1) (patternsOf rec))
+  ends-known = c .part-of .ensures .1 ∙ ap (λ k. entriesNeeded (taskOf rec .sizes) (take (k + 1) (patternsOf rec))) (c .before .narrow .ensures)
 
-  ends : c .begin-of2 .result ≡ c .before .begin-of .result + states
-  ends = ends-known ∙ states-of-pattern rec tabs (c .before .before .before .before .before .before .before .before .before .before .before .before .before .pre .0) (c .before .before .before .before .before .before .before .before .before .before .before .before .before .pre .1) number below ∙ ap (λ k. k + states) (sym begins)
+  ends : c .part-of .result .end ≡ c .part-of .result .begin + states
+  ends = ends-known ∙ states-of-pattern rec tabs (c .before .before .before .before .before .before .before .before .before .before .before .before .pre .0) (c .before .before .before .before .before .before .before .before .before .before .before .before .pre .1) number below ∙ ap (λ k. k + states) (sym begins)
 
-  inside : c .begin-of2 .result ≤ length tabs
-  inside = let h = pattern-ends rec tabs (c .before .before .before .before .before .before .before .before .before .before .before .before .before .pre .0) (c .before .before .before .before .before .before .before .before .before .before .before .before .before .pre .1) number below in let e = ends-known in omega arith
+  inside : c .part-of .result .end ≤ length tabs
+  inside = let h = pattern-ends rec tabs (c .before .before .before .before .before .before .before .before .before .before .before .before .pre .0) (c .before .before .before .before .before .before .before .before .before .before .before .before .pre .1) number below in let e = ends-known in omega arith
 
   abbrev part : List ℕ
-  part = take (c .begin-of2 .result - c .before .begin-of .result) (drop (c .before .begin-of .result) tabs)
+  part = take (c .part-of .result .end - c .part-of .result .begin) (drop (c .part-of .result .begin) tabs)
 
   part-is : part ≡ take states (drop (entriesNeeded (taskOf rec .sizes) (take number (patternsOf rec))) tabs)
-  part-is = let e : c .begin-of2 .result - c .before .begin-of .result ≡ states = omega (arith, ends) in ap₂ (λ k b. take k (drop b tabs)) e begins
+  part-is = let e : c .part-of .result .end - c .part-of .result .begin ≡ states = omega (arith, ends) in ap₂ (λ k b. take k (drop b tabs)) e begins
 
 clear-requires : tie.Need-clear-requires
 clear-requires c κs = search needs
@@ -65,14 +65,8 @@ wide-requires c κs = search needs
 narrow-requires : tie.Need-narrow-requires
 narrow-requires c κs = search needs
 
-begin-of-requires : tie.Need-begin-of-requires
-begin-of-requires c κs = search needs
-
-add-begin-of : tie.Need-add-begin-of
-add-begin-of c = search needs
-
-begin-of-requires-2 : tie.Need-begin-of-requires-2
-begin-of-requires-2 c κs = search needs
+part-of-requires : tie.Need-part-of-requires
+part-of-requires c κs = search needs
 
 mul-count-entries : tie.Need-mul-count-entries
 mul-count-entries c = let h = inside c in let e = ends c in omega arith
@@ -87,8 +81,8 @@ part-count-entries-end : tie.Need-part-count-entries-end
 part-count-entries-end c = inside c
 
 count-entries-requires : tie.Need-count-entries-requires
-count-entries-requires c κs = let b = c .before .before in let a = c .before .before .before .before .before .before .before .before .before .before .before .before .before .before .before in let p = a .pre in let l = below b in
-    (part-few (rec b) (tabs b) (p .0) (p .1) (number b) l (part b) (part-is b), part-bounded (rec b) (tabs b) (p .0) (p .1) (number b) l (part b) (part-is b), cleared (a .args .row .now) _ (p .2) (c .before .before .before .before .before .before .before .before .before .before .clear .ensures))
+count-entries-requires c κs = let b = c .before .before in let a = c .before .before .before .before .before .before .before .before .before .before .before .before .before .before in let p = a .pre in let l = below b in
+    (part-few (rec b) (tabs b) (p .0) (p .1) (number b) l (part b) (part-is b), part-bounded (rec b) (tabs b) (p .0) (p .1) (number b) l (part b) (part-is b), cleared (a .args .row .now) _ (p .2) (c .before .before .before .before .before .before .before .before .before .clear .ensures))
 
 sub-result : tie.Need-sub-result
 sub-result c = let e = ends (c .before .before .before .before .before) in omega arith
@@ -97,7 +91,7 @@ same-length : tie.Need-same-length
 same-length c = search needs
 
 returns : tie.Need-returns
-returns c = let b = c .before .before .before .before .before in let p = c .before .before .before .before .before .before .before .before .before .before .before .before .before .before .before .before .before .before .pre in let l = below b in let e = ends b in
+returns c = let b = c .before .before .before .before .before in let p = c .before .before .before .before .before .before .before .before .before .before .before .before .before .before .before .before .before .pre in let l = below b in let e = ends b in
     (omega (arith, states-named (rec b) (tabs b) (p .0) (p .1) (number b) l), c .before .before .count-entries .ensures ∙ ap spread (part-costs (rec b) (tabs b) (p .0) (p .1) (number b) l (part b) (part-is b)))
 
 same-length-2 : tie.Need-same-length-2
@@ -115,9 +109,7 @@ count-pattern-spec =
     pattern-count-requires
     wide-requires
     narrow-requires
-    begin-of-requires
-    add-begin-of
-    begin-of-requires-2
+    part-of-requires
     mul-count-entries
     sub-count-entries
     part-count-entries-start

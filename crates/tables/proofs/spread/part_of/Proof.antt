@@ -1,7 +1,7 @@
--- `begin_of`: the entries of the patterns passed are added. Assumes nothing.
+-- `part_of`: the entries of the patterns passed are added; the last of them begins where those before it end. Assumes nothing.
 use borrow.Author.Needs.{needs}
-use Rattle.tables.proofs.spread.begin_of.Statement.{statement}
-use Rattle.tables.proofs.spread.begin_of.Tie as tie
+use Rattle.tables.proofs.spread.part_of.Statement.{statement}
+use Rattle.tables.proofs.spread.part_of.Tie as tie
 use mathlib.Core.Path.{_≡_, refl, sym, ap, ap₂, _∙_}
 use mathlib.Core.List.{List, []}
 use Prim.Native.Nat.{ℕ, _+_, _*_, _-_, _≤_, _<_}
@@ -25,10 +25,10 @@ use Rattle.tables.proofs.Spreading.{needed-next}
 use Rattle.patterns.specs.Space.{entriesNeeded}
 
 abbrev Inv-loop : tie.InvT-loop
-Inv-loop rec p sizes n begin₀ q₀ begin q = (q ≤ p) × (begin ≡ entriesNeeded (taskOf rec .sizes) (take q (patternsOf rec))) × (begin ≤ 4096 * q)
+Inv-loop rec p sizes n begin₀ end₀ q₀ q-end begin end q = (q ≤ p + 1) × (begin ≡ entriesNeeded (taskOf rec .sizes) (take (q - 1) (patternsOf rec))) × (end ≡ entriesNeeded (taskOf rec .sizes) (take q (patternsOf rec))) × (end ≤ 4096 * q)
 
 abbrev μ-loop : tie.MeasureT-loop
-μ-loop rec p sizes n begin₀ q₀ begin q = p - q
+μ-loop rec p sizes n begin₀ end₀ q₀ q-end begin end q = p + 1 - q
 
 sizes-of-requires : tie.Need-sizes-of-requires Inv-loop μ-loop
 sizes-of-requires c κs = search needs
@@ -39,9 +39,12 @@ variable-count-requires c κs = search needs
 wide-requires : tie.Need-wide-requires Inv-loop μ-loop
 wide-requires c κs = search needs
 
+add-q-end : tie.Need-add-q-end Inv-loop μ-loop
+add-q-end c = let a = c .before .before .before .before in let k = patterns-right (a .args .rec .now) (a .pre .0) in omega (arith, a .pre .2)
+
 loop-holds : tie.Need-loop-holds Inv-loop μ-loop
 unfolding entriesNeeded
-loop-holds c = (omega arith, refl, omega arith)
+loop-holds c = (omega arith, refl, refl, omega arith)
 
 pattern-cells-requires : tie.Need-pattern-cells-requires Inv-loop μ-loop
 pattern-cells-requires c κs = search needs
@@ -89,12 +92,12 @@ state-count-requires : tie.Need-state-count-requires Inv-loop μ-loop
 state-count-requires c κs = same-sized _ _ _ _ _ (pattern-known c) (variables-known c)
     (pattern-sized (rec c) (sound c) (sizes c) (sixteen c) (cellsAt (rec c) (atPattern (number c))) (rw (pattern-at (rec c) (number c) (below c)) at (few c)))
 
-add-begin : tie.Need-add-begin Inv-loop μ-loop
-add-begin c = let b = c .before in let e = c .state-count .ensures ∙ states-known b in let k = patterns-right (rec b) (sound b) in
-    omega (arith, few b, below b, c .before .before .before .before .loop .inv .2)
+add-end : tie.Need-add-end Inv-loop μ-loop
+add-end c = let b = c .before in let e = c .state-count .ensures ∙ states-known b in let k = patterns-right (rec b) (sound b) in
+    omega (arith, few b, below b, c .before .before .before .before .loop .inv .3)
 
 add-q : tie.Need-add-q Inv-loop μ-loop
-add-q c = search needs
+add-q c = let b = c .before in let k = patterns-right (rec b) (sound b) in omega (arith, below b)
 
 loop-less : tie.Need-loop-less Inv-loop μ-loop
 loop-less c = omega (arith, c .before .before .before .loop-test .taken)
@@ -103,14 +106,16 @@ loop-again : tie.Need-loop-again Inv-loop μ-loop
 loop-again c = let b = c .before in let e = c .state-count .ensures ∙ states-known b in let l = c .before .before .before .before .loop in
     let t = c .before .before .before .loop-test .taken in
     let n = needed-next (taskOf (rec b) .sizes) (patternsOf (rec b)) (l .q) (rw (patterns-length (rec b)) (below b)) in
-    (omega arith, omega (arith, l .inv .1), omega (arith, few b, l .inv .2))
+    let k : l .q ≡ (l .q + 1) - 1 = omega arith in
+    (omega arith, l .inv .2 ∙ ap (λ k. entriesNeeded (taskOf (rec b) .sizes) (take k (patternsOf (rec b)))) k, omega (arith, l .inv .2), omega (arith, few b, l .inv .3))
 
 returns : tie.Need-returns Inv-loop μ-loop
 returns c = let l = c .before .loop in let a = c .before .before .before .before .before .before .args in let t = c .loop-test .left in let i = l .inv .0 in
-    let e : l .q ≡ a .p = omega arith in l .inv .1 ∙ ap (λ k. entriesNeeded (taskOf (a .rec .now) .sizes) (take k (patternsOf (a .rec .now)))) e
+    let e : l .q ≡ a .p + 1 = omega arith in let f : l .q - 1 ≡ a .p = omega arith in
+    let needed : ℕ → ℕ = λ k. entriesNeeded (taskOf (a .rec .now) .sizes) (take k (patternsOf (a .rec .now))) in (l .inv .1 ∙ ap needed f, l .inv .2 ∙ ap needed e)
 
-pub begin-of-spec : {M : Type 1} → statement M
-begin-of-spec =
+pub part-of-spec : {M : Type 1} → statement M
+part-of-spec =
     tie.close
     (tie.spec
     Inv-loop
@@ -118,11 +123,12 @@ begin-of-spec =
     sizes-of-requires
     variable-count-requires
     wide-requires
+    add-q-end
     loop-holds
     pattern-cells-requires
     state-of-requires
     state-count-requires
-    add-begin
+    add-end
     add-q
     loop-less
     loop-again
