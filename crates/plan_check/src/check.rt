@@ -1,7 +1,6 @@
 // The check of a plan on three lent slices: record, state and plan. It accepts all inputs, and only reads.
 ghost use mathlib.Core.Path.{_≡_};
 ghost use Prim.Native.Nat.{max};
-ghost use lib.ListN.{length};
 ghost use Rattle.planning.specs.PlanCheck.{checkPlan, mostMoves};
 ghost use Rattle.task_record.specs.Record.{Sound};
 ghost use Rattle.plan_check.specs.Tower.{tower, valuesOf};

@@ -4,8 +4,8 @@ use mathlib.Core.Path.{_≡_, refl, sym, ap, _∙_}
 use mathlib.Core.List.{List, [], _∷_, _++_, map, append-assoc}
 use Prim.Native.Nat.{ℕ, zero, suc, _+_, _≤_, _<_}
 use native.Mathlib.Omega.{arith}
-use lib.ListN.{length, getD, take, drop, length-append, length-drop, List·getD-append}
-use lib.Seq.{drop-append-seam, getD-append-add}
+use lib.ListN.{length, getD, take, drop, length-append, length-drop}
+use lib.Seq.{drop-append-seam, drop-append-add, take-at, getD-take, getD-drop}
 use Rattle.planning.specs.Extended.{ℕ∞, inf}
 use Rattle.planning.specs.Finite.{All, chain}
 use Rattle.planning.specs.System.{IsCost}
@@ -66,22 +66,25 @@ fits-buildable r lent n h = let k = fits-means r lent n h in judged-buildable r 
 pub ready-buildable : (r : List ℕ) (lent : ℕ) → estimateCheck r lent ≡ of-estimate.Ready → Buildable r lent
 ready-buildable r lent h = let k = checked-ready r lent h in let m = ready-means r lent (k .1) in judged-buildable r lent (m .0 .0) (k .0) (m .0 .1)
 
--- Entry i of pattern number k in tables that follow each other.
-pub chained-entry : (t : Task) (ps : List (List ℕ)) (rest : List ℕ) (k i : ℕ) → k < length ps → i < stateCount (t .sizes) (getD ps k []) →
-    getD (tables t ps ++ rest) (entriesNeeded (t .sizes) (take k ps) + i) 65535 ≡ entryOf (getD (table t (getD ps k [])) i inf)
-unfolding tables chain entriesNeeded table
-chained-entry t [] rest k i l h = absurd (omega arith)
-chained-entry t (p ∷ ps) rest zero i l h = let e : 0 + i ≡ i = omega arith in let n = entries-length t p in
-    rw (e, append-assoc (map entryOf (table t p)) (tables t ps) rest)
-    (List·getD-append (map entryOf (table t p)) (tables t ps ++ rest) 65535 i (omega arith)
-    ∙ getD-map entryOf (table t p) i inf 65535 (rw (table-length t p (λ a. a .weight)) h))
-chained-entry t (p ∷ ps) rest (suc k) i l h = let n = entries-length t p in
-    let m = entriesNeeded (t .sizes) (take k ps) in
-    let e : stateCount (t .sizes) p + m + i ≡ length (map entryOf (table t p)) + (m + i) = omega arith in
-    rw (append-assoc (map entryOf (table t p)) (tables t ps) rest)
-    (ap (λ x. getD (map entryOf (table t p) ++ (tables t ps ++ rest)) x 65535) e
-    ∙ getD-append-add (map entryOf (table t p)) (tables t ps ++ rest) (m + i) 65535
-    ∙ chained-entry t ps rest k i (omega arith) h)
+-- The table of pattern number k in tables that follow each other, and its entry i.
+module _ (t : Task) where
+  pub chained-table : (ps : List (List ℕ)) (rest : List ℕ) (k : ℕ) → k < length ps →
+      take (stateCount (t .sizes) (getD ps k [])) (drop (entriesNeeded (t .sizes) (take k ps)) (tables t ps ++ rest)) ≡ map entryOf (table t (getD ps k []))
+  unfolding tables chain entriesNeeded
+  chained-table [] rest k l = absurd (omega arith)
+  chained-table (p ∷ ps) rest zero l = rw (append-assoc (map entryOf (table t p)) (tables t ps) rest)
+      (take-at (map entryOf (table t p)) (tables t ps ++ rest) (stateCount (t .sizes) p) (entries-length t p))
+  chained-table (p ∷ ps) rest (suc k) l =
+      rw (append-assoc (map entryOf (table t p)) (tables t ps) rest, ← (entries-length t p), drop-append-add (map entryOf (table t p)) (tables t ps ++ rest) (entriesNeeded (t .sizes) (take k ps)))
+      (chained-table ps rest k (omega arith))
+
+  pub chained-entry : (ps : List (List ℕ)) (rest : List ℕ) (k i : ℕ) → k < length ps → i < stateCount (t .sizes) (getD ps k []) →
+      getD (tables t ps ++ rest) (entriesNeeded (t .sizes) (take k ps) + i) 65535 ≡ entryOf (getD (table t (getD ps k [])) i inf)
+  unfolding table
+  chained-entry ps rest k i l h = let begin = entriesNeeded (t .sizes) (take k ps) in let states = stateCount (t .sizes) (getD ps k []) in
+      sym (getD-take states (drop begin (tables t ps ++ rest)) i 65535 h ∙ getD-drop begin (tables t ps ++ rest) i 65535)
+      ∙ ap (λ l. getD l i 65535) (chained-table ps rest k l)
+      ∙ getD-map entryOf (table t (getD ps k [])) i inf 65535 (rw (table-length t (getD ps k []) (λ a. a .weight)) h)
 
 module _ (r tabs : List ℕ) where
   -- A build that refuses nothing.

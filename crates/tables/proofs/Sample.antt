@@ -1,6 +1,6 @@
 -- The starred examples of document 01 that speak of tables, of the calls themselves: the record that the reader leaves for the sample's text, and
 -- what a build of it answers and leaves, in any lent record and tables that have room. Assumes nothing.
-use mathlib.Core.Path.{_≡_, refl, sym, ap, ap₂, _∙_}
+use mathlib.Core.Path.{_≡_, refl, ap, _∙_}
 use mathlib.Core.List.{List, [], _∷_, _++_, map}
 use Prim.Native.Nat.{ℕ, _≤_}
 use native.Mathlib.Omega.{arith}

@@ -1,22 +1,20 @@
 -- Laws of counting the entries of one pattern among built tables: where they stand, and that they read back as its costs. Assumes nothing.
 use mathlib.Core.Path.{_≡_, refl, sym, ap, _∙_}
 use mathlib.Core.Bool.{cond}
-use mathlib.Core.List.{List, [], _∷_, _++_, map, append-assoc}
-use Prim.Native.Nat.{ℕ, zero, suc, _+_, _*_, _-_, _≤_, _<_, min}
+use mathlib.Core.List.{List, [], _∷_, _++_, map}
+use Prim.Native.Nat.{ℕ, zero, suc, _+_, _≤_, _<_, min}
 use native.Mathlib.Numerals.{add-one}
 use native.Mathlib.Omega.{arith}
 use borrow.Author.Tests.{lt-ltb, le-ltb, eqb-true}
 use lib.Dec.{ltb, eqb}
 use lib.ListN.{length, getD, take, drop, set, replicate, length-map, length-take, replicate-append-replicate}
-use lib.Seq.{take-length, take-at, drop-at, take-suc-set, drop-append-add}
+use lib.Seq.{drop-at, take-suc-set}
 use Rattle.planning.specs.Extended.{ℕ∞, fin, inf}
-use Rattle.planning.specs.Task.{Task}
-use Rattle.planning.specs.Finite.{chain}
 use Rattle.planning.specs.Table.{stateCount, table, tables, entryOf, costOf, EntriesBelow, Small, mostCost}
 use Rattle.planning.specs.Spread.{rowSize, spread, placeOf}
 use Rattle.planning.proofs.Test.{by-test}
 use Rattle.planning.proofs.Finite.{all-at, getD-map}
-use Rattle.planning.proofs.Table.{table-length, light-entries-bounded, cost-of-entry}
+use Rattle.planning.proofs.Table.{light-entries-bounded, cost-of-entry}
 use Rattle.planning.proofs.Spread.{place-inside, counts-few, raisedAt, spread-of-none, spread-next}
 use Rattle.task_record.specs.Numbers.{patternCount}
 use Rattle.task_record.specs.TaskOf.{taskOf, patternsOf}
@@ -32,7 +30,7 @@ use Rattle.tables.specs.Spread.{costsNamed, statesNamed, afterTables, ta
 use Rattle.tables.specs.declared.spread.TableSpread.{TableSpread}
 use Rattle.tables.specs.declared.spread.TableSpread.the-variants as answer
 use Rattle.tables.proofs.TableChain.{entries-length}
-use Rattle.tables.proofs.BuiltTables.{built-over-length}
+use Rattle.tables.proofs.BuiltTables.{built-over-length, chained-table}
 
 -- A row of which the first i counts are cleared.
 pub clearing-next : (row : List ℕ) (i : ℕ) → i < length row → take i row ≡ replicate i 0 → take (i + 1) (set row i 0) ≡ replicate (i + 1) 0
@@ -74,7 +72,7 @@ unfolding builtOver
 built-again r tabs new b e = let t = taskOf r in let n = entriesNeeded (t .sizes) (patternsOf r) in
     rw e (rw (built-over-length r tabs b) b, ap (λ rest. tables t (patternsOf r) ++ rest) (sym (drop-at (tables t (patternsOf r)) (drop n tabs) n (built-length t (patternsOf r)))))
 
--- The entries of the patterns before number k, and the table of pattern number k behind them.
+-- The entries of the patterns before number k.
 module _ (zs : List ℕ) where
   pub needed-next : (ps : List (List ℕ)) (k : ℕ) → k < length ps → entriesNeeded zs (take (k + 1) ps) ≡ entriesNeeded zs (take k ps) + stateCount zs (getD ps k [])
   unfolding entriesNeeded
@@ -88,14 +86,6 @@ module _ (zs : List ℕ) where
   needed-within [] (suc k) = omega arith
   needed-within (p ∷ ps) zero = omega arith
   needed-within (p ∷ ps) (suc k) = let h = needed-within ps k in omega arith
-
-pub chained-table : (t : Task) (ps : List (List ℕ)) (rest : List ℕ) (k : ℕ) → k < length ps →
-    take (stateCount (t .sizes) (getD ps k [])) (drop (entriesNeeded (t .sizes) (take k ps)) (tables t ps ++ rest)) ≡ map entryOf (table t (getD ps k []))
-unfolding tables chain entriesNeeded
-chained-table t [] rest k l = absurd (omega arith)
-chained-table t (p ∷ ps) rest zero l = rw (append-assoc (map entryOf (table t p)) (tables t ps) rest) (take-at (map entryOf (table t p)) (tables t ps ++ rest) (stateCount (t .sizes) p) (entries-length t p))
-chained-table t (p ∷ ps) rest (suc k) l = let m = entriesNeeded (t .sizes) (take k ps) in
-    rw (append-assoc (map entryOf (table t p)) (tables t ps) rest, ← (entries-length t p), drop-append-add (map entryOf (table t p)) (tables t ps ++ rest) m) (chained-table t ps rest k (omega arith))
 
 -- Entries of 16 bits read back as the costs that they are made of.
 read-back : (tab : List ℕ∞) → EntriesBelow (suc mostCost) tab → map costOf (map entryOf tab) ≡ tab
@@ -140,7 +130,6 @@ module _ (r tabs : List ℕ) (b : Buildable r (length tabs)) (built : tabs ≡ b
     part-few = rw (is, part, entries-length (taskOf r) pattern) few
 
     pub part-bounded : EntriesBelow (suc mostCost) (map costOf entries)
-    unfolding costsNamed
     part-bounded = rw (is, part, read-back (table (taskOf r) pattern) bounded) bounded
 
   pub states-named : statesNamed r p ≡ stateCount (taskOf r .sizes) pattern

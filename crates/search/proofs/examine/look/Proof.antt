@@ -2,11 +2,6 @@
 use borrow.Author.Needs.{needs}
 use Rattle.search.proofs.examine.look.Statement.{statement}
 use Rattle.search.proofs.examine.look.Tie as tie
-use Rattle.search.proofs.examine.look.Reads as reads
-use Rattle.search.proofs.examine.look.Lts as lts
-use Rattle.search.proofs.examine.open_state.Reads as open-state-reads
-use Rattle.search.proofs.guide.budget_in.Reads as budget-in-reads
-use Rattle.search.proofs.memory.recall.Reads as recall-reads
 use mathlib.Core.Path.{sym, _∙_}
 use native.Mathlib.Omega.{arith}
 use Rattle.search.specs.Guide.{actionsIn}

@@ -2,7 +2,7 @@
 use borrow.Author.Needs.{needs}
 use Rattle.tables.proofs.spread.count_entries.Statement.{statement}
 use Rattle.tables.proofs.spread.count_entries.Tie as tie
-use mathlib.Core.Path.{_≡_, refl, sym, ap, _∙_}
+use mathlib.Core.Path.{_≡_, sym, ap, _∙_}
 use mathlib.Core.List.{[], map}
 use Prim.Native.Nat.{_-_, _≤_, _<_}
 use native.Mathlib.Omega.{arith}

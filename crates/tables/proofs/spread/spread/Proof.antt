@@ -2,13 +2,11 @@
 use borrow.Author.Needs.{needs}
 use Rattle.tables.proofs.spread.spread.Statement.{statement}
 use Rattle.tables.proofs.spread.spread.Tie as tie
-use mathlib.Core.Path.{_≡_, sym, ap, _∙_}
+use mathlib.Core.Path.{sym, ap, _∙_}
 use mathlib.Core.List.{_++_}
-use native.Mathlib.Omega.{arith}
 use lib.ListN.{length, drop}
 use lib.Seq.{length-take-le}
 use Rattle.planning.specs.Spread.{rowSize}
-use Rattle.tables.specs.RecordTables.{builtOver}
 use Rattle.tables.specs.Spread.{whereCounted}
 use Rattle.tables.specs.declared.spread.TableSpread.the-variants as answer
 use Rattle.tables.proofs.BuiltTables.{fits-buildable}
