@@ -8,7 +8,7 @@ use native.Mathlib.Nat.{zero-add}
 use lib.ListN.{length, get_or}
 use Rattle.planning.specs.Task.{action_at, no_action}
 use Rattle.planning.specs.Pattern.{affects_pattern, Verdict, additive, conflict}
-use Rattle.planning.proofs.Finite.{length-tabulate, get_d_tabulate}
+use Rattle.planning.proofs.Finite.{length-tabulate, get_or_tabulate}
 use Rattle.task_record.specs.Layout.{at_pattern}
 use Rattle.task_record.specs.Numbers.{action_count, pattern_count}
 use Rattle.task_record.specs.TaskOf.{cells_at, action_of, task_of, patterns_of}
@@ -21,7 +21,7 @@ module _ (r : List ℕ) where
 
   pub pattern_at : (p : ℕ) → p < pattern_count r → get_or (patterns_of r) p [] ≡ cells_at r (at_pattern p)
   unfolding patterns_of
-  pattern_at p l = get_d_tabulate (λ p. cells_at r (at_pattern p)) 0 (pattern_count r) p [] l ∙ ap (λ k. cells_at r (at_pattern k)) (zero-add p)
+  pattern_at p l = get_or_tabulate (λ p. cells_at r (at_pattern p)) 0 (pattern_count r) p [] l ∙ ap (λ k. cells_at r (at_pattern k)) (zero-add p)
 
   pub actions_length : length (task_of r).actions ≡ action_count r
   unfolding task_of
@@ -29,7 +29,7 @@ module _ (r : List ℕ) where
 
   pub action_at_lem : (m : ℕ) → m < action_count r → action_at (task_of r) m ≡ action_of r m
   unfolding task_of
-  action_at_lem m l = get_d_tabulate (action_of r) 0 (action_count r) m no_action l ∙ ap (action_of r) (zero-add m)
+  action_at_lem m l = get_or_tabulate (action_of r) 0 (action_count r) m no_action l ∙ ap (action_of r) (zero-add m)
 
   -- The affected patterns of action m from number p on, and the verdict on the actions from number m on.
   abbrev pub affected_from : ℕ → ℕ → List ℕ

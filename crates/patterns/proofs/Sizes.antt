@@ -15,7 +15,7 @@ use Rattle.task_record.specs.TaskOf.{cells_at, task_of}
 use Rattle.task_record.specs.Window.{Sixteen}
 use Rattle.task_record.proofs.Soundness.{sound_length}
 use Rattle.task_record.proofs.SoundTask.{variables_right, patterns_right, cell_of_part, length_of_part, sizes_length, sound_well_formed}
-use Rattle.planning.proofs.Finite.{length-tabulate, get_d_tabulate}
+use Rattle.planning.proofs.Finite.{length-tabulate, get_or_tabulate}
 use Rattle.patterns.specs.Space.{all_sizes}
 use Rattle.patterns.proofs.Weights.{Positive}
 
@@ -30,13 +30,13 @@ state_length (z ∷ zs) (x ∷ s) h = let e = state_length zs s (and_r (ltb x z)
 -- The sizes of sixteen variables, one by one and as a list.
 pub sixteen_sizes : (r all : List ℕ) → all ≡ all_sizes r → Sixteen (size_of r) all
 unfolding all_sizes
-sixteen_sizes r all e = record { whole = ap length e ∙ length-tabulate (size_of r) 0 16; cell = λ v l. ap (λ x. get_or x v 0) e ∙ get_d_tabulate (size_of r) 0 16 v 0 l ∙ ap (size_of r) (omega arith) }
+sixteen_sizes r all e = record { whole = ap length e ∙ length-tabulate (size_of r) 0 16; cell = λ v l. ap (λ x. get_or x v 0) e ∙ get_or_tabulate (size_of r) 0 16 v 0 l ∙ ap (size_of r) (omega arith) }
 
 pub sixteen_are_sizes : (r all : List ℕ) → Sixteen (size_of r) all → all ≡ all_sizes r
 unfolding all_sizes
 sixteen_are_sizes r all s =
     ext_get_or 0 all (all_sizes r) (s.whole ∙ sym (length-tabulate (size_of r) 0 16))
-    (λ i l. let m : i < 16 = rw s.whole at l in s.cell i m ∙ sym (get_d_tabulate (size_of r) 0 16 i 0 m ∙ ap (size_of r) (omega arith)))
+    (λ i l. let m : i < 16 = rw s.whole at l in s.cell i m ∙ sym (get_or_tabulate (size_of r) 0 16 i 0 m ∙ ap (size_of r) (omega arith)))
 
 module _ (r : List ℕ) (sound : Sound r) where
   pub variables_few : variable_count r ≤ 16

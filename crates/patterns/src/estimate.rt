@@ -9,7 +9,7 @@ use crate::verdict::{Additivity, decide};
 use task_record::record::{RecordCheck, check_record};
 
 // Number and second number of the refusal.
-#[derive(Drop)]
+#[derive(Clone, Copy)]
 pub enum EstimateCheck {
     Ready,
     Refused(u64, u64),

@@ -1,5 +1,7 @@
 // What the patterns of a record say without a build: the additivity verdict (`verdict`), room for their tables (`space`, `estimate`) and the
 // value of a state from lent tables (`value`).
+#![tactic(auto)]
+
 pub mod estimate;
 mod places;
 pub mod space;

@@ -5,7 +5,7 @@ ghost use Rattle.planning.specs.Finite.{All};
 ghost use Rattle.planning.specs.Table.{index, state_count};
 
 // Where the entry of a state stands in its pattern's table, and how many entries the table has.
-#[derive(Drop)]
+#[derive(Clone, Copy)]
 pub(crate) struct Place {
     pub index: usize,
     pub states: usize,

@@ -11,7 +11,7 @@ use task_record::layout::AT_SIZES;
 use task_record::record::{RecordCheck, check_record};
 
 // The entries needed; or number and second number of the refusal.
-#[derive(Drop)]
+#[derive(Clone, Copy)]
 pub enum TableCheck {
     Fits(u64),
     Refused(u64, u64),

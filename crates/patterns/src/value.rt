@@ -20,7 +20,7 @@ use task_record::layout::AT_SIZES;
 use task_record::record::{StateCheck, check_state};
 
 // The sum of the entries; or number and second number of the refusal.
-#[derive(Drop)]
+#[derive(Clone, Copy)]
 pub enum StateValue {
     Finite(u64),
     Infinite,

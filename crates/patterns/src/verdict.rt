@@ -19,7 +19,7 @@ use task_record::layout::{ACTION_SIZE, AT_ACTIONS, IN_OUTCOMES};
 use task_record::record::{RecordCheck, check_record};
 
 // The lowest action that affects two patterns, with the lowest two; or number and second number of the refusal.
-#[derive(Drop)]
+#[derive(Clone, Copy)]
 pub enum Additivity {
     Additive,
     Conflict(u64, u64, u64),

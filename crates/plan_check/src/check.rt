@@ -14,7 +14,7 @@ use task_record::layout::AT_GOAL;
 use task_record::record::{StateCheck, check_state};
 
 // Cost and length of a strong plan; or number and second number of the refusal.
-#[derive(Drop)]
+#[derive(Clone, Copy)]
 pub enum PlanCheck {
     Passed(u64, u64),
     Refused(u64, u64),

@@ -6,7 +6,7 @@ ghost use Rattle.plan_check.specs.ForC.{numbers_of, five_numbers};
 use crate::check::{PlanCheck, check_plan};
 
 #[repr(C)]
-#[derive(Drop)]
+#[derive(Clone, Copy)]
 pub struct PlannerAnswer {
     pub number: u64,
     pub kind: u64,

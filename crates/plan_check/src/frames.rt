@@ -11,7 +11,7 @@ use task_record::layout::{ACTION_SIZE, AT_ACTIONS, IN_OUTCOMES, ROW_SIZE};
 
 // The state in which the action was taken, the offset of the next outcome's cells, the moves on the path after the action, and how many
 // outcomes are to come.
-#[derive(Drop)]
+#[derive(Clone, Copy)]
 pub(crate) struct Frame {
     pub(crate) state: [u8; 16],
     pub(crate) next: usize,

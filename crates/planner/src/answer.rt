@@ -4,7 +4,7 @@ ghost use Rattle.planning.specs.Numbers.{refusal, answered};
 ghost use Rattle.planner.specs.ForC.{five_numbers};
 
 #[repr(C)]
-#[derive(Drop)]
+#[derive(Clone, Copy)]
 pub struct PlannerAnswer {
     pub number: u64,
     pub kind: u64,

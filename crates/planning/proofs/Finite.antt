@@ -97,11 +97,11 @@ unfolding tabulate
 length-tabulate f k zero = refl
 length-tabulate f k (suc n) = ap suc (length-tabulate f (suc k) n)
 
-pub get_d_tabulate : {A : Type 0} (f : ℕ → A) (k n i : ℕ) (d : A) → i < n → get_or (tabulate f k n) i d ≡ f (k + i)
+pub get_or_tabulate : {A : Type 0} (f : ℕ → A) (k n i : ℕ) (d : A) → i < n → get_or (tabulate f k n) i d ≡ f (k + i)
 unfolding tabulate
-get_d_tabulate f k zero i d l = absurd (omega arith)
-get_d_tabulate f k (suc n) zero d l = ap f (omega arith)
-get_d_tabulate f k (suc n) (suc i) d l = get_d_tabulate f (suc k) n i d (omega arith) ∙ ap f (omega arith)
+get_or_tabulate f k zero i d l = absurd (omega arith)
+get_or_tabulate f k (suc n) zero d l = ap f (omega arith)
+get_or_tabulate f k (suc n) (suc i) d l = get_or_tabulate f (suc k) n i d (omega arith) ∙ ap f (omega arith)
 
 pub some_tabulate : {A : Type 0} (f : ℕ → A) (k n i : ℕ) → i < n → Some (λ x. x ≡ f (k + i)) (tabulate f k n)
 unfolding tabulate
@@ -109,10 +109,10 @@ some_tabulate f k zero i l = absurd (omega arith)
 some_tabulate f k (suc n) zero l = inl (ap f (omega arith))
 some_tabulate f k (suc n) (suc i) l = inr (some_imp (λ x e. e ∙ ap f (omega arith)) (tabulate f (suc k) n) (some_tabulate f (suc k) n i (omega arith)))
 
-pub get_d_map : {A B : Type 0} (f : A → B) (xs : List A) (i : ℕ) (d : A) (e : B) → i < length xs → get_or (map f xs) i e ≡ f (get_or xs i d)
-get_d_map f [] i d e h = absurd (omega arith)
-get_d_map f (x ∷ xs) zero d e h = refl
-get_d_map f (x ∷ xs) (suc i) d e h = get_d_map f xs i d e (omega arith)
+pub get_or_map : {A B : Type 0} (f : A → B) (xs : List A) (i : ℕ) (d : A) (e : B) → i < length xs → get_or (map f xs) i e ≡ f (get_or xs i d)
+get_or_map f [] i d e h = absurd (omega arith)
+get_or_map f (x ∷ xs) zero d e h = refl
+get_or_map f (x ∷ xs) (suc i) d e h = get_or_map f xs i d e (omega arith)
 
 pub map-map : {A B C : Type 0} (f : A → B) (g : B → C) (xs : List A) → map g (map f xs) ≡ map (λ x. g (f x)) xs
 map-map f g [] = refl

@@ -11,7 +11,7 @@ use Rattle.planning.specs.System.{Invariant}
 use Rattle.planning.specs.Task.{Action, Task, meets_cell, meets, apply_cell, apply, permits, action_at, no_action, system, in_sizes, fits_sizes, State, WellFormedAction, WellFormed}
 use Rattle.planning.specs.Pattern.{keep, project, mask, mask_action, abstraction, AbstractState, affects, affects_pattern}
 use Rattle.planning.proofs.Test.{and_in, and_l, and_r, not_or, by_test}
-use Rattle.planning.proofs.Finite.{all_of, all_imp, all_zip, all_map, some_map, not_some_of, get_d_map, map-map, map_ext}
+use Rattle.planning.proofs.Finite.{all_of, all_imp, all_zip, all_map, some_map, not_some_of, get_or_map, map-map, map_ext}
 use Rattle.planning.proofs.Task.{task_invariant}
 use Rattle.planning.proofs.Projection.{Projection}
 
@@ -115,7 +115,7 @@ mask_stays_abstract p o s e = project-apply p (mask p o) s ∙ rw (keep_twice 25
 -- The actions of the abstraction are those of the task, masked.
 pub action_masked : (p : List ℕ) (q : Action → ℕ) (t : Task) (m : ℕ) → m < length t.actions → action_at (abstraction p q t) m ≡ mask_action p q (action_at t m)
 unfolding abstraction
-action_masked p q t m l = get_d_map (mask_action p q) t.actions m no_action no_action l
+action_masked p q t m l = get_or_map (mask_action p q) t.actions m no_action no_action l
 
 pub abstraction_actions : (p : List ℕ) (q : Action → ℕ) (t : Task) → length (abstraction p q t).actions ≡ length t.actions
 unfolding abstraction

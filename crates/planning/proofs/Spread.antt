@@ -16,7 +16,7 @@ use Rattle.planning.specs.Extended.{ℕ∞, fin, inf}
 use Rattle.planning.specs.Table.{EntriesBelow, most_cost}
 use Rattle.planning.specs.Spread.{same_cost, states_with, row_size, spread, place_of}
 use Rattle.planning.proofs.Test.{T_true, not_T_false, false_not_T, by_test}
-use Rattle.planning.proofs.Finite.{length-tabulate, get_d_tabulate}
+use Rattle.planning.proofs.Finite.{length-tabulate, get_or_tabulate}
 
 same_cost_lem : (a b : ℕ∞) → T (same_cost a b) → a ≡ b
 unfolding same_cost
@@ -66,7 +66,7 @@ module _ (tab : List ℕ∞) where
   unfolding spread
   finite_count v l = let row = tabulate (λ v. states_with (fin v) tab) 0 (suc most_cost) in
       get_or-append row (states_with inf tab ∷ []) 0 v (rw finite_length (omega arith))
-      ∙ get_d_tabulate (λ v. states_with (fin v) tab) 0 (suc most_cost) v 0 (omega arith) ∙ ap (λ k. states_with (fin k) tab) (zero-add v)
+      ∙ get_or_tabulate (λ v. states_with (fin v) tab) 0 (suc most_cost) v 0 (omega arith) ∙ ap (λ k. states_with (fin k) tab) (zero-add v)
 
   pub infinite_count : get_or (spread tab) (suc most_cost) 0 ≡ states_with inf tab
   unfolding spread

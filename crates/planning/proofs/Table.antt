@@ -18,7 +18,7 @@ use Rattle.planning.specs.Task.{Action, Task, system, no_action, in_sizes, State
 use Rattle.planning.specs.Pattern.{keep, project, mask_action, abstraction, AbstractState}
 use Rattle.planning.specs.Table.{index_from, index, state_count, state_at, entry_at, largest_weight, table_round, table_after, rounds_enough, weighted_table, table, entry_of, cost_of, tables, EntriesBelow, value, estimate, Small, most_cost}
 use Rattle.planning.proofs.Test.{false_not_T, and_in, and_l, and_r, by_test, not_equal}
-use Rattle.planning.proofs.Finite.{all_imp, all_at, length-tabulate, get_d_tabulate, some_tabulate, get_d_map}
+use Rattle.planning.proofs.Finite.{all_imp, all_at, length-tabulate, get_or_tabulate, some_tabulate, get_or_map}
 use Rattle.planning.proofs.Extended.{infinite_below, infinite_above}
 use Rattle.planning.proofs.System.{bellman_ext}
 use Rattle.planning.proofs.Bound.{cost_is_limit}
@@ -129,13 +129,13 @@ module _ (t : Task) (p : List ℕ) (q : Action → ℕ) where
     after_is_iterate : (n : ℕ) (s : List ℕ) → AbstractState t p s → entry_at t.sizes p (table_after t p q n) s ≡ iterate (system (abstraction p q t)) n s
     unfolding entry_at table_after table_round iterate
     after_is_iterate zero s o = get_or-replicate (state_count t.sizes p) (index t.sizes p s) (fin 0) inf (index_below t.sizes p s o.0)
-    after_is_iterate (suc n) s o = get_d_tabulate _ 0 (state_count t.sizes p) (index t.sizes p s) inf (index_below t.sizes p s o.0)
+    after_is_iterate (suc n) s o = get_or_tabulate _ 0 (state_count t.sizes p) (index t.sizes p s) inf (index_below t.sizes p s o.0)
         ∙ rw (zero-add (index t.sizes p s), state_at-index t.sizes p s o.0, o.1)
         (bellman_ext (system (abstraction p q t)) (AbstractState t p) (abstraction_invariant t w p q positive) _ _ (after_is_iterate n) s o)
 
     entry_within : (s : List ℕ) → AbstractState t p s → entry_at t.sizes p (weighted_table t p q) s ≡ cost_within (system (abstraction p q t)) (rounds_enough t p q) s
     unfolding entry_at weighted_table cost_within
-    entry_within s o = get_d_map (infinite_from (rounds_enough t p q)) (table_after t p q (rounds_enough t p q)) (index t.sizes p s) inf inf
+    entry_within s o = get_or_map (infinite_from (rounds_enough t p q)) (table_after t p q (rounds_enough t p q)) (index t.sizes p s) inf inf
         (rw (after-length (rounds_enough t p q)) (index_below t.sizes p s o.0))
         ∙ ap (infinite_from (rounds_enough t p q)) (after_is_iterate (rounds_enough t p q) s o)
 
@@ -169,7 +169,7 @@ finite_below n x k e = by_test (leb k n)
 pub entries_bounded : (t : Task) (p : List ℕ) (q : Action → ℕ) → EntriesBelow (suc ((state_count t.sizes p - 1) * largest_weight t.actions q)) (weighted_table t p q)
 unfolding weighted_table rounds_enough infinite_from
 entries_bounded t p q i k e = finite_below ((state_count t.sizes p - 1) * largest_weight t.actions q) (get_or (table_after t p q (rounds_enough t p q)) i inf) k
-    (sym (ListN.get_d_map (infinite_from (rounds_enough t p q)) (table_after t p q (rounds_enough t p q)) i inf) ∙ e)
+    (sym (ListN.get_or-map (infinite_from (rounds_enough t p q)) (table_after t p q (rounds_enough t p q)) i inf) ∙ e)
 
 largest_weight_at_most : (rest : List Action) (q : Action → ℕ) (n : ℕ) → All (λ a. q a ≤ n) rest → largest_weight rest q ≤ n
 unfolding largest_weight
@@ -195,7 +195,7 @@ module _ (t : Task) (s : List ℕ) (o : State t s) where
   value_entry p h more = rw (
     index_projected t.sizes p s,
     get_or-append (map entry_of (table t p)) more 65535 (index t.sizes p s) (rw (length-map (table t p) entry_of, table-length t p (λ a. a.weight)) (index_below t.sizes p s o)),
-    ListN.get_d_map entry_of (table t p) (index t.sizes p s) inf,
+    ListN.get_or-map entry_of (table t p) (index t.sizes p s) inf,
   )
       (cost_of_entry (get_or (table t p) (index t.sizes p s) inf) (h (index t.sizes p s)))
 
@@ -205,12 +205,12 @@ module _ (t : Task) (s : List ℕ) (o : State t s) where
       rw (← l) (drop-append_seam (map entry_of (table t p)) more)
 
   -- The value read from tables whose finite entries are below 65,535, whatever follows them, is the summed estimate.
-  pub value_of-entries-below : (ps : List (List ℕ)) → All (λ p. EntriesBelow 65535 (table t p)) ps → (rest : List ℕ) → value t.sizes ps (tables t ps ++ rest) s ≡ estimate t ps s
+  pub value_of_entries_below : (ps : List (List ℕ)) → All (λ p. EntriesBelow 65535 (table t p)) ps → (rest : List ℕ) → value t.sizes ps (tables t ps ++ rest) s ≡ estimate t ps s
   unfolding value tables estimate chain
-  value_of-entries-below [] h rest = refl
-  value_of-entries-below (p ∷ ps) h rest = rw (append_assoc (map entry_of (table t p)) (tables t ps) rest, value_entry p h.0 (tables t ps ++ rest), value-drop p (tables t ps ++ rest), value_of-entries-below ps h.1 rest)
+  value_of_entries_below [] h rest = refl
+  value_of_entries_below (p ∷ ps) h rest = rw (append_assoc (map entry_of (table t p)) (tables t ps) rest, value_entry p h.0 (tables t ps ++ rest), value-drop p (tables t ps ++ rest), value_of_entries_below ps h.1 rest)
 
   -- So it is where each pattern has at most 4,096 states and each action counts 1 at most.
   pub value_of_built : All (λ a. a.weight ≤ 1) t.actions → (ps : List (List ℕ)) → Small t ps → (rest : List ℕ) → value t.sizes ps (tables t ps ++ rest) s ≡ estimate t ps s
   unfolding Small
-  value_of_built u ps h rest = value_of-entries-below ps (all_imp (λ p l i k e. let b = light_entries_bounded t u p l i k e in omega arith) ps h) rest
+  value_of_built u ps h rest = value_of_entries_below ps (all_imp (λ p l i k e. let b = light_entries_bounded t u p l i k e in omega arith) ps h) rest

@@ -2,7 +2,7 @@
 ghost use Rattle.std.specs.Prelude.{◌≡◌, cond, not, ◌&&◌, ◌||◌, ◌≤◌, leb, eqb, length, get_or};
 ghost use Rattle.reader.specs.Text.{digits, value, number_of};
 
-#[derive(Drop)]
+#[derive(Clone, Copy)]
 pub enum Decimal {
     Value(usize),
     Malformed,

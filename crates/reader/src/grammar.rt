@@ -18,7 +18,7 @@ use task_record::layout::{
 };
 
 // What a line came to: the line that is due next, or the number of its fault.
-#[derive(Drop)]
+#[derive(Clone, Copy)]
 pub enum Taken {
     Next(Due),
     Faulty(u64),

@@ -1,4 +1,6 @@
 // The reader: a text is read into a record. It alone knows the text's grammar; where the record's cells stand it has from `task_record`.
+#![tactic(auto)]
+
 mod blank;
 mod decimal;
 mod grammar;

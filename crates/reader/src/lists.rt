@@ -9,14 +9,14 @@ use crate::pieces::{COLON, COMMA, find, find_either};
 use crate::store::{cell_at, put};
 use task_record::layout::{AT_SIZES, AT_VARIABLES, UNNAMED};
 
-#[derive(Drop)]
+#[derive(Clone, Copy)]
 pub enum Pair {
     Named(usize, usize),
     Ill,
 }
 
 // variable:value pairs, the values of all variables, or variables.
-#[derive(Drop)]
+#[derive(Clone, Copy)]
 pub enum Kind {
     Pairs,
     Values,
@@ -24,7 +24,7 @@ pub enum Kind {
 }
 
 // What the pieces so far say, beside the cells: whether each had the form, whether each kept the list's rules, the lowest variable that may come.
-#[derive(Drop)]
+#[derive(Clone, Copy)]
 pub struct Progress {
     pub form: bool,
     pub list: bool,
@@ -32,7 +32,7 @@ pub struct Progress {
 }
 
 // What the first piece of a list says, and its length.
-#[derive(Drop)]
+#[derive(Clone, Copy)]
 pub struct Piece {
     pub pair: Pair,
     pub len: usize,

@@ -7,7 +7,7 @@ use crate::store::{cell_at, wide};
 use task_record::layout::{AT_ACTION_COUNT, AT_PATTERN_COUNT, AT_VARIABLES};
 
 // The line that is due, by its key: of a size the variable, of the lines of an action its number, of an eff its place, of a pattern its number.
-#[derive(Drop)]
+#[derive(Clone, Copy)]
 pub enum Due {
     Vars,
     Size(u8),

@@ -8,14 +8,14 @@ use crate::lists::Kind;
 use crate::pieces::COLON;
 
 // A number and the place behind it, or 0 for the place.
-#[derive(Drop)]
+#[derive(Clone, Copy)]
 pub struct Short {
     pub value: usize,
     pub end: usize,
 }
 
 // A variable and its value, and the place behind them, or 0 for the place.
-#[derive(Drop)]
+#[derive(Clone, Copy)]
 pub struct Item {
     pub variable: usize,
     pub value: usize,

@@ -14,7 +14,7 @@ use crate::store::{fill, put_cells};
 use task_record::layout::{RECORD_SIZE, UNNAMED};
 
 // What a call answers: the text is read, or a refusal's number with its second number.
-#[derive(Drop)]
+#[derive(Clone, Copy)]
 pub enum Reading {
     Read,
     Refused(u64, u64),

@@ -3,13 +3,13 @@ use Rattle.std.proofs.Common.{◌≡◌, ℕ, zero, suc, ◌+◌, ◌-◌, ◌<�
 use native.Mathlib.Decide.{dec_lt, ℕ_discrete}
 use lib.ListN.{get_or-append}
 use Rattle.planning.specs.Finite.{tabulate}
-use Rattle.planning.proofs.Finite.{length-tabulate, get_d_tabulate}
+use Rattle.planning.proofs.Finite.{length-tabulate, get_or_tabulate}
 use Rattle.search.specs.Buffer.{Keeps, Holds, filled}
 
 -- A list is a table of f if it is so at each place.
 pub tabled : (f : ℕ → ℕ) (l : List ℕ) (n : ℕ) → length l ≡ n → ((j : ℕ) → j < n → get_or l j 0 ≡ f j) → l ≡ tabulate f 0 n
 tabled f l n e h =
-    ext_get_or 0 l _ (e ∙ sym (length-tabulate f 0 n)) (λ j u. h j (omega arith) ∙ sym (get_d_tabulate f 0 n j 0 (omega arith) ∙ ap f (zero-add j)))
+    ext_get_or 0 l _ (e ∙ sym (length-tabulate f 0 n)) (λ j u. h j (omega arith) ∙ sym (get_or_tabulate f 0 n j 0 (omega arith) ∙ ap f (zero-add j)))
 
 -- A buffer on the way: below `from` as it was, from there to i the byte x.
 pub record Filling (from x : ℕ) (old new : List ℕ) (i : ℕ) : Type 0 where
@@ -90,7 +90,7 @@ module _ (at end : ℕ) (mid new : List ℕ) (p q : List ℕ) (l : length new �
   holds_joined j u v = joined_at j (dec_lt j (length p)) u v
 
 -- Inside a list the default does not matter.
-pub get_d_any : (l : List ℕ) (i a b : ℕ) → i < length l → get_or l i a ≡ get_or l i b
-get_d_any [] i a b h = absurd (omega arith)
-get_d_any (x ∷ l) zero a b h = refl
-get_d_any (x ∷ l) (suc i) a b h = get_d_any l i a b (omega arith)
+pub get_or_any : (l : List ℕ) (i a b : ℕ) → i < length l → get_or l i a ≡ get_or l i b
+get_or_any [] i a b h = absurd (omega arith)
+get_or_any (x ∷ l) zero a b h = refl
+get_or_any (x ∷ l) (suc i) a b h = get_or_any l i a b (omega arith)

@@ -9,7 +9,7 @@ use Rattle.planning.specs.System.{System}
 use Rattle.planning.specs.Plan.{Plan, encode}
 use Rattle.planning.specs.Search.{succeeded, failed, stopped, examination, found, over, spent, none, end_round, rounds, search_from, search, plan_bytes, plan_buffer}
 use Rattle.planning.specs.Search as planning
-use Rattle.planning.proofs.Finite.{length-tabulate, get_d_tabulate}
+use Rattle.planning.proofs.Finite.{length-tabulate, get_or_tabulate}
 use Rattle.planning.proofs.Shift.{succeeded_anywhere}
 use Rattle.tables.specs.Packed.{packed_system}
 use Rattle.search.specs.declared.estimate.Value.{Value}
@@ -116,7 +116,7 @@ module _ (p mid : List ℕ) (h : Holds p 0 mid) where
       (λ j u. at_each j (omega (arith, length-tabulate (λ i. cond (ltb i (length p)) (get_or mid i 0) 255) 0 (length mid))))
     where
       at_each : (j : ℕ) → j < length mid → get_or (tabulate (λ i. cond (ltb i (length p)) (get_or mid i 0) 255) 0 (length mid)) j 0 ≡ get_or (take (length mid) (p ++ replicate (length mid) 255)) j 0
-      at_each j u = get_d_tabulate _ 0 (length mid) j 0 u ∙ ap (λ (n : ℕ). cond (ltb n (length p)) (get_or mid n 0) 255) (zero-add j) ∙ filled-byte j (dec_lt j (length p)) u ∙ sym (get_or-take (length mid) _ j 0 u)
+      at_each j u = get_or_tabulate _ 0 (length mid) j 0 u ∙ ap (λ (n : ℕ). cond (ltb n (length p)) (get_or mid n 0) 255) (zero-add j) ∙ filled-byte j (dec_lt j (length p)) u ∙ sym (get_or-take (length mid) _ j 0 u)
 
 pub filled_whole : (mid : List ℕ) → filled 0 255 mid ≡ replicate (length mid) 255
 filled_whole mid = filled-after [] mid (holds_nothing 0 mid) ∙ take_all (length mid) (replicate (length mid) 255) (omega (arith, length-replicate {A = ℕ} (length mid) 255))

@@ -8,7 +8,7 @@ use Rattle.planning.specs.Finite.{Some, some_of, any_from}
 use Rattle.planning.specs.Task.{no_action, action_at}
 use Rattle.planning.specs.Pattern.{affects, affects_pattern, affected_from, Additive}
 use Rattle.planning.proofs.Test.{by_test}
-use Rattle.planning.proofs.Finite.{all_at, not_some_of, length-tabulate, get_d_tabulate}
+use Rattle.planning.proofs.Finite.{all_at, not_some_of, length-tabulate, get_or_tabulate}
 use Rattle.planning.proofs.Verdict.{affected_all}
 use Rattle.tables.specs.Packed.{pack_by, picking, leaving, setting, outcome_count, keep_mask, set_value, compiled}
 use Rattle.tables.specs.Steps.{weigh, weights_from}
@@ -132,7 +132,7 @@ module _ (r : List ℕ) (sound : Sound r) where
 
   outcome_is : (m k : ℕ) → m < action_count r → k < record-numbers.outcomeCount r m → get_or (action_at (task_of r) m).outcomes k [] ≡ cells_at r (at_outcome m k)
   unfolding action_of
-  outcome_is m k l b = rw (action_at_lem r m l) (get_d_tabulate (λ j. cells_at r (at_outcome m j)) 0 (record-numbers.outcomeCount r m) k [] b ∙ ap (λ j. cells_at r (at_outcome m j)) (zero-add k))
+  outcome_is m k l b = rw (action_at_lem r m l) (get_or_tabulate (λ j. cells_at r (at_outcome m j)) 0 (record-numbers.outcomeCount r m) k [] b ∙ ap (λ j. cells_at r (at_outcome m j)) (zero-add k))
 
   outcomes_number : (m : ℕ) → m < action_count r → length (action_at (task_of r) m).outcomes ≡ record-numbers.outcomeCount r m
   unfolding action_of

@@ -15,7 +15,7 @@ use task_record::cells::budget;
 
 // Found with cost, count and the plan's length; over with the count; spent with round and count; none with the count; or number and second
 // number of the refusal.
-#[derive(Drop)]
+#[derive(Clone, Copy)]
 pub enum SearchAnswer {
     Found(u64, u64, u64),
     Over(u64),

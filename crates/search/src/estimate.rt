@@ -60,7 +60,7 @@ pub(crate) fn cost_at(guide: &[u32; 80], tables: &[u16], p: usize, i: usize) -> 
     cost(entry_at(tables, place(guide[p]) + i))
 }
 
-#[derive(Drop)]
+#[derive(Clone, Copy)]
 pub(crate) enum Value {
     Finite(u64),
     Infinite,

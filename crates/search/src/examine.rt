@@ -18,7 +18,7 @@ use crate::memory::{note, recall};
 use tables::applying::applying;
 
 // How an examination begins.
-#[derive(Drop)]
+#[derive(Clone, Copy)]
 pub(crate) enum Opening {
     Spent,
     Arrived,
@@ -27,7 +27,7 @@ pub(crate) enum Opening {
 }
 
 // How an examination ends, with the count; a success also with the size of its plan and the plan's first byte.
-#[derive(Drop)]
+#[derive(Clone, Copy)]
 pub(crate) enum Ending {
     Stopped(u32),
     Failed(u32),
@@ -35,14 +35,14 @@ pub(crate) enum Ending {
 }
 
 // What is seen of a state at once: how its examination ends, or that it opens.
-#[derive(Drop)]
+#[derive(Clone, Copy)]
 pub(crate) enum Glance {
     Decided(Ending),
     Open,
 }
 
 // A state to examine: its value, the depth left and the count so far.
-#[derive(Drop)]
+#[derive(Clone, Copy)]
 pub(crate) struct Visit {
     pub s: u64,
     pub value: u64,

@@ -1,5 +1,7 @@
 // The search of a record's task (`entry`): its rows, the estimate of a packed state, examining states and outcomes (`examine`), what is remembered of
 // them (`memory`), rounds, and writing the plan that was found (`write`).
+#![tactic(auto)]
+
 mod buffer;
 mod byte_rows;
 mod carried;

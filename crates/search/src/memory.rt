@@ -6,7 +6,7 @@ ghost use Rattle.std.specs.Prelude.{◌≡◌, ◌<◌, ◌≤◌, true, length,
 ghost use Rattle.search.specs.Memory.{said, result_word, Says, Noted};
 
 // After how many examinations a state ends, the size of its plan and the plan's first byte; 0 examinations: that is not known.
-#[derive(Drop)]
+#[derive(Clone, Copy)]
 pub(crate) struct Recalled {
     pub made: u32,
     pub size: u32,

@@ -27,7 +27,7 @@ const MOST: u32 = 1024;
 
 // How the rounds end: found with cost, count and the size of the plan; over with the count; spent with round and count. Or they are not
 // finished: the next round and the count.
-#[derive(Drop)]
+#[derive(Clone, Copy)]
 pub(crate) enum Conclusion {
     Found(u32, u32, u32),
     Over(u32),
@@ -37,7 +37,7 @@ pub(crate) enum Conclusion {
 
 // The answer with a buffer of a given length: found with cost, count and the number of bytes; too long with count and number of bytes; over
 // with the count; spent with round and count; none with the count.
-#[derive(Drop)]
+#[derive(Clone, Copy)]
 pub(crate) enum Answer {
     Found(u32, u32, usize),
     TooLong(u32, usize),
@@ -47,7 +47,7 @@ pub(crate) enum Answer {
 }
 
 // The answer, or the next round and the count of rounds that are not finished.
-#[derive(Drop)]
+#[derive(Clone, Copy)]
 pub(crate) enum Reply {
     Ended(Answer),
     Unfinished(u32, u32),

@@ -8,7 +8,7 @@ ghost use Rattle.search.specs.Written.{Copied};
 use crate::memory::{note, recall};
 
 // Where a plan's bytes stand, and how many there are; 0: that is not known.
-#[derive(Drop)]
+#[derive(Clone, Copy)]
 pub(crate) struct Passage {
     pub from: usize,
     pub size: usize,

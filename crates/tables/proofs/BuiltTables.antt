@@ -9,7 +9,7 @@ use Rattle.planning.specs.Plan.{Plan, Strong, cost}
 use Rattle.planning.specs.Task.{Task, WellFormed, system}
 use Rattle.planning.specs.Pattern.{Additive, abstraction}
 use Rattle.planning.specs.Table.{state_count, state_at, table, tables, entry_of, cost_of, estimate, Small}
-use Rattle.planning.proofs.Finite.{all_imp, all_at, get_d_map}
+use Rattle.planning.proofs.Finite.{all_imp, all_at, get_or_map}
 use Rattle.planning.proofs.Table.{table-length, table_entry, light_entries_bounded, cost_of_entry}
 use Rattle.task_record.specs.Record.{Sound}
 use Rattle.task_record.specs.State.{state_check}
@@ -80,7 +80,7 @@ module _ (t : Task) where
   chained_entry ps rest k i l h = let begin = entries_needed t.sizes (take k ps) in let states = state_count t.sizes (get_or ps k []) in
       sym (get_or-take states (drop begin (tables t ps ++ rest)) i 65535 h ∙ get_or-drop begin (tables t ps ++ rest) i 65535)
       ∙ ap (λ l. get_or l i 65535) (chained_table ps rest k l)
-      ∙ get_d_map entry_of (table t (get_or ps k [])) i inf 65535 (rw (table-length t (get_or ps k []) (λ a. a.weight)) h)
+      ∙ get_or_map entry_of (table t (get_or ps k [])) i inf 65535 (rw (table-length t (get_or ps k []) (λ a. a.weight)) h)
 
 module _ (r tabs : List ℕ) where
   -- A build that refuses nothing.

@@ -5,7 +5,7 @@ use lib.ListN.{get_or-replicate}
 use Rattle.planning.specs.Finite.{chain}
 use Rattle.planning.specs.Task.{Action}
 use Rattle.planning.proofs.Test.{by_test}
-use Rattle.planning.proofs.Finite.{length-tabulate, get_d_tabulate}
+use Rattle.planning.proofs.Finite.{length-tabulate, get_or_tabulate}
 use Rattle.task_record.specs.Layout.{at_precondition, at_outcome}
 use Rattle.task_record.specs.Numbers.{outcome_count}
 use Rattle.task_record.specs.TaskOf.{cells_at, action_of}
@@ -63,7 +63,7 @@ module _ (r : List ℕ) (m : ℕ) (few : outcome_count r m ≤ 8) where
   some_word : (k i : ℕ) → k < count → i < 2 → get_or (action_words action) (4 + (2 * k + i)) 0 ≡ get_or (outcome_words (outcome k)) i 0
   unfolding action_of
   some_word k i l b = outcome_word_lem action k i (omega (arith, outcomes_count)) (omega (arith, outcomes_count)) b
-      ∙ ap (λ o. get_or (outcome_words o) i 0) (get_d_tabulate outcome 0 count k [] l ∙ (let z : 0 + k ≡ k = zero-add k in rw z))
+      ∙ ap (λ o. get_or (outcome_words o) i 0) (get_or_tabulate outcome 0 count k [] l ∙ (let z : 0 + k ≡ k = zero-add k in rw z))
 
   no_word : (k i : ℕ) → count ≤ k → k < 8 → i < 2 → get_or (action_words action) (4 + (2 * k + i)) 0 ≡ 0
   unfolding action_words

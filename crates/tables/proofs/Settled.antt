@@ -11,7 +11,7 @@ use Rattle.planning.specs.Task.{Action, Task, apply, action_at, system, fits_siz
 use Rattle.planning.specs.Pattern.{mask, mask_action, abstraction, AbstractState}
 use Rattle.planning.specs.Table.{index, state_count, state_at, entry_at, weighted_table, table, entry_of, cost_of, EntriesBelow}
 use Rattle.planning.proofs.Test.{T_true, not_T_false, false_not_T, bool_iff, and_in, and_l, and_r, by_test}
-use Rattle.planning.proofs.Finite.{all_imp, all_at, every_imp, any_out, get_d_tabulate, map-map}
+use Rattle.planning.proofs.Finite.{all_imp, all_at, every_imp, any_out, get_or_tabulate, map-map}
 use Rattle.planning.proofs.Extended.{mono?, ext∞, zero_le∞}
 use Rattle.planning.proofs.System.{solvable, solves_act, solves_out, bellman_le, cost_solvable}
 use Rattle.planning.proofs.Pattern.{mask_fits, mask_stays_abstract, action_masked, abstraction_actions, abstraction_invariant}
@@ -223,7 +223,7 @@ module _ (t : Task) (w : WellFormed t) (k : Packable t) (p : List ℕ) (x : Spac
   -- The start.
   started_at : (i : ℕ) → i < states → (d : ℕ) → get_or (started x.task x.mask x.states states) i d ≡ cond (abstracted.goal (state_of i)) 0 65535
   unfolding started
-  started_at i l d = get_d_tabulate _ 0 states i d l ∙ rw (zero-add i, goal_at i l)
+  started_at i l d = get_or_tabulate _ 0 states i d l ∙ rw (zero-add i, goal_at i l)
 
   started-above : Above (started x.task x.mask x.states states)
   unfolding cost_of ◌≤∞◌

@@ -5,7 +5,7 @@ use Rattle.planning.specs.Extended.{ℕ∞, fin, inf}
 use Rattle.planning.specs.Table.{state_count, table, tables, entry_of, cost_of, EntriesBelow, Small, most_cost}
 use Rattle.planning.specs.Spread.{row_size, spread, place_of}
 use Rattle.planning.proofs.Test.{by_test}
-use Rattle.planning.proofs.Finite.{all_at, get_d_map}
+use Rattle.planning.proofs.Finite.{all_at, get_or_map}
 use Rattle.planning.proofs.Table.{light_entries_bounded, cost_of_entry}
 use Rattle.planning.proofs.Spread.{place_inside, counts_few, raised_at, spread_of_none, spread_next}
 use Rattle.task_record.specs.Numbers.{pattern_count}
@@ -44,7 +44,7 @@ entry_place e h = by_test (eqb e 65535)
 
 module _ (entries : List ℕ) (bounded : EntriesBelow (suc most_cost) (map cost_of entries)) (i : ℕ) (l : i < length entries) where
   entry_cost : get_or (map cost_of entries) i inf ≡ cost_of (get_or entries i 0)
-  entry_cost = get_d_map cost_of entries i 0 inf l
+  entry_cost = get_or_map cost_of entries i 0 inf l
 
   inside : i < length (map cost_of entries)
   inside = rw (length-map entries cost_of) l

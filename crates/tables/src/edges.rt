@@ -10,7 +10,7 @@ use crate::offsets::{
 use crate::places::{place_at, place_of, put_word};
 
 // So many edges, and so many actions with counters.
-#[derive(Drop)]
+#[derive(Clone, Copy)]
 pub(crate) struct Made {
     pub(crate) edges: usize,
     pub(crate) counted: usize,

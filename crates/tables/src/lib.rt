@@ -3,6 +3,8 @@
 // (`worklist`, and what that needs: `places`, `offsets`, `edges`, `incoming`, `visits`, `queue`), the test of a candidate (`certify`), passes
 // that need none (`sweep`), the table of one pattern (`build`), all tables of a record (`record_tables`), how
 // many states of a pattern have each cost (`spread`).
+#![tactic(auto)]
+
 pub mod applying;
 mod build;
 mod certify;

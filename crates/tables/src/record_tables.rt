@@ -24,7 +24,7 @@ use task_record::cells::{
 };
 
 // Entries written; or number and second number of the refusal.
-#[derive(Drop)]
+#[derive(Clone, Copy)]
 pub enum TableBuild {
     Built(u64),
     Refused(u64, u64),

@@ -20,7 +20,7 @@ use task_record::cells::{pattern_cells, pattern_count, state_of, variable_count}
 const ROW: usize = 4097;
 
 // The states counted; or number and second number of the refusal.
-#[derive(Drop)]
+#[derive(Clone, Copy)]
 pub enum TableSpread {
     Counted(u64),
     Refused(u64, u64),
@@ -57,7 +57,7 @@ fn count_entries(entries: &[u16], row: &mut [u32])
 }
 
 // The part of the tables that a pattern's table takes.
-#[derive(Drop)]
+#[derive(Clone, Copy)]
 struct Part {
     begin: usize,
     end: usize,

@@ -6,7 +6,7 @@ use native.Mathlib.Decide.{ℕ_discrete, dec_lt}
 use lib.ListN.{get_or-eq_default}
 use Rattle.planning.specs.Finite.{any_from}
 use Rattle.planning.proofs.Test.{by_test}
-use Rattle.planning.proofs.Finite.{any_out, any_in, get_d_tabulate, length-tabulate}
+use Rattle.planning.proofs.Finite.{any_out, any_in, get_or_tabulate, length-tabulate}
 use Rattle.tables_worklist.specs.Packed.{outcome_count, action_weight}
 use Rattle.tables_worklist.specs.Steps.{weigh, Space, is_goal, after, worst, raised, outcome_entry, offer, offer_at, none, started, Settled}
 use Rattle.tables_worklist.proofs.Settled.{inside, then}
@@ -74,7 +74,7 @@ module _ (x : Space) (n : ℕ) (marks : List ℕ) (acting : (m : ℕ) → m < x.
 
   first_at : (j d : ℕ) → j < n → get_or first j d ≡ cond (is_goal x.task x.mask (get_or x.states j 0)) 0 65535
   unfolding started
-  first_at j d l = get_d_tabulate _ 0 n j d l ∙ rw (zero-add j)
+  first_at j d l = get_or_tabulate _ 0 n j d l ∙ rw (zero-add j)
 
   first_heard : (m i : ℕ) → m < x.actions → i < n → (j : ℕ) → index_after x m i 0 ≡ j → Dec (j < n) → Heard x first marks m i
   unfolding started

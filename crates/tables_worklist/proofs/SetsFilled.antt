@@ -5,7 +5,7 @@ use native.Mathlib.Nat.{pow-le-pow_right}
 use native.Mathlib.Decide.{ℕ_discrete}
 use lib.Bits.{bit_and, bit_or}
 use Rattle.planning.specs.Finite.{tabulate}
-use Rattle.planning.proofs.Finite.{length-tabulate, get_d_tabulate}
+use Rattle.planning.proofs.Finite.{length-tabulate, get_or_tabulate}
 use Rattle.planning.proofs.Test.{T_true, not_T_false, by_test}
 use Rattle.tables_worklist.specs.Packed.{pre_mask, pre_value}
 use Rattle.tables_worklist.specs.Sets.{set_from, lowest_need, need_at, action_need, suits, byte_suits, SetsOf, spread, word_of_sets, sets_filled, meet_from, Entered, SlotsOf, slot_meet, RowFilled, RowsFilled}
@@ -177,7 +177,7 @@ pub filled_as_defined : (task slots old sets : List ℕ) (mask actions bytes : �
 unfolding sets_filled
 filled_as_defined task slots old sets mask actions bytes few s f = rw (T_true (leb actions 64) (le→leb actions 64 few))
     (ext_get_or 0 sets (tabulate (word_of_sets task mask actions (spread bytes) old) 0 2048) (f.long ∙ sym (length-tabulate (word_of_sets task mask actions (spread bytes) old) 0 2048))
-    (λ i l. word i ∙ sym (get_d_tabulate (word_of_sets task mask actions (spread bytes) old) 0 2048 i 0 (omega (arith, l, f.long)) ∙ rw (zero-add i))))
+    (λ i l. word i ∙ sym (get_or_tabulate (word_of_sets task mask actions (spread bytes) old) 0 2048 i 0 (omega (arith, l, f.long)) ∙ rw (zero-add i))))
   where
     o : SetsOf task mask actions (spread bytes) sets
     o = sets_filled_lem task slots sets mask actions (spread bytes) s f.rows
@@ -192,7 +192,7 @@ filled_as_defined task slots old sets mask actions bytes few s f = rw (T_true (l
 pub filled-sets : (task old : List ℕ) (mask actions bytes : ℕ) → actions ≤ 64 → SetsOf task mask actions (spread bytes) (sets_filled task mask actions bytes old)
 unfolding sets_filled
 filled-sets task old mask actions bytes few = rw (T_true (leb actions 64) (le→leb actions 64 few)) (record {
-  set_at = λ b x h i. get_d_tabulate (word_of_sets task mask actions (spread bytes) old) 0 2048 (256 * b + x) 0 (omega (arith, h, i, spread_most bytes))
+  set_at = λ b x h i. get_or_tabulate (word_of_sets task mask actions (spread bytes) old) 0 2048 (256 * b + x) 0 (omega (arith, h, i, spread_most bytes))
       ∙ rw (zero-add (256 * b + x)) (word_of_byte task old mask actions (spread bytes) b x h i);
 })
 

@@ -2,7 +2,7 @@
 use Rattle.std.proofs.Common.{◌≡◌, ℕ, suc, ◌<◌, ◌≤◌, ◌||◌, T, eqb, ltb, List, [], ◌∷◌, length, take, drop, sym, ap, ◌∙◌, zero-add, arith, ext_get_or, eq-eqb}
 use Rattle.planning.specs.Finite.{tabulate}
 use Rattle.planning.specs.Task.{fits_sizes}
-use Rattle.planning.proofs.Finite.{length-tabulate, get_d_tabulate}
+use Rattle.planning.proofs.Finite.{length-tabulate, get_or_tabulate}
 use Rattle.planning.proofs.Test.{and_in, and_l, and_r}
 use Rattle.task_record.specs.Layout.{at_sizes, at_goal, at_precondition, at_outcome}
 use Rattle.task_record.specs.Numbers.{variable_count, action_count, size_of}
@@ -41,7 +41,7 @@ module _ (r : List ℕ) (sound : Sound r) where
   sizes_listed = let n = length-tabulate (size_of r) 0 (variable_count r) in
       ext_get_or 0 (tabulate (size_of r) 0 (variable_count r)) (take (variable_count r) (drop at_sizes r)) (n ∙ sym (sizes_length r sound))
       (λ i l. let k : i < variable_count r = rw n at l in
-      get_d_tabulate (size_of r) 0 (variable_count r) i 0 k ∙ ap (size_of r) (zero-add i) ∙ sym (cell_of_part r (variable_count r) at_sizes i k))
+      get_or_tabulate (size_of r) 0 (variable_count r) i 0 k ∙ ap (size_of r) (zero-add i) ∙ sym (cell_of_part r (variable_count r) at_sizes i k))
 
   action_packable : (m : ℕ) → m < action_count r → PackableAction (task_of r).sizes (action_of r m)
   unfolding action_of

@@ -3,7 +3,7 @@
 use Rattle.std.proofs.Common.{◌≡◌, ℕ, zero, suc, ◌+◌, ◌-◌, ◌%◌, ◌<◌, ◌≤◌, cond, List, length, get_or, replicate, sym, refl, ◌∙◌, subst, zero-add, arith}
 use native.Mathlib.Decide.{dec_lt}
 use lib.ListN.{length-replicate}
-use Rattle.planning.proofs.Finite.{get_d_tabulate, length-tabulate}
+use Rattle.planning.proofs.Finite.{get_or_tabulate, length-tabulate}
 use Rattle.tables_worklist.specs.Packed.{outcome_count, action_weight}
 use Rattle.tables_worklist.specs.Steps.{Space, is_goal, started, total, Settled}
 use Rattle.tables_worklist.specs.Waiting.{Waits, Kept}
@@ -66,7 +66,7 @@ queue_empty n a b l₁ l₂ few some = record {
 -- The start is kept.
 pub start_kept : (x : Space) (t q marks : List ℕ) (n c : ℕ) → ((m : ℕ) → m < x.actions → 1 ≤ outcome_count x.task m) → t ≡ started x.task x.mask x.states n → GoalsWait t q marks c → Kept x t t marks
 unfolding started
-start_kept x t q marks n c some e g = rw e (kept_start x n marks some (λ j l u. g.zeros j (rw e (rw (length-tabulate {A = ℕ} (λ i. cond (is_goal x.task x.mask (get_or x.states i 0)) 0 65535) 0 n) l)) (rw e (get_d_tabulate _ 0 n j 0 l ∙ rw (zero-add j, u)))))
+start_kept x t q marks n c some e g = rw e (kept_start x n marks some (λ j l u. g.zeros j (rw e (rw (length-tabulate {A = ℕ} (λ i. cond (is_goal x.task x.mask (get_or x.states i 0)) 0 65535) 0 n) l)) (rw e (get_or_tabulate _ 0 n j 0 l ∙ rw (zero-add j, u)))))
 
 -- The states below i were looked at: no entry is above `most`, and none that waits below `least`.
 pub record Seen (t marks : List ℕ) (most least i : ℕ) : Type 0 where

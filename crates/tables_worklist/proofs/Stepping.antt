@@ -5,7 +5,7 @@ use lib.Bits.{bit_and}
 use lib.ListN.{get_or-eq_default}
 use Rattle.planning.specs.Finite.{any_from}
 use Rattle.planning.proofs.Test.{by_test}
-use Rattle.planning.proofs.Finite.{length-tabulate, get_d_tabulate}
+use Rattle.planning.proofs.Finite.{length-tabulate, get_or_tabulate}
 use Rattle.tables_worklist.specs.Packed.{outcome_count, keep_mask}
 use Rattle.tables_worklist.specs.Steps.{weigh, is_goal, idles, raised, started, total}
 
@@ -84,7 +84,7 @@ started-more a k states e i v l q h j b = here j (dec_lt j i) b
 pub started-done : (a : List ℕ) (k : ℕ) (states e : List ℕ) (i n : ℕ) → length e ≤ i → length e ≡ n → StartedTo a k states e i → e ≡ started a k states n
 unfolding started
 started-done a k states e i n l q h = ext_get_or 0 e _ (q ∙ sym (length-tabulate (first_of a k states) 0 n))
-    (λ j b. h j (omega arith) ∙ sym (get_d_tabulate (first_of a k states) 0 n j 0 (omega arith) ∙ (let z : 0 + j ≡ j = omega arith in rw z)))
+    (λ j b. h j (omega arith) ∙ sym (get_or_tabulate (first_of a k states) 0 n j 0 (omega arith) ∙ (let z : 0 + j ≡ j = omega arith in rw z)))
 
 -- The sum of the entries falls with every step.
 pub total-set : (t : List ℕ) (i v : ℕ) → i < length t → total (set t i v) + get_or t i 0 ≡ total t + v

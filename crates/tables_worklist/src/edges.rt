@@ -11,7 +11,7 @@ ghost use Rattle.tables_worklist.specs.Made.{LaneOf, back_of, Untouched, EdgePut
 use crate::steps::{index_of, wide};
 
 // A free digit as a lane, and the free digits without it.
-#[derive(Drop)]
+#[derive(Clone, Copy)]
 struct Lane {
     lane: u64,
     rest: u64,

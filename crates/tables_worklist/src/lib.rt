@@ -3,6 +3,8 @@
 // pattern's abstraction (`edges`), which of them lead into a state (`parts`, `incoming`), going back along them (`visits`), the states that wait
 // (`queue`), the worklist (`worklist`), the table of one pattern (`build`), all tables of a record (`record_tables`), how many states of a
 // pattern have each cost (`spread`).
+#![tactic(auto)]
+
 pub mod applying;
 mod build;
 mod compile;

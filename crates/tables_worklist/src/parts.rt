@@ -8,7 +8,7 @@ ghost use Rattle.tables_worklist.specs.Incoming.{Split};
 use crate::ranking::{next_weight, state_count};
 
 // So many states, of the variables with these digits.
-#[derive(Drop)]
+#[derive(Clone, Copy)]
 pub(crate) struct Parts {
     pub(crate) lower: usize,
     pub(crate) low: u64,

@@ -8,7 +8,7 @@ ghost use Rattle.tables_worklist.specs.Squeezed.{bytes_of, plain_cell, squeezed}
 use crate::packed::{LEAVING, SETTING, pack};
 
 // What an outcome keeps, and what it sets; of a precondition the digits that it does not name, and the values that it names.
-#[derive(Drop)]
+#[derive(Clone, Copy)]
 pub(crate) struct Words {
     pub(crate) keep: u64,
     pub(crate) value: u64,

@@ -3,7 +3,7 @@ use Rattle.std.proofs.Common.{◌≡◌, ℕ, zero, suc, ◌<◌, Bool, true, fa
 use Rattle.planning.specs.Task.{meets_cell, meets, apply_cell, apply}
 use Rattle.planning.specs.Finite.{tabulate}
 use Rattle.planning.specs.Pattern.{affects}
-use Rattle.planning.proofs.Finite.{length-tabulate, get_d_tabulate}
+use Rattle.planning.proofs.Finite.{length-tabulate, get_or_tabulate}
 use Rattle.task_record.specs.Scan.{all_below}
 use Rattle.task_record.specs.Cells.{spares_cell, state_cells}
 use Rattle.task_record.proofs.Scanning.{all_from_first, all_none}
@@ -57,7 +57,7 @@ pub state_cells_lem : (c l : List ℕ) → length l ≡ 16 → ((i : ℕ) → i 
 unfolding state_cells
 state_cells_lem c l whole each =
     let f : ℕ → ℕ = λ i. get_or c i 255 in
-    ext_get_or 0 l (tabulate f 0 16) (whole ∙ sym (length-tabulate f 0 16)) (λ i h. each i (omega arith) ∙ sym (get_d_tabulate f 0 16 i 0 (omega arith) ∙ ap f (zero-add i)))
+    ext_get_or 0 l (tabulate f 0 16) (whole ∙ sym (length-tabulate f 0 16)) (λ i h. each i (omega arith) ∙ sym (get_or_tabulate f 0 16 i 0 (omega arith) ∙ ap f (zero-add i)))
 
 pub state_cells_whole : (c : List ℕ) → length c ≡ 16 → c ≡ state_cells c
 state_cells_whole c whole = state_cells_lem c c whole (λ i h. any_default c i 0 255 (omega arith))

@@ -3,7 +3,7 @@
 use Rattle.std.proofs.Common.{◌≡◌, ℕ, ◌+◌, ◌-◌, ◌<◌, ◌&&◌, eqb, ltb, List, length, get_or, take, drop, sym, refl, ◌∙◌, zero-add, arith, length-take-le, get_or-take, ltb-false, ltb-true, lt-ltb, eqb-true}
 use native.Mathlib.Nat.{sub-zero}
 use Rattle.planning.specs.Task.{State, meets, apply, action_at, no_action}
-use Rattle.planning.proofs.Finite.{length-tabulate, get_d_tabulate}
+use Rattle.planning.proofs.Finite.{length-tabulate, get_or_tabulate}
 use Rattle.task_record.specs.Layout.{at_sizes, at_goal, at_start, at_precondition, at_outcome}
 use Rattle.task_record.specs.Numbers.{variable_count, action_count, size_of, outcome_count}
 use Rattle.task_record.specs.Record.{assignment_ok, value_ok, state_ok, state_cell_ok, record_check, Sound}
@@ -50,7 +50,7 @@ checked_good r s h =
 
 pub action_of_task : (r : List ℕ) (m : ℕ) → m < action_count r → action_at (task_of r) m ≡ action_of r m
 unfolding task_of
-action_of_task r m l = get_d_tabulate (action_of r) 0 (action_count r) m no_action l ∙ rw zero-add
+action_of_task r m l = get_or_tabulate (action_of r) 0 (action_count r) m no_action l ∙ rw zero-add
 
 pub actions_of_task : (r : List ℕ) → length (task_of r).actions ≡ action_count r
 unfolding task_of

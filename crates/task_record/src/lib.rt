@@ -1,6 +1,8 @@
 // The record of a task, the lowest layer with code: its layout, its check and that of a state (`record`), its cells by name (`cells`).
 // The record's offsets are named here (`layout`) and nowhere else; three crates ask for them: the reader, which writes a record, and the patterns
 // and the plan check, which read sizes, goal and actions where they stand.
+#![tactic(auto)]
+
 mod blocks;
 pub mod cells;
 mod columns;

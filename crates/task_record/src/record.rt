@@ -18,7 +18,7 @@ use crate::layout::{
 };
 
 // Number and second number of the refusal.
-#[derive(Drop)]
+#[derive(Clone, Copy)]
 pub enum RecordCheck {
     Sound,
     Refused(u64, u64),
@@ -225,7 +225,7 @@ pub fn check_record(rec: &[u8]) -> RecordCheck
 }
 
 // Number and second number of the refusal.
-#[derive(Drop)]
+#[derive(Clone, Copy)]
 pub enum StateCheck {
     Good,
     Refused(u64, u64),

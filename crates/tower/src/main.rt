@@ -1,5 +1,7 @@
 // Program `tower`: reads a text from standard input and prints the lines that `report` gives for it. Input longer than 65,536 bytes is cut
 // there. It ends with exit code 0 whatever it prints, refusals too.
+#![tactic(auto)]
+
 use report::text::report_text;
 
 // Four bytes for each byte of the plan and 256 more: what `report_text` never passes.

@@ -11,6 +11,8 @@
 //   value NAME: N,BYTES        the value of a state, from the first N table entries
 //   find NAME: N,L             the search, with N entries and L bytes of plan lent; writes the buffer's first bytes too
 //   plan NAME: BYTES           the check of a plan, from the record's start
+#![tactic(auto)]
+
 mod calls;
 mod lists;
 mod shown;
