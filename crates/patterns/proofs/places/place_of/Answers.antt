@@ -1,0 +1,38 @@
+-- `place_of`: the index so far, and what the variables left add at the running weight, are the whole index. Assumes nothing.
+use mathlib.Core.Path.{sym}
+use mathlib.Core.Logic.{⊎_elim}
+use Prim.Native.Nat.{◌-◌, ◌≤◌}
+use native.Mathlib.Nat.{mul-le-mul}
+use native.Mathlib.Omega.{arith}
+use borrow.Author.Tests.{ne_eqb}
+use Rattle.patterns.proofs.Weights.{numbering_start, numbering_in, numbering_out, numbering_done, counting_done, counting_below}
+use Rattle.patterns.proofs.places.place_of.Goals as goal
+
+pub loop-v-init : goal.loop-v-init
+loop-v-init c = (numbering_start _ _ _ c.requires.2 c.requires.3, omega arith)
+
+pub overflow_mul-index : goal.overflow_mul-index
+overflow_mul-index c = let b : c.wide.result ≤ 255 = omega arith in let p = mul-le-mul b c.loop-v.invariant.1 in omega arith
+
+pub overflow_add-index : goal.overflow_add-index
+overflow_add-index c = let b : c.wide.result ≤ 255 = omega arith in let l = c.loop-v in
+    let p = mul-le-mul b l.invariant.1 in omega (arith, l.invariant.0.bounded, l.invariant.0.counting.passed, c.requires.1)
+
+pub overflow_mul-weight : goal.overflow_mul-weight
+overflow_mul-weight c = let b : c.wide-weight.result ≤ 255 = omega arith in let p = mul-le-mul c.loop-v.invariant.1 b in omega arith
+
+pub loop-v-preserved : goal.loop-v-preserved
+loop-v-preserved c = let l = c.loop-v in let t = c.loop-v-test.true in
+    ⊎_elim
+    (λ w. let b : w.2.result ≤ 255 = omega arith in let p = rw w.2.ensures.0 at (mul-le-mul b l.invariant.1) in
+    let k = numbering_in c.args.sizes.now c.args.pattern.now c.args.state.now c.requires.2 c.requires.3 l.index l.weight l.v l.invariant.0 t w.0.taken (omega arith) in
+    let m = counting_below c.args.sizes.now c.args.pattern.now c.requires.2 _ _ k.counting c.requires.0 in
+    rw (w.5, w.6, w.2.ensures.0, w.4.ensures.0) (k, omega (arith, m, c.requires.4)))
+    (λ w. rw (w.1, w.2) (numbering_out c.args.sizes.now c.args.pattern.now c.args.state.now c.requires.2 c.requires.3 l.index l.weight l.v l.invariant.0 t (ne_eqb _ _ w.0.left), l.invariant.1))
+    c.if-pattern-v-eq1.branch
+
+pub returns : goal.returns
+returns c = let l = c.loop-v in (
+  sym (numbering_done c.args.sizes.now c.args.pattern.now c.args.state.now c.requires.2 c.requires.3 l.index l.weight l.v l.invariant.0 c.loop-v-test.false),
+  sym (counting_done c.args.sizes.now c.args.pattern.now c.requires.2 l.weight l.v l.invariant.0.counting c.loop-v-test.false),
+)

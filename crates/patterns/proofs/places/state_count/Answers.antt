@@ -1,0 +1,32 @@
+-- `state_count`: the running weight times the number of abstract states of the variables left is the whole number. Assumes nothing.
+use mathlib.Core.Logic.{⊎_elim}
+use Prim.Native.Nat.{◌-◌, ◌≤◌}
+use native.Mathlib.Nat.{mul-le-mul}
+use native.Mathlib.Omega.{arith}
+use borrow.Author.Tests.{ne_eqb}
+use Rattle.patterns.proofs.Weights.{counting_start, counting_in, counting_out, counting_done, counting_below}
+use Rattle.patterns.proofs.places.state_count.Goals as goal
+
+pub loop-v-init : goal.loop-v-init
+loop-v-init c = (counting_start _ _ c.requires.1, omega arith)
+
+pub overflow_mul-weight : goal.overflow_mul-weight
+overflow_mul-weight c = let b : c.wide-weight.result ≤ 255 = omega arith in let p = mul-le-mul c.loop-v.invariant.1 b in omega arith
+
+pub returns-then-weight-gt4096 : goal.returns-then-weight-gt4096
+returns-then-weight-gt4096 c = let l = c.loop-v in
+    let t = c.loop-v-test.true in
+    let k = counting_in c.args.sizes.now c.args.pattern.now c.requires.1 l.weight l.v l.invariant.0 t c.if-pattern-v-eq1.true in
+    let b = counting_below c.args.sizes.now c.args.pattern.now c.requires.1 _ _ k c.requires.0 in
+    let g = rw (← c.wide-weight.ensures.0) at b in omega (arith, c.if-weight-gt4096.true)
+
+pub loop-v-preserved : goal.loop-v-preserved
+loop-v-preserved c = let l = c.loop-v in let t = c.loop-v-test.true in
+    ⊎_elim
+    (λ w. rw (w.4, w.2.ensures.0) (counting_in c.args.sizes.now c.args.pattern.now c.requires.1 l.weight l.v l.invariant.0 t w.0.taken, rw w.2.ensures.0 at w.3.left))
+    (λ w. rw w.1 (counting_out c.args.sizes.now c.args.pattern.now c.requires.1 l.weight l.v l.invariant.0 t (ne_eqb _ _ w.0.left), l.invariant.1))
+    c.if-pattern-v-eq1.branch
+
+pub returns : goal.returns
+returns c = let l = c.loop-v in
+    let k = counting_done c.args.sizes.now c.args.pattern.now c.requires.1 l.weight l.v l.invariant.0 c.loop-v-test.false in omega arith

@@ -1,0 +1,61 @@
+-- `read_value`: sizes and state without the cells of variables that the task does not have. Assumes nothing.
+use mathlib.Core.Path.{◌≡◌, sym, ap, ◌∙◌}
+use Prim.Native.Nat.{◌+◌, ◌-◌}
+use native.Mathlib.Omega.{arith}
+use lib.ListN.{length, take}
+use lib.Seq.{length-take-le}
+use Rattle.planning.specs.Table.{value, Small}
+use Rattle.task_record.specs.Layout.{at_sizes}
+use Rattle.task_record.specs.Numbers.{variable_count}
+use Rattle.task_record.specs.TaskOf.{task_of, patterns_of}
+use Rattle.task_record.proofs.Soundness.{sound_length}
+use Rattle.task_record.proofs.States.{checked_good, good_values}
+use Rattle.patterns.specs.Value.{value_of, values_of, read_value}
+use Rattle.patterns.proofs.Refusals.{ready_means}
+use Rattle.patterns.proofs.Room.{fits_small, fits_room}
+use Rattle.patterns.proofs.Sizes.{variables_few}
+use Rattle.patterns.proofs.value.read_value.Goals as goal
+
+pub slice_bounds-sum_entries-end : goal.slice_bounds-sum_entries-end
+slice_bounds-sum_entries-end c =
+    let pre = c.requires in
+    let args = c.args in
+    let variable-count = c.variable_count in
+    let wide = c.wide-variables in
+    let r = args.rec.now in let g = checked_good r args.state.now pre.0 in let n = sound_length r g.0 in let f = variables_few r g.0 in let w = wide.ensures.0 ∙ variable-count.ensures in omega arith
+
+pub slice_bounds-sum_entries-end-2 : goal.slice_bounds-sum_entries-end-2
+slice_bounds-sum_entries-end-2 c =
+    let pre = c.requires in
+    let args = c.args in
+    let variable-count = c.variable-count in
+    let wide = c.wide in
+    let r = args.rec.now in let g = checked_good r args.state.now pre.0 in
+    sym (length-take-le _ _ (rw (wide.ensures.0, variable-count.ensures, g.1.whole) (variables_few r g.0)))
+
+pub sum_entries-requires : goal.sum_entries-requires
+unfolding Small task_of
+sum_entries-requires c =
+    let pre = c.requires in
+    let args = c.args in
+    let variable-count = c.variable-count in
+    let wide = c.wide in
+    let r = args.rec.now in let s = args.state.now in let g = checked_good r s pre.0 in
+    let k = ready_means r (length args.tables.now) pre.1 in
+    let w = wide.ensures.0 ∙ variable-count.ensures in
+    let e : at_sizes + wide.result - at_sizes ≡ variable_count r = omega arith in (
+      g.0,
+      rw e,
+      rw w (good_values r g.0 s g.1),
+      fits_small (task_of r).sizes (patterns_of r) (length args.tables.now) k.0.0 k.0.1,
+      let o = fits_room (task_of r).sizes (patterns_of r) (length args.tables.now) k.0.0 k.0.1 in omega arith,
+    )
+
+pub returns : goal.returns
+unfolding read_value values_of
+returns c =
+    let args = c.args in
+    let variable-count = c.variable-count in
+    let wide = c.wide in
+    let sum-entries = c.sum_entries in
+    let a = args in sum-entries.ensures ∙ ap (λ v. value_of (value (task_of a.rec.now).sizes (patterns_of a.rec.now) a.tables.now (take v a.state.now))) (wide.ensures.0 ∙ variable-count.ensures)

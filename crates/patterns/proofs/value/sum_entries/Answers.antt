@@ -1,0 +1,95 @@
+-- `sum_entries`: the sum so far, and the value of the patterns left, are the whole value. Assumes nothing.
+use mathlib.Core.Path.{◌≡◌, sym, ap, ap₂, ◌∙◌}
+use mathlib.Core.List.{[]}
+use Prim.Native.Nat.{◌+◌, ◌-◌, ◌≤◌, ◌<◌}
+use native.Mathlib.Omega.{arith}
+use borrow.Author.Tests.{ne_eqb}
+use lib.ListN.{length, get_or}
+use Rattle.planning.specs.Table.{index, state_count, Small}
+use Rattle.planning.proofs.Finite.{all_at}
+use Rattle.task_record.specs.Numbers.{pattern_count}
+use Rattle.task_record.specs.TaskOf.{task_of, patterns_of}
+use Rattle.task_record.proofs.SoundTask.{patterns_right}
+use Rattle.patterns.specs.Value.{value_of}
+use Rattle.patterns.proofs.Reading.{patterns_length, pattern_at}
+use Rattle.patterns.proofs.Sizes.{state_length, sizes_few, sizes_positive, pattern_whole}
+use Rattle.patterns.proofs.Summing.{summing_start, summing_done, place_inside, table_inside, summing_finite, summing_infinite}
+use Rattle.patterns.proofs.value.sum_entries.Goals as goal
+
+pub loop-p-init : goal.loop-p-init
+loop-p-init c = let r = c.args.rec.now in summing_start (task_of r).sizes (patterns_of r) c.args.state.now c.args.tables.now c.requires.4
+
+pub place_of-place-requires : goal.place_of-place-requires
+unfolding Small
+place_of-place-requires c = let r = c.args.rec.now in let s = c.args.state.now in let l = c.loop-p in
+    let t : l.p < pattern_count r = rw c.pattern_count-p-end.ensures at c.loop-p-test.true in
+    let m : l.p < length (patterns_of r) = rw (patterns_length r) t in
+    let f = sizes_few r c.requires.0 in let w = pattern_whole r c.requires.0 l.p t in let n = state_length (task_of r).sizes s c.requires.2 in
+    let k = rw (pattern_at r l.p t) at (all_at (λ x. state_count (task_of r).sizes x ≤ 4096) (patterns_of r) [] c.requires.3 l.p m) in
+    rw (c.requires.1, c.pattern_Cells.ensures) (sizes_positive r c.requires.0, f, omega arith, omega arith, k)
+
+pub overflow_add-at : goal.overflow_add-at
+overflow_add-at c = let r = c.args.rec.now in let s = c.args.state.now in let l = c.loop-p in
+    let t : l.p < pattern_count r = rw c.pattern_count-p-end.ensures at c.loop-p-test.true in
+    let m : l.p < length (patterns_of r) = rw (patterns_length r) t in
+    let q : c.pattern_Cells.result.now ≡ get_or (patterns_of r) l.p [] = c.pattern_Cells.ensures ∙ sym (pattern_at r l.p t) in
+    let i : c.place_of-place.result.index ≡ index (task_of r).sizes (get_or (patterns_of r) l.p []) s = c.place_of-place.ensures.0 ∙ ap₂ (λ z x. index z x s) c.requires.1 q in
+    let n = place_inside (task_of r).sizes (patterns_of r) s c.args.tables.now l.sum l.begin l.p l.invariant m c.requires.2 in omega arith
+
+pub offset_bounds-tables-at : goal.offset_bounds-tables-at
+offset_bounds-tables-at c = let r = c.args.rec.now in let s = c.args.state.now in let l = c.loop-p in
+    let t : l.p < pattern_count r = rw c.pattern_count-p-end.ensures at c.loop-p-test.true in
+    let m : l.p < length (patterns_of r) = rw (patterns_length r) t in
+    let q : c.pattern_Cells.result.now ≡ get_or (patterns_of r) l.p [] = c.pattern_Cells.ensures ∙ sym (pattern_at r l.p t) in
+    let i : c.place_of-place.result.index ≡ index (task_of r).sizes (get_or (patterns_of r) l.p []) s = c.place_of-place.ensures.0 ∙ ap₂ (λ z x. index z x s) c.requires.1 q in
+    let n = place_inside (task_of r).sizes (patterns_of r) s c.args.tables.now l.sum l.begin l.p l.invariant m c.requires.2 in omega arith
+
+pub bounds-tables-at : goal.bounds-tables-at
+bounds-tables-at c = let r = c.args.rec.now in let s = c.args.state.now in let l = c.loop-p in
+    let t : l.p < pattern_count r = rw c.pattern_count-p-end.ensures at c.loop-p-test.true in
+    let m : l.p < length (patterns_of r) = rw (patterns_length r) t in
+    let q : c.pattern_Cells.result.now ≡ get_or (patterns_of r) l.p [] = c.pattern_Cells.ensures ∙ sym (pattern_at r l.p t) in
+    let i : c.place_of-place.result.index ≡ index (task_of r).sizes (get_or (patterns_of r) l.p []) s = c.place_of-place.ensures.0 ∙ ap₂ (λ z x. index z x s) c.requires.1 q in
+    let n = place_inside (task_of r).sizes (patterns_of r) s c.args.tables.now l.sum l.begin l.p l.invariant m c.requires.2 in omega arith
+
+pub returns-then-e-eq65535 : goal.returns-then-e-eq65535
+unfolding value_of
+returns-then-e-eq65535 c = let r = c.args.rec.now in let s = c.args.state.now in let l = c.loop-p in
+    let t : l.p < pattern_count r = rw c.pattern_count-p-end.ensures at c.loop-p-test.true in
+    let m : l.p < length (patterns_of r) = rw (patterns_length r) t in
+    let q : c.pattern_Cells.result.now ≡ get_or (patterns_of r) l.p [] = c.pattern_Cells.ensures ∙ sym (pattern_at r l.p t) in
+    let i : c.place_of-place.result.index ≡ index (task_of r).sizes (get_or (patterns_of r) l.p []) s = c.place_of-place.ensures.0 ∙ ap₂ (λ z x. index z x s) c.requires.1 q in
+    let e : c.entry-e.result ≡ get_or c.args.tables.now (l.begin + index (task_of r).sizes (get_or (patterns_of r) l.p []) s) 0 = c.entry-e.ensures.0 ∙ ap (λ x. get_or c.args.tables.now (l.begin + x) 0) i in
+    sym (ap value_of (summing_infinite (task_of r).sizes (patterns_of r) s c.args.tables.now l.sum l.begin l.p l.invariant m c.requires.2 (sym e ∙ c.if-e-eq65535.true)))
+
+pub overflow_add-sum : goal.overflow_add-sum
+overflow_add-sum c = let r = c.args.rec.now in let l = c.loop-p in let k = patterns_right r c.requires.0 in
+    let t : l.p < pattern_count r = rw c.pattern_count-p-end.ensures at c.loop-p-test.true in omega (arith, l.invariant.bounded, c.entry-e.ensures.1)
+
+pub overflow_add-begin : goal.overflow_add-begin
+overflow_add-begin c = let r = c.args.rec.now in let s = c.args.state.now in let l = c.loop-p in
+    let t : l.p < pattern_count r = rw c.pattern_count-p-end.ensures at c.loop-p-test.true in
+    let m : l.p < length (patterns_of r) = rw (patterns_length r) t in
+    let q : c.pattern_Cells.result.now ≡ get_or (patterns_of r) l.p [] = c.pattern_Cells.ensures ∙ sym (pattern_at r l.p t) in
+    let j : c.place_of-place.result.states ≡ state_count (task_of r).sizes (get_or (patterns_of r) l.p []) = c.place_of-place.ensures.1 ∙ ap₂ state_count c.requires.1 q in
+    let n = table_inside (task_of r).sizes (patterns_of r) s c.args.tables.now l.sum l.begin l.p l.invariant m c.requires.2 in omega arith
+
+pub loop-p-smaller : goal.loop-p-smaller
+loop-p-smaller c = rw (← c.pattern_count-p-end.ensures) (omega arith)
+
+pub loop-p-preserved : goal.loop-p-preserved
+loop-p-preserved c = let r = c.args.rec.now in let s = c.args.state.now in let l = c.loop-p in
+    let t : l.p < pattern_count r = rw c.pattern_count-p-end.ensures at c.loop-p-test.true in
+    let m : l.p < length (patterns_of r) = rw (patterns_length r) t in
+    let q : c.pattern_Cells.result.now ≡ get_or (patterns_of r) l.p [] = c.pattern_Cells.ensures ∙ sym (pattern_at r l.p t) in
+    let i : c.place_of-place.result.index ≡ index (task_of r).sizes (get_or (patterns_of r) l.p []) s = c.place_of-place.ensures.0 ∙ ap₂ (λ z x. index z x s) c.requires.1 q in
+    let j : c.place_of-place.result.states ≡ state_count (task_of r).sizes (get_or (patterns_of r) l.p []) = c.place_of-place.ensures.1 ∙ ap₂ state_count c.requires.1 q in
+    let e : c.entry-e.result ≡ get_or c.args.tables.now (l.begin + index (task_of r).sizes (get_or (patterns_of r) l.p []) s) 0 = c.entry-e.ensures.0 ∙ ap (λ x. get_or c.args.tables.now (l.begin + x) 0) i in
+    let g = ne_eqb c.entry-e.result 65535 c.if-e-eq65535.false in
+    rw (j, e) (summing_finite (task_of r).sizes (patterns_of r) s c.args.tables.now l.sum l.begin l.p l.invariant m c.requires.2 (omega (arith, c.if-e-eq65535.false, c.entry-e.ensures.1)) (rw e at g))
+
+pub returns : goal.returns
+unfolding value_of
+returns c = let r = c.args.rec.now in let l = c.loop-p in
+    let t : pattern_count r ≤ l.p = rw c.pattern_count-p-end.ensures at c.loop-p-test.false in
+    sym (ap value_of (summing_done (task_of r).sizes (patterns_of r) c.args.state.now c.args.tables.now l.sum l.begin l.p l.invariant (rw (patterns_length r) t)))

@@ -1,0 +1,20 @@
+-- `member_sets`: of each variable the set of the patterns passed, from the highest down; within a row those of the variables passed have its
+-- pattern too. Assumes nothing.
+use mathlib.Core.Path.{◌≡◌}
+use Prim.Native.Nat.{ℕ, ◌+◌, ◌-◌, ◌≤◌, ◌<◌}
+use lib.ListN.{length, get_or}
+use Rattle.task_record.specs.Numbers.{pattern_count}
+use Rattle.patterns.specs.Sets.{set_from}
+use Rattle.patterns.proofs.verdict.member_sets.Given as goal
+
+abbrev pub invariant-loop-v : goal.invariant-loop-v
+invariant-loop-v l = (l.v ≤ 16) × (length l.r ≡ 16) × (l.p < pattern_count l.rec) × ((k : ℕ) → k < l.v → get_or l.r k 0 ≡ set_from (member l.rec k) l.p (pattern_count l.rec - l.p)) × ((k : ℕ) → l.v ≤ k → k < 16 → get_or l.r k 0 ≡ set_from (member l.rec k) (l.p + 1) (pattern_count l.rec - (l.p + 1)))
+
+abbrev pub decreases-loop-v : goal.decreases-loop-v
+decreases-loop-v l = 16 - l.v
+
+abbrev pub invariant-loop-p : goal.invariant-loop-p
+invariant-loop-p l = (l.p ≤ pattern_count l.rec) × (length l.r ≡ 16) × ((k : ℕ) → k < 16 → get_or l.r k 0 ≡ set_from (member l.rec k) l.p (pattern_count l.rec - l.p))
+
+abbrev pub decreases-loop-p : goal.decreases-loop-p
+decreases-loop-p l = l.p

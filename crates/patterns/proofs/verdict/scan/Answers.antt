@@ -1,0 +1,83 @@
+-- `scan`: actions passed affect at most one pattern each; patterns passed are not affected; in the inner loop p is, and none between p and q. Assumes nothing.
+use mathlib.Core.Path.{refl, sym, ap, ◌∙◌}
+use mathlib.Core.Logic.{⊎_elim}
+use mathlib.Core.List.{◌∷◌}
+use Prim.Native.Nat.{◌+◌, ◌-◌}
+use native.Mathlib.Nat.{sub-zero}
+use native.Mathlib.Omega.{arith}
+use borrow.Author.Rules.{rules}
+use Rattle.task_record.specs.Numbers.{pattern_count}
+use Rattle.task_record.specs.TaskOf.{task_of, patterns_of}
+use Rattle.patterns.specs.Additivity.{additivity_of}
+use Rattle.patterns.proofs.Affected.{verdict-at_start}
+use Rattle.patterns.proofs.Gathering.{set_half, set_odd, set_even}
+use Rattle.patterns.proofs.Reading.{affects_at, affected_from, patterns_passed, pattern_spared, pattern_affected, actions_passed, no_pattern, one_pattern, two_patterns}
+use Rattle.patterns.proofs.verdict.scan.Goals as goal
+
+member-sets-requires :
+    tie.Need-member-sets-requires invariant-loop2 decreases-loop2 invariant-loop decreases-loop invariant-scan decreases-scan
+member-sets-requires c κs = search rules
+
+action-count-requires :
+    tie.Need-action-count-requires invariant-loop2 decreases-loop2 invariant-loop decreases-loop invariant-scan decreases-scan
+action-count-requires c κs = search rules
+
+pattern-count-requires :
+    tie.Need-pattern-count-requires invariant-loop2 decreases-loop2 invariant-loop decreases-loop invariant-scan decreases-scan
+pattern-count-requires c κs = search rules
+
+affected-set-requires :
+    tie.Need-affected-set-requires invariant-loop2 decreases-loop2 invariant-loop decreases-loop invariant-scan decreases-scan
+affected-set-requires c κs = (c.before.before.before.before.before.before.requires, c.before.before.before.before.member-sets.ensures, rw c.before.scan.invariant.3 at c.scan-test.true)
+
+pub scan-init : goal.scan-init
+scan-init c = let r = c.args.rec.now in (verdict-at_start (task_of r) (patterns_of r), refl, omega arith, c.action_count-actions.ensures, c.pattern_count-patterns.ensures)
+
+pub loop-p-init : goal.loop-p-init
+loop-p-init c = (refl, c.scan.invariant.1, omega arith, rw sub-zero c.affected_set-left.ensures)
+
+pub loop-q-init : goal.loop-q-init
+loop-q-init c = let r = c.args.rec.now in let s = c.scan in let l = c.loop-p in
+    let t = rw s.invariant.4 at c.loop-p-test.true in (
+      l.invariant.0 ∙ pattern_affected r s.m l.p t (set_odd (affects_at r s.m) l.p (pattern_count r) t (rw l.invariant.3 at c.if-left-eq1.true)),
+      l.invariant.1,
+      omega arith,
+      rw l.invariant.3 (set_half (affects_at r s.m) l.p (pattern_count r) t),
+    )
+
+pub loop-q-preserved : goal.loop-q-preserved
+loop-q-preserved c = let r = c.args.rec.now in let s = c.scan in let l = c.loop-q in
+    let t = rw s.invariant.4 at c.loop-q-test.true in (
+      l.invariant.0 ∙ ap (λ x. c.loop-p.p ∷ x) (pattern_spared r s.m l.q t (set_even (affects_at r s.m) l.q (pattern_count r) t (rw l.invariant.3 at c.if-left-eq1-2.false))),
+      l.invariant.1,
+      omega arith,
+      rw l.invariant.3 (set_half (affects_at r s.m) l.q (pattern_count r) t),
+    )
+
+pub loop-p-preserved : goal.loop-p-preserved
+loop-p-preserved c = let r = c.args.rec.now in let s = c.scan in let l = c.loop-p in
+    let t = rw s.invariant.4 at c.loop-p-test.true in (
+      l.invariant.0 ∙ pattern_spared r s.m l.p t (set_even (affects_at r s.m) l.p (pattern_count r) t (rw l.invariant.3 at c.if-left-eq1.false)),
+      l.invariant.1,
+      omega arith,
+      rw l.invariant.3 (set_half (affects_at r s.m) l.p (pattern_count r) t),
+    )
+
+pub scan-preserved : goal.scan-preserved
+scan-preserved c = let r = c.args.rec.now in let s = c.scan in let l = c.loop-p in
+    let t = rw s.invariant.3 at c.scan-test.true in
+    ⊎_elim
+    (λ w. (s.invariant.0 ∙ no_pattern r s.m t (l.invariant.0 ∙ patterns_passed r s.m l.p (rw s.invariant.4 at w.0.left)), w.1 ∙ l.invariant.1, omega arith, s.invariant.3, s.invariant.4))
+    (λ w. (s.invariant.0 ∙ one_pattern r s.m t l.p (w.2.inv.0 ∙ ap (λ x. l.p ∷ x) (patterns_passed r s.m w.2.q (rw s.invariant.4 at w.3.left))), w.4 ∙ w.2.inv.1, omega arith, s.invariant.3, s.invariant.4))
+    c.loop-p-test.branch
+
+pub returns-after-scan : goal.returns-after-scan
+unfolding additivity_of
+returns-after-scan c = let u = c.scan in u.invariant.1 ∙ sym (ap additivity_of (u.invariant.0 ∙ actions_passed c.args.rec.now u.m (rw u.invariant.3 at c.scan-test.false)))
+
+pub returns-then-left-eq1-2 : goal.returns-then-left-eq1-2
+unfolding additivity_of
+returns-then-left-eq1-2 c = let r = c.args.rec.now in let s = c.scan in let l = c.loop-p in let k = c.loop-q in
+    let t = rw s.invariant.4 at c.loop-q-test.true in
+    sym (ap additivity_of (s.invariant.0 ∙ two_patterns r s.m (rw s.invariant.3 at c.scan-test.true) l.p k.q (affected_from r s.m (k.q + 1))
+    (k.invariant.0 ∙ ap (λ x. l.p ∷ x) (pattern_affected r s.m k.q t (set_odd (affects_at r s.m) k.q (pattern_count r) t (rw k.invariant.3 at c.if-left-eq1-2.true))))))

@@ -1,0 +1,20 @@
+-- `misses` by its tests. Assumes nothing.
+use borrow.Author.Tests.{eq-eqb, ne_eqb}
+use Rattle.plan_check.proofs.cells.misses.Goals as goal
+
+pub returns-then-y-eq255 : goal.returns-then-y-eq255
+returns-then-y-eq255 c =
+    let if1 = c.if-y-eq255 in
+    simp (eq-eqb _ _ if1.true)
+
+pub returns-then-y-x : goal.returns-then-y-x
+returns-then-y-x c =
+    let if1 = c.if-y-eq255 in
+    let if2 = c.if-y-x in
+    simp (ne_eqb _ _ if1.false, eq-eqb _ _ if2.true)
+
+pub returns : goal.returns
+returns c =
+    let if1 = c.if-y-eq255 in
+    let if2 = c.if-y-x in
+    simp (ne_eqb _ _ if1.false, ne_eqb _ _ if2.false)

@@ -1,0 +1,14 @@
+-- `reader::pieces::find` meets its contract: the first b of the whole is that of the rest, further by what was passed. Assumes nothing.
+use Prim.Native.Nat.{◌-◌}
+use native.Mathlib.Omega.{arith}
+use Rattle.reader.proofs.Split.{index_end, index_hit, index_miss}
+use Rattle.reader.proofs.pieces.find.Goals as goal
+
+pub returns-then-s-i : goal.returns-then-s-i
+returns-then-s-i c = omega (arith, index_hit c.args.s.now c.loop-i.i c.args.b c.loop-i-test.true c.if-s-i.true)
+
+pub loop-i-preserved : goal.loop-i-preserved
+loop-i-preserved c = omega (arith, index_miss c.args.s.now c.loop-i.i c.args.b c.loop-i-test.true c.if-s-i.false)
+
+pub returns : goal.returns
+returns c = omega (arith, index_end c.args.s.now c.loop-i.i c.args.b c.loop-i-test.false)

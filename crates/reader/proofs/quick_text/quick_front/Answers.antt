@@ -1,0 +1,87 @@
+-- `reader::quick_text::quick_front` meets its contract: the number of variables, the sizes, the number of actions, the actions. Assumes nothing.
+use borrow.Author.Rules.{rules}
+use Prim.Native.Nat.{◌+◌, ◌≤◌}
+use lib.ListN.{get_or}
+use mathlib.Core.Path.{◌≡◌, sym, ◌∙◌}
+use native.Mathlib.Omega.{arith}
+use Rattle.reader.specs.Bytes.{bytes}
+use Rattle.reader.specs.Grammar.{action_from}
+use Rattle.reader.specs.Quick.{Leads}
+use Rattle.reader.specs.declared.order.Due.TheVariants.{Vars, Size, Moves, Goal}
+use Rattle.reader.proofs.QuickLines.{leads_here, leads_on, number_kept, number_range}
+use Rattle.reader.proofs.QuickOrder.{vars_on, moves_on}
+use Rattle.reader.proofs.quick_text.quick_front.Goals as goal
+
+-- what is known before the sizes
+
+before-sizes : (c : tie.Else1)
+    → let a = c.before.before.before.before.before.before.before.before.args in
+    let r = c.before.before.before.quick-number-line.new.1.1.0 in
+    (1 ≤ get_or r 0 0) × (get_or r 0 0 ≤ 16) × Leads a.text.now Vars a.rec.now 0 (Size 0) r c.before.before.before.quick-number-line.result
+unfolding bytes
+before-sizes c =
+    let a = c.before.before.before.before.before.before.before.before.args in
+    let p = c.before.before.before.quick-number-line in
+    let f = p.ensures.1 (omega arith) in
+    let n = number_range a.text.now 5 p.result 1 16 a.rec.now 0 p.new.1.1.0 f.1 (search rules) in
+    (n.0, n.1, vars_on a.text.now Vars a.rec.now 0 0 p.result a.rec.now p.new.1.1.0 (leads_here a.text.now Vars a.rec.now 0) f.0 f.1)
+
+-- what is known before the actions
+
+before-actions : (c : tie.Else3)
+    → let a = c.before.before.before.before.before.before.before.before.before.before.before.before.before.before.before.before.before.before.before.before.before.args in
+    let r = c.before.before.before.quick-number-line2.new.1.1.0 in
+    (get_or r 0 0 ≡ c.before.before.before.before.before.before.before.before.before.before.before.wide.result) × (c.before.before.before.before.before.before.before.before.before.before.before.wide.result ≤ 16) × (get_or r 1 0 ≤ 64)
+    × Leads a.text.now Vars a.rec.now 0 (action_from r 0) r c.before.before.before.quick-number-line2.result
+unfolding bytes
+before-actions c =
+    let a = c.before.before.before.before.before.before.before.before.before.before.before.before.before.before.before.before.before.before.before.before.before.args in
+    let p = c.before.before.before.before.before.before.before.before.before.before.before.before.before.before.before.before.quick-number-line in
+    let s = c.before.before.before.before.before.before.before.before.before.quick-sizes in
+    let q = c.before.before.before.quick-number-line2 in
+    let e = before-sizes c.before.before.before.before.before.before.before.before.before.before.before.before.before in
+    let f = s.ensures.1 (omega arith) in
+    let g = q.ensures.1 (omega arith) in
+    let w = c.before.before.before.before.before.before.before.before.before.before.before.wide.ensures.0 in
+    let n = e.1 in (
+      number_kept a.text.now (s.result + 6) q.result 0 64 s.new.1.1.0 1 q.new.1.1.0 g.1 0 (λ z. omega arith) ∙ f.0,
+      omega (arith, w, n),
+      (number_range a.text.now (s.result + 6) q.result 0 64 s.new.1.1.0 1 q.new.1.1.0 g.1 (let k = s.auto.1.1.0 in let j = p.auto.1.1.0 in omega (arith, k, j, c.before.before.before.before.before.before.before.before.before.before.before.before.before.before.before.before.before.before.before.before.before.requires))).1,
+      moves_on a.text.now Vars a.rec.now 0 s.result q.result s.new.1.1.0 q.new.1.1.0
+          (leads_on a.text.now Vars (Size 0) Moves a.rec.now p.new.1.1.0 s.new.1.1.0 0 p.result s.result e.2 f.1) g.0 g.1,
+    )
+
+pub returns-then-a-eq0 : goal.returns-then-a-eq0
+returns-then-a-eq0 c = record { upper_bound = search rules; rec_bound = λ h. absurd (omega arith) }
+
+pub quick_sizes-b-requires : goal.quick_sizes-b-requires
+quick_sizes-b-requires c = let e = before-sizes c in
+    let w = c.wide-n.ensures.0 in
+    let l = e.0 in
+    let n = e.1 in
+    (c.quick_number_line-a.ensures.0, search rules, w, omega (arith, w, l), omega (arith, w, n))
+
+pub returns-then-b-eq0 : goal.returns-then-b-eq0
+returns-then-b-eq0 c = record { upper_bound = search rules; rec_bound = λ h. absurd (omega arith) }
+
+pub quick_number_line-c-requires : goal.quick_number_line-c-requires
+quick_number_line-c-requires c = (c.quick_sizes-b.ensures.0, search rules, omega arith, omega arith)
+
+pub returns-then-c-eq0 : goal.returns-then-c-eq0
+returns-then-c-eq0 c = record { upper_bound = search rules; rec_bound = λ h. absurd (omega arith) }
+
+pub quick_actions-requires : goal.quick_actions-requires
+quick_actions-requires c = let e = before-actions c in
+    let w = c.wide-count.ensures.0 in
+    let n = e.2 in
+    (c.quick_number_line-c.ensures.0, search rules, sym e.0, e.1, w, omega (arith, w, n))
+
+pub returns : goal.returns
+returns c = let both = let e = before-actions c in
+    let n = e.1 in (
+      c.quick_actions.ensures.0,
+      λ h. let f = c.quick_actions.ensures.1 h in let z = f.0 in (
+        omega (arith, z, n),
+        leads_on c.args.text.now Vars (action_from c.quick_number_line-c.new.1.1.0 0) Goal c.args.rec.now c.quick_number_line-c.new.1.1.0 c.quick_actions.new.1.1.0 0 c.quick_number_line-c.result c.quick_actions.result e.3 f.1,
+      ),
+    ) in record { upper_bound = both.0; rec_bound = both.1 }

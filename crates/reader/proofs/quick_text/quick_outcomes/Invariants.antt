@@ -1,0 +1,19 @@
+-- `reader::quick_text::quick_outcomes` meets its contract. The loop's invariant: the lines so far lead to the outcome that is due, or past the
+-- last. Assumes nothing.
+use Prim.Native.Nat.{◌+◌, ◌-◌, ◌≤◌}
+use lib.Dec.{ltb}
+use lib.ListN.{length, get_or}
+use mathlib.Core.Bool.{cond}
+use mathlib.Core.Path.{◌≡◌}
+use Rattle.task_record.specs.Layout.{at_action}
+use Rattle.reader.specs.Grammar.{action_from}
+use Rattle.reader.specs.Quick.{Leads}
+use Rattle.reader.specs.declared.order.Due.TheVariants.{Eff}
+use Rattle.reader.proofs.quick_text.quick_outcomes.Given as goal
+
+abbrev pub invariant-loop-a : goal.invariant-loop-a
+invariant-loop-a l = (length l.o ≡ length l.initial.rec) × (l.k ≤ l.count) × (k ≤ length l.text) × (get_or l.o 0 0 ≡ l.n) × (get_or l.o 1 0 ≡ get_or l.initial.rec 1 0) × (get_or l.o (at_action l.m) 0 ≡ l.count)
+    × Leads l.text (Eff l.m 0) l.initial.rec l.at (cond (ltb l.k l.count) (Eff l.m l.k) (action_from l.o (l.m + 1))) l.o k
+
+abbrev pub decreases-loop-a : goal.decreases-loop-a
+decreases-loop-a l = l.count - l.k

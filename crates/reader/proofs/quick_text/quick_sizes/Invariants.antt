@@ -1,0 +1,17 @@
+-- `reader::quick_text::quick_sizes` meets its contract. The loop's invariant: the lines so far lead to the size that is due, or past the last.
+-- Assumes nothing.
+use Prim.Native.Nat.{◌-◌, ◌≤◌}
+use lib.Dec.{ltb}
+use lib.ListN.{length, get_or}
+use mathlib.Core.Bool.{cond}
+use mathlib.Core.Path.{◌≡◌}
+use Rattle.reader.specs.Quick.{Leads}
+use Rattle.reader.specs.declared.order.Due.TheVariants.{Size, Moves}
+use Rattle.reader.proofs.quick_text.quick_sizes.Given as goal
+
+abbrev pub invariant-loop-i : goal.invariant-loop-i
+invariant-loop-i l = (length l.i ≡ length l.initial.rec) × (l.k ≤ l.n) × (k ≤ length l.text) × (get_or l.i 0 0 ≡ l.n)
+    × Leads l.text (Size 0) l.initial.rec l.at (cond (ltb l.k l.n) (Size l.k) Moves) l.i k
+
+abbrev pub decreases-loop-i : goal.decreases-loop-i
+decreases-loop-i l = l.n - l.k

@@ -1,0 +1,57 @@
+-- `reader::quick_text::quick_tail` meets its contract: the number of patterns, the patterns, the limit. Assumes nothing.
+use borrow.Author.Rules.{rules}
+use Prim.Native.Nat.{◌+◌, ◌≤◌}
+use lib.ListN.{get_or}
+use mathlib.Core.Path.{◌≡◌, sym, ◌∙◌}
+use native.Mathlib.Omega.{arith}
+use Rattle.reader.specs.Bytes.{bytes}
+use Rattle.reader.specs.Grammar.{pattern_from}
+use Rattle.reader.specs.Quick.{Leads}
+use Rattle.reader.specs.declared.order.Due.TheVariants.{Patterns, Limit}
+use Rattle.reader.proofs.QuickLines.{leads_here, leads_on, number_kept, number_range}
+use Rattle.reader.proofs.QuickOrder.{patterns_on, limit_on}
+use Rattle.reader.proofs.quick_text.quick_tail.Goals as goal
+
+-- what is known before the patterns
+
+before-patterns : (c : tie.Else1)
+    → let a = c.before.before.before.before.before.before.before.before.args in
+    let r = c.before.before.before.quick-number-line.new.1.1.0 in
+    (a.n ≡ get_or r 0 0) × (get_or r 2 0 ≤ 8) × Leads a.text.now Patterns a.rec.now a.at (pattern_from r 0) r c.before.before.before.quick-number-line.result
+unfolding bytes
+before-patterns c =
+    let a = c.before.before.before.before.before.before.before.before.args in
+    let p = c.before.before.before.quick-number-line in
+    let f = p.ensures.1 (omega arith) in (
+      c.before.before.before.before.before.before.before.before.requires.2 ∙ sym (number_kept a.text.now (a.at + 9) p.result 0 8 a.rec.now 2 p.new.1.1.0 f.1 0 (λ z. omega arith)),
+      (number_range a.text.now (a.at + 9) p.result 0 8 a.rec.now 2 p.new.1.1.0 f.1 (search rules)).1,
+      patterns_on a.text.now Patterns a.rec.now a.at a.at p.result a.rec.now p.new.1.1.0 (leads_here a.text.now Patterns a.rec.now a.at) f.0 f.1,
+    )
+
+pub returns-then-a-eq0 : goal.returns-then-a-eq0
+returns-then-a-eq0 c = record { upper_bound = search rules; leads = λ h. absurd (omega arith) }
+
+pub quick_patterns-b-requires : goal.quick_patterns-b-requires
+quick_patterns-b-requires c = let e = before-patterns c in
+    let w = c.wide-count.ensures.0 in
+    let n = e.1 in
+    (c.quick_number_line-a.ensures.0, search rules, e.0, c.requires.3, w, omega (arith, w, n))
+
+pub returns-then-b-eq0 : goal.returns-then-b-eq0
+returns-then-b-eq0 c = record { upper_bound = search rules; leads = λ h. absurd (omega arith) }
+
+pub quick_number_line-requires : goal.quick_number_line-requires
+quick_number_line-requires c = (c.quick_patterns-b.ensures.0, search rules, omega arith, omega arith)
+
+pub returns : goal.returns
+unfolding bytes
+returns c = let both = let e = before-patterns c in
+    let a = c.args in
+    let p = c.quick_number_line-a in
+    let s = c.quick_patterns-b in
+    let q = c.quick_number_line in (
+      q.ensures.0,
+      λ h. let f = q.ensures.1 h in
+          limit_on a.text.now Patterns a.rec.now a.at s.result q.result s.new.1.1.0 q.new.1.1.0
+          (leads_on a.text.now Patterns (pattern_from p.new.1.1.0 0) Limit a.rec.now p.new.1.1.0 s.new.1.1.0 a.at p.result s.result e.2 (s.ensures.1 (omega arith))) f.0 f.1,
+    ) in record { upper_bound = both.0; leads = both.1 }

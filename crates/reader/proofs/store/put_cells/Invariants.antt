@@ -1,0 +1,12 @@
+-- `reader::store::put_cells` meets its contract: the stores of the whole run are those that are left. Assumes nothing.
+use Prim.Native.Nat.{◌+◌, ◌-◌, ◌≤◌}
+use lib.ListN.{drop, length}
+use lib.Seq.{sets}
+use mathlib.Core.Path.{◌≡◌}
+use Rattle.reader.proofs.store.put_cells.Given as goal
+
+abbrev pub invariant-loop-i : goal.invariant-loop-i
+invariant-loop-i l = (l.i ≤ l.n) × (length l.r ≡ length l.initial.r) × (sets l.initial.r l.at l.cells ≡ sets l.r (l.at + l.i) (drop l.i l.cells))
+
+abbrev pub decreases-loop-i : goal.decreases-loop-i
+decreases-loop-i l = l.n - l.i

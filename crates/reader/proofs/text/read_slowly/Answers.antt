@@ -1,0 +1,35 @@
+-- `reader::text::read_slowly` meets its contract: what the lines make of a blank record, copied out where the whole text is good. Assumes nothing.
+use borrow.Author.Rules.{rules}
+use Prim.Native.Nat.{ℕ}
+use mathlib.Core.List.{List}
+use mathlib.Core.Path.{◌∙◌, ◌≡◌, ap, sym}
+use Rattle.reader.specs.Grammar.{read_from, read_whole, whole_of}
+use Rattle.task_record.specs.Layout.{record_size}
+use Rattle.reader.specs.Text.{lines_of}
+use Rattle.reader.specs.declared.order.Due.TheVariants.{Vars}
+use Rattle.reader.specs.declared.text.Reading.{Reading}
+use Rattle.reader.proofs.Answers.{answers_read, answers_refused}
+use Rattle.reader.proofs.Stores.{sets_front, fill_whole}
+use Rattle.reader.proofs.text.read_slowly.Goals as goal
+
+-- what the lines make of the blank record is what the text says
+
+whole-text : (c : tie.After-read-lines) → read_whole c.before.before.before.before.before.before.before.before.before.before.before.before.before.args.text.now ≡ whole_of c.read-lines.result c.read-lines.new.1.0
+unfolding read_whole
+whole-text c = ap (λ (r : List ℕ). read_from 1 Vars r (lines_of c.before.before.before.before.before.before.before.before.before.before.before.before.before.args.text.now)) (sym c.before.before.before.before.clear-record.ensures) ∙ c.read-lines.ensures
+
+pub clear_record-requires : goal.clear_record-requires
+clear_record-requires c = c.fill.ensures ∙ fill_whole c.args.local.now c.requires.1
+
+pub returns-in-Read : goal.returns-in-Read
+returns-in-Read c = let a = c.args in
+    let p = c.requires.0 in
+    let l = c.read-lines.new.1.0 in
+    let d = answers_read a.text.now a.record.now p l (whole-text c ∙ ap (λ (r : Reading). whole_of r l) c.enum_told.given.1) in
+    (d.0, c.put_cells.ensures ∙ sets_front a.record.now l record_size (search rules) p ∙ d.1)
+
+pub returns-in-Refused : goal.returns-in-Refused
+returns-in-Refused c = let a = c.args in
+    let l = c.read_lines-answer.new.1.0 in
+    let g = c.answer-1.given in
+    answers_refused a.text.now a.record.now c.requires.0 g.0.0 g.0.1.0 (whole-text c ∙ ap (λ (r : Reading). whole_of r l) g.1)

@@ -1,0 +1,53 @@
+-- `reader::text::read_text` meets its contract: 5 for a short record, else what the lines make of a blank record, copied out where the whole
+-- text is good; in numbers line 5, then those of the text. Assumes nothing.
+use borrow.Author.Rules.{rules}
+use Prim.Native.Nat.{ℕ}
+use borrow.Author.Tests.{lt-ltb}
+use lib.Dec.{ltb}
+use lib.ListN.{length}
+use mathlib.Core.List.{List}
+use mathlib.Core.Path.{◌∙◌, ◌≡◌, ap, refl, sym}
+use Rattle.reader.specs.Grammar.{Whole, answer_of, complete, read_answer, read_from, read_leaves, read_whole, refused}
+use Rattle.task_record.specs.Answers.{short_record}
+use Rattle.task_record.proofs.ByLines.{line-told}
+use Rattle.reader.specs.Answers.{read_numbers, whole_numbers, text_by_lines}
+use Rattle.reader.specs.declared.text.Reading.{Reading}
+use Rattle.task_record.specs.Layout.{record_size}
+use Rattle.reader.specs.Stores.{all_unnamed}
+use Rattle.reader.specs.Text.{lines_of}
+use Rattle.reader.specs.declared.order.Due.TheVariants.{Vars}
+use Rattle.reader.proofs.Answers.{answers_read}
+use Rattle.reader.proofs.Stores.{sets_front}
+use Rattle.reader.proofs.text.read_text.Goals as goal
+
+-- a text that is known for good says the record that was filled
+
+good-text : (c : tie.Then2) → read_whole c.before.before.before.before.before.before.before.before.before.before.args.text.now ≡ complete c.before.before.is-good.new.1.0
+unfolding read_whole
+good-text c = ap (λ (r : List ℕ). read_from 1 Vars r (lines_of c.before.before.before.before.before.before.before.before.before.before.args.text.now)) (sym c.before.before.before.before.before.clear-record.ensures) ∙ c.before.before.is-good.ensures c.if2.true
+
+whole-told : (x : Whole) → read_numbers (answer_of x) ≡ whole_numbers x
+unfolding read_numbers whole_numbers
+whole-told (complete r) = refl
+whole-told (refused number line) = refl
+
+told : (text record₀ : List ℕ) → (x : Reading) → {L : Type 0} → (x ≡ read_answer text record₀) × L → ((x ≡ read_answer text record₀) × L) × (read_numbers x ≡ text_by_lines text record₀)
+unfolding read_answer read_numbers text_by_lines short_record
+told text record₀ x e = (e, ap read_numbers e.0 ∙ line-told read_numbers (ltb (length record₀) record_size) _ _ 5 (length record₀) _ refl (whole-told (read_whole text)))
+
+pub returns-then-record-lt-RECORD_SIZE : goal.returns-then-record-lt-RECORD_SIZE
+unfolding read_answer read_leaves
+returns-then-record-lt-RECORD_SIZE c = let both = told _ _ _ (simp (lt-ltb _ _ c.if-record-lt-RECORD_SIZE.true), simp (lt-ltb _ _ c.if-record-lt-RECORD_SIZE.true)) in record { value = both.0; numbers = both.1 }
+
+pub clear_record-requires : goal.clear_record-requires
+unfolding all_unnamed
+clear_record-requires c = refl
+
+pub returns-then-is_good : goal.returns-then-is_good
+returns-then-is_good c = let both = let a = c.args in
+    let l = c.is_good.new.1.0 in
+    let d = answers_read a.text.now a.record.now c.if-record-lt-RECORD_SIZE.false l (good-text c) in
+    told _ _ _ (d.0, c.put_cells.ensures ∙ sets_front a.record.now l record_size (search rules) c.if-record-lt-RECORD_SIZE.false ∙ d.1) in record { value = both.0; numbers = both.1 }
+
+pub returns : goal.returns
+returns c = let both = told _ _ _ c.read_slowly.ensures in record { value = both.0; numbers = both.1 }

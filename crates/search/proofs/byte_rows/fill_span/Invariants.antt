@@ -1,0 +1,10 @@
+-- `search::byte_rows::fill_span` meets its contract. The loop's invariant: blocks below j are written. Assumes nothing.
+use Rattle.std.proofs.Common.{◌-◌, ◌≤◌}
+use Rattle.search.proofs.PlacesFilled.{Spanning}
+use Rattle.search.proofs.byte_rows.fill_span.Given as goal
+
+abbrev pub invariant-loop-j : goal.invariant-loop-j
+invariant-loop-j l = (l.j ≤ l.count) × Spanning l.rows l.variables l.p l.first l.count l.initial.places l.places l.at l.j
+
+abbrev pub decreases-loop-j : goal.decreases-loop-j
+decreases-loop-j l = l.count - l.j

@@ -1,0 +1,20 @@
+-- `search::guide::fill_guide` meets its contract. Assumes nothing.
+use Rattle.std.proofs.Common.{◌∙◌, arith}
+use Rattle.task_record.proofs.SoundTask.{actions_right}
+use Rattle.search.proofs.Guiding.{owned_same}
+use Rattle.search.proofs.guide.fill_guide.Goals as goal
+
+pub put_owners-requires : goal.put_owners-requires
+put_owners-requires c = c.requires.0
+
+pub put_sizes-requires : goal.put_sizes-requires
+put_sizes-requires c = c.put_owners.auto.1.0 ∙ c.requires.0
+
+pub returns : goal.returns
+returns c = let both = let p = c.requires in let z = c.put_sizes.ensures.0 in let q = c.put_owners.ensures in let n = actions_right _ p.1 in (
+  z,
+  (
+    λ i h. c.put_sizes.ensures.1.before i h ∙ q.kept i (omega (arith, h)),
+    λ rows offsets f. rw (z.actions, z.patterns, z.variables) (owned_same _ _ _ _ _ _ _ n (λ m h. c.put_sizes.ensures.1.after m ∙ q.owner m h) (c.fill_owners.ensures rows offsets f)),
+  ),
+) in record { sized = both.0; kept = both.1; owned = both.2 }

@@ -1,0 +1,89 @@
+-- `part_of`: the entries of the patterns passed are added; the last of them begins where those before it end. Assumes nothing.
+use Rattle.std.proofs.Common.{◌≡◌, ℕ, ◌+◌, ◌-◌, ◌<◌, ◌≤◌, List, [], get_or, take, sym, refl, ap, ◌∙◌, ap₂, arith}
+use Rattle.planning.specs.Table.{state_count, Small}
+use Rattle.planning.proofs.Finite.{all_at}
+use Rattle.task_record.specs.Cells.{state_cells}
+use Rattle.task_record.specs.Layout.{at_pattern}
+use Rattle.task_record.specs.Numbers.{variable_count, pattern_count, size_of}
+use Rattle.task_record.specs.Record.{Sound}
+use Rattle.task_record.specs.TaskOf.{cells_at, task_of, patterns_of}
+use Rattle.task_record.specs.Window.{Sixteen}
+use Rattle.task_record.proofs.Cellwise.{state_cells_whole}
+use Rattle.task_record.proofs.SoundTask.{patterns_right}
+use Rattle.patterns.proofs.Reading.{patterns_length, pattern_at}
+use Rattle.patterns.proofs.Sizes.{sixteen_sizes, sizes_taken, pattern_whole}
+use Rattle.tables.specs.Steps.{Sized}
+use Rattle.tables.proofs.TableChain.{pattern_sized}
+use Rattle.tables.proofs.Spreading.{needed_next}
+use Rattle.patterns.specs.Space.{entries_needed}
+use Rattle.tables.proofs.spread.part_of.Goals as goal
+
+-- What was read of the record: its sizes, the number of its variables, and the pattern.
+
+module _ (c : tie.After-state-of invariant-loop decreases-loop) where
+  abbrev rec : List ℕ
+  rec = c.before.before.before.before.before.before.before.before.args.rec.now
+
+  abbrev number : ℕ
+  number = c.before.before.before.loop.q
+
+  abbrev sizes : List ℕ
+  sizes = c.before.before.before.before.before.before.sizes-of.result
+
+  sound : Sound rec
+  sound = c.before.before.before.before.before.before.before.before.requires.0
+
+  below : number < pattern_count rec
+  below = omega (arith, c.before.before.loop-test.true, c.before.before.before.before.before.before.before.before.requires.2)
+
+  sixteen : Sixteen (size_of rec) sizes
+  sixteen = sixteen_sizes _ _ c.before.before.before.before.before.before.sizes-of.ensures
+
+  variables-known : c.before.before.before.before.wide.result ≡ variable_count rec
+  variables-known = c.before.before.before.before.wide.ensures.0 ∙ c.before.before.before.before.before.variable-count.ensures
+
+  pattern_known : c.state-of.result ≡ cells_at rec (at_pattern number)
+  pattern_known = c.state-of.ensures ∙ ap state_cells c.before.pattern_Cells.ensures ∙ sym (state_cells_whole (cells_at rec (at_pattern number)) (pattern_whole rec sound number below))
+
+  few : state_count (task_of rec).sizes (get_or (patterns_of rec) number []) ≤ 4096
+  unfolding Small
+  few = all_at (λ x. state_count (task_of rec).sizes x ≤ 4096) (patterns_of rec) [] c.before.before.before.before.before.before.before.before.requires.1 number (rw (patterns_length rec) below)
+
+  states-known : state_count (take c.before.before.before.before.wide.result sizes) c.state-of.result ≡ state_count (task_of rec).sizes (get_or (patterns_of rec) number [])
+  states-known = ap₂ state_count (ap (λ k. take k sizes) variables-known ∙ sizes_taken rec sound sizes sixteen) (pattern_known ∙ sym (pattern_at rec number below))
+
+same-sized : (zs p q : List ℕ) (n m : ℕ) → p ≡ q → n ≡ m → Sized zs q m → Sized zs p n
+same-sized zs p q n m e f s = rw (e, f) s
+
+pub overflow_add-q-end : goal.overflow_add-q-end
+overflow_add-q-end c = let k = patterns_right c.args.rec.now c.requires.0 in omega (arith, c.requires.2)
+
+pub loop-q-init : goal.loop-q-init
+unfolding entries_needed
+loop-q-init c = (omega arith, refl, refl, omega arith)
+
+pub state_count-requires : goal.state_count-requires
+state_count-requires c = same-sized _ _ _ _ _ (pattern_known c) (variables-known c)
+    (pattern_sized (rec c) (sound c) (sizes c) (sixteen c) (cells_at (rec c) (at_pattern (number c))) (rw (pattern_at (rec c) (number c) (below c)) at (few c)))
+
+pub overflow_add-end : goal.overflow_add-end
+overflow_add-end c = let e = c.state_count.ensures ∙ states-known c in let k = patterns_right (rec c) (sound c) in
+    omega (arith, few c, below c, c.loop-q.invariant.3)
+
+pub overflow_step-q : goal.overflow_step-q
+overflow_step-q c = let k = patterns_right (rec c) (sound c) in omega (arith, below c)
+
+pub loop-q-smaller : goal.loop-q-smaller
+loop-q-smaller c = omega (arith, c.loop-q-test.true)
+
+pub loop-q-preserved : goal.loop-q-preserved
+loop-q-preserved c = let e = c.state_count.ensures ∙ states-known c in let l = c.loop-q in
+    let t = c.loop-q-test.true in
+    let n = needed_next (task_of (rec c)).sizes (patterns_of (rec c)) l.q (rw (patterns_length (rec c)) (below c)) in
+    let k : l.q ≡ (l.q + 1) - 1 = omega arith in
+    (omega arith, l.invariant.2 ∙ ap (λ k. entries_needed (task_of (rec c)).sizes (take k (patterns_of (rec c)))) k, omega (arith, l.invariant.2), omega (arith, few c, l.invariant.3))
+
+pub returns : goal.returns
+returns c = let l = c.loop-q in let a = c.args in let t = c.loop-q-test.false in let i = l.invariant.0 in
+    let e : l.q ≡ a.p + 1 = omega arith in let f : l.q - 1 ≡ a.p = omega arith in
+    let needed : ℕ → ℕ = λ k. entries_needed (task_of a.rec.now).sizes (take k (patterns_of a.rec.now)) in (l.invariant.1 ∙ ap needed f, l.invariant.2 ∙ ap needed e)

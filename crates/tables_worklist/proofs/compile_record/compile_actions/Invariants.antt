@@ -1,0 +1,10 @@
+-- `tables::compile_record::compile_actions` meets its contract. Assumes nothing.
+use Rattle.std.proofs.Common.{◌≡◌, ◌-◌, ◌≤◌, length}
+use Rattle.tables_worklist.specs.Compiling.{ActionsCompiled}
+use Rattle.tables_worklist.proofs.compile_record.compile_actions.Given as goal
+
+abbrev pub invariant-loop-m : goal.invariant-loop-m
+invariant-loop-m l = (l.m ≤ l.n) × (length l.task ≡ length l.initial.task) × ActionsCompiled l.rec l.initial.task l.task l.m
+
+abbrev pub decreases-loop-m : goal.decreases-loop-m
+decreases-loop-m l = l.n - l.m

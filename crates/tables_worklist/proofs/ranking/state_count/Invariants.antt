@@ -1,0 +1,10 @@
+-- `tables::ranking::state_count` meets its contract. Assumes nothing.
+use Rattle.std.proofs.Common.{◌-◌}
+use Rattle.tables_worklist.proofs.Spacing.{Weighed}
+use Rattle.tables_worklist.proofs.ranking.state_count.Given as goal
+
+abbrev pub invariant-loop-v : goal.invariant-loop-v
+invariant-loop-v l = Weighed l.sizes l.pattern l.n l.w l.v
+
+abbrev pub decreases-loop-v : goal.decreases-loop-v
+decreases-loop-v l = l.n - l.v

@@ -1,0 +1,10 @@
+-- `tables::ranking::weights_of` meets its contract. Assumes nothing.
+use Rattle.std.proofs.Common.{◌-◌}
+use Rattle.tables_worklist.proofs.Spacing.{Weighing}
+use Rattle.tables_worklist.proofs.ranking.weights_of.Given as goal
+
+abbrev pub invariant-loop-v : goal.invariant-loop-v
+invariant-loop-v l = Weighing l.sizes l.pattern l.n l.r l.w l.v
+
+abbrev pub decreases-loop-v : goal.decreases-loop-v
+decreases-loop-v l = l.n - l.v

@@ -1,0 +1,10 @@
+-- `tables::steps::start` meets its contract. Assumes nothing.
+use Rattle.std.proofs.Common.{◌≡◌, ◌-◌, ◌≤◌, length}
+use Rattle.tables_worklist.proofs.Stepping.{StartedTo}
+use Rattle.tables_worklist.proofs.steps.start.Given as goal
+
+abbrev pub invariant-loop-next : goal.invariant-loop-next
+invariant-loop-next l = (l.next ≤ length l.entries) × (length l.entries ≡ length l.initial.entries) × StartedTo l.task l.mask l.states l.entries l.next
+
+abbrev pub decreases-loop-next : goal.decreases-loop-next
+decreases-loop-next l = length l.initial.entries - l.next

@@ -1,0 +1,11 @@
+-- `tables::visits::offer_along` meets its contract. Assumes nothing.
+use Rattle.std.proofs.Common.{◌-◌}
+use Rattle.tables_worklist.specs.Steps.{space}
+use Rattle.tables_worklist.proofs.Asking.{Offering}
+use Rattle.tables_worklist.proofs.visits.offer_along.Given as goal
+
+abbrev pub invariant-loop-f : goal.invariant-loop-f
+invariant-loop-f l = Offering (space l.task l.mask l.weights l.states l.actions) l.edges l.entries l.e l.i l.f l.most
+
+abbrev pub decreases-loop-f : goal.decreases-loop-f
+decreases-loop-f l = l.end - l.f

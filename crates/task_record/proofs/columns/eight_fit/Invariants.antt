@@ -1,0 +1,11 @@
+-- `eight_fit`: no fault was gathered only if the columns passed are right. Assumes nothing.
+use Rattle.std.proofs.Common.{◌≡◌, ℕ, ◌+◌, ◌-◌, ◌<◌, ◌≤◌, length, get_or}
+use Rattle.task_record.specs.Layout.{at_pattern}
+use Rattle.task_record.specs.Columns.{MemberColumn}
+use Rattle.task_record.proofs.columns.eight_fit.Given as goal
+
+abbrev pub invariant-loop-v : goal.invariant-loop-v
+invariant-loop-v l = (l.v ≤ 16) × (length l.sizes ≡ 16) × (l.bad ≡ 0 → (k : ℕ) → k < l.v → MemberColumn l.c (get_or l.sizes k 0) (at_pattern 0 + k) l.used)
+
+abbrev pub decreases-loop-v : goal.decreases-loop-v
+decreases-loop-v l = 16 - l.v

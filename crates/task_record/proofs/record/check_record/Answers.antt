@@ -1,0 +1,36 @@
+-- `check_record`: the length, then all cells at once, then the lowest bad offset; in numbers lines 5 and 6. Assumes nothing.
+use Rattle.std.proofs.Common.{◌≡◌, ℕ, List, sym, refl, ap, ◌∙◌, le-ltb, lt-ltb}
+use Rattle.task_record.specs.Record.{record_check, Sound}
+use Rattle.task_record.specs.Answers.{record_numbers, record_by_lines}
+use Rattle.task_record.specs.declared.record.RecordCheck.{RecordCheck}
+use Rattle.task_record.proofs.ByLines.{after_record_lem}
+use Rattle.task_record.proofs.record.check_record.Goals as goal
+
+told : (r : List ℕ) → (x : RecordCheck) → x ≡ record_check r → (x ≡ record_check r) × (record_numbers x ≡ record_by_lines r)
+unfolding record_numbers record_by_lines
+told r x e = (e, ap record_numbers e ∙ after_record_lem record_numbers (λ t. t) r _ (λ n k. refl) refl)
+
+pub returns-then-rec-lt-RECORD_SIZE : goal.returns-then-rec-lt-RECORD_SIZE
+unfolding record_check
+returns-then-rec-lt-RECORD_SIZE c = let both = let if1 = c.if-rec-lt-RECORD_SIZE in
+    told _ _ (simp (lt-ltb _ _ if1.true)) in record { value = both.0; numbers = both.1 }
+
+pub returns-then-is_sound : goal.returns-then-is_sound
+unfolding Sound
+returns-then-is_sound c = let both = let is-sound = c.is_sound in
+    let if2 = c.if-is_sound in
+    told _ _ (sym (is-sound.ensures if2.true)) in record { value = both.0; numbers = both.1 }
+
+pub returns-then-k-lt-RECORD_SIZE : goal.returns-then-k-lt-RECORD_SIZE
+unfolding record_check
+returns-then-k-lt-RECORD_SIZE c = let both = let if1 = c.if-rec-lt-RECORD_SIZE in
+    let first-bad = c.first_bad-k in
+    let if3 = c.if-k-lt-RECORD_SIZE in
+    told _ _ (simp (← first-bad.ensures, le-ltb _ _ if1.false, lt-ltb _ _ if3.true)) in record { value = both.0; numbers = both.1 }
+
+pub returns : goal.returns
+unfolding record_check
+returns c = let both = let if1 = c.if-rec-lt-RECORD_SIZE in
+    let first-bad = c.first_bad-k in
+    let if3 = c.if-k-lt-RECORD_SIZE in
+    told _ _ (simp (← first-bad.ensures, le-ltb _ _ if1.false, le-ltb _ _ if3.false)) in record { value = both.0; numbers = both.1 }

@@ -1,0 +1,14 @@
+-- `build`: what is lent are parts of the slices. Assumes nothing.
+use borrow.Author.Rules.{rules}
+use mathlib.Core.Path.{sym}
+use lib.Seq.{length-take-le}
+use Rattle.vectors.proofs.calls.build.Goals as goal
+
+pub slice_bounds-number_at-end-2 : goal.slice_bounds-number_at-end-2
+slice_bounds-number_at-end-2 c = sym (length-take-le _ _ (search rules))
+
+pub slice_bounds-planner_build_tables-end-2 : goal.slice_bounds-planner_build_tables-end-2
+slice_bounds-planner_build_tables-end-2 c = sym (length-take-le _ _ (search rules))
+
+pub slice_bounds-show_entries-end-2 : goal.slice_bounds-show_entries-end-2
+slice_bounds-show_entries-end-2 c = sym (length-take-le _ _ (search rules))

@@ -1,0 +1,11 @@
+-- `state`: what is lent are parts of the slices. Assumes nothing.
+use borrow.Author.Rules.{rules}
+use mathlib.Core.Path.{sym}
+use lib.Seq.{length-take-le}
+use Rattle.vectors.proofs.calls.state.Goals as goal
+
+pub slice_bounds-copy_bytes-end-2 : goal.slice_bounds-copy_bytes-end-2
+slice_bounds-copy_bytes-end-2 c = sym (length-take-le _ _ (search rules))
+
+pub slice_bounds-planner_check_state-end-2 : goal.slice_bounds-planner_check_state-end-2
+slice_bounds-planner_check_state-end-2 c = sym (length-take-le _ _ (search rules))
