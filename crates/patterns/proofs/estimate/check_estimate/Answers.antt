@@ -16,12 +16,12 @@ told r lent x e = (e, ap estimate_numbers e ∙ after_record_lem estimate_number
 
 pub judge_estimate-requires : goal.judge_estimate-requires
 unfolding Sound
-judge_estimate-requires c = sym c.check_record.ensures.0 ∙ c.in-Sound.is
+judge_estimate-requires c = sym c.check_record.ensures.value ∙ c.in-Sound.is
 
 pub returns-in-Refused : goal.returns-in-Refused
 unfolding estimate_check after_record
-returns-in-Refused c = let both = let a = c.args in told _ _ _ (sym (ap (λ t. after_record t (judge_estimate a.rec.now a.lent)) (sym c.check_record.ensures.0 ∙ c.in-Refused.is))) in record { value = both.0; numbers = both.1 }
+returns-in-Refused c = let both = let a = c.args in told _ _ _ (sym (ap (λ t. after_record t (judge_estimate a.rec.now a.lent)) (sym c.check_record.ensures.value ∙ c.in-Refused.is))) in record { value = both.0; numbers = both.1 }
 
 pub returns-in-Sound : goal.returns-in-Sound
 unfolding estimate_check after_record
-returns-in-Sound c = let both = let a = c.args in told _ _ _ (c.judge_estimate.ensures ∙ sym (ap (λ t. after_record t (judge_estimate a.rec.now a.lent)) (sym c.check_record.ensures.0 ∙ c.in-Sound.is))) in record { value = both.0; numbers = both.1 }
+returns-in-Sound c = let both = let a = c.args in told _ _ _ (c.judge_estimate.ensures ∙ sym (ap (λ t. after_record t (judge_estimate a.rec.now a.lent)) (sym c.check_record.ensures.value ∙ c.in-Sound.is))) in record { value = both.0; numbers = both.1 }

@@ -17,12 +17,12 @@ told r lent x e = (e, ap table_numbers e ∙ after_record_lem table_numbers (λ 
 
 pub judge_tables-requires : goal.judge_tables-requires
 unfolding Sound
-judge_tables-requires c = sym c.check_record.ensures.0 ∙ c.in-Sound.is
+judge_tables-requires c = sym c.check_record.ensures.value ∙ c.in-Sound.is
 
 pub returns-in-Refused : goal.returns-in-Refused
 unfolding table_check after_record
-returns-in-Refused c = let both = let a = c.args in told _ _ _ (sym (ap (λ t. after_record t (judge_tables (task_of a.rec.now).sizes (patterns_of a.rec.now) a.lent)) (sym c.check_record.ensures.0 ∙ c.in-Refused.is))) in record { value = both.0; numbers = both.1 }
+returns-in-Refused c = let both = let a = c.args in told _ _ _ (sym (ap (λ t. after_record t (judge_tables (task_of a.rec.now).sizes (patterns_of a.rec.now) a.lent)) (sym c.check_record.ensures.value ∙ c.in-Refused.is))) in record { value = both.0; numbers = both.1 }
 
 pub returns-in-Sound : goal.returns-in-Sound
 unfolding table_check after_record
-returns-in-Sound c = let both = let a = c.args in told _ _ _ (c.judge_tables.ensures ∙ sym (ap (λ t. after_record t (judge_tables (task_of a.rec.now).sizes (patterns_of a.rec.now) a.lent)) (sym c.check_record.ensures.0 ∙ c.in-Sound.is))) in record { value = both.0; numbers = both.1 }
+returns-in-Sound c = let both = let a = c.args in told _ _ _ (c.judge_tables.ensures ∙ sym (ap (λ t. after_record t (judge_tables (task_of a.rec.now).sizes (patterns_of a.rec.now) a.lent)) (sym c.check_record.ensures.value ∙ c.in-Sound.is))) in record { value = both.0; numbers = both.1 }

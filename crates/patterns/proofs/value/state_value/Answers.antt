@@ -29,13 +29,13 @@ told r s tabs x e = let v = value_of (read_value r s tabs) in (
 )
 
 pub judge_value-requires : goal.judge_value-requires
-judge_value-requires c = sym c.check_state.ensures.0 ∙ c.in-Good.is
+judge_value-requires c = sym c.check_state.ensures.value ∙ c.in-Good.is
 
 pub refuse_value-requires : goal.refuse_value-requires
-refuse_value-requires c = let a = c.args in late_refusal_sound a.rec.now a.state.now a.tables.now _ _ (sym c.check_state.ensures.0 ∙ c.in-Refused.is)
+refuse_value-requires c = let a = c.args in late_refusal_sound a.rec.now a.state.now a.tables.now _ _ (sym c.check_state.ensures.value ∙ c.in-Refused.is)
 
 pub returns-in-Good : goal.returns-in-Good
-returns-in-Good c = let both = let a = c.args in told _ _ _ _ (c.judge_value.ensures ∙ sym (value_of_good a.rec.now a.state.now a.tables.now (sym c.check_state.ensures.0 ∙ c.in-Good.is))) in record { value = both.0; numbers = both.1 }
+returns-in-Good c = let both = let a = c.args in told _ _ _ _ (c.judge_value.ensures ∙ sym (value_of_good a.rec.now a.state.now a.tables.now (sym c.check_state.ensures.value ∙ c.in-Good.is))) in record { value = both.0; numbers = both.1 }
 
 pub returns-in-Refused : goal.returns-in-Refused
-returns-in-Refused c = let both = let a = c.args in told _ _ _ _ (c.refuse_value.ensures ∙ sym (value_of-refused a.rec.now a.state.now a.tables.now _ _ (sym c.check_state.ensures.0 ∙ c.in-Refused.is))) in record { value = both.0; numbers = both.1 }
+returns-in-Refused c = let both = let a = c.args in told _ _ _ _ (c.refuse_value.ensures ∙ sym (value_of-refused a.rec.now a.state.now a.tables.now _ _ (sym c.check_state.ensures.value ∙ c.in-Refused.is))) in record { value = both.0; numbers = both.1 }

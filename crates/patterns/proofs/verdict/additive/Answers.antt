@@ -23,12 +23,12 @@ told r x e = (e, ap additivity_numbers e ∙ after_record_lem additivity_numbers
 
 pub scan-requires : goal.scan-requires
 unfolding Sound
-scan-requires c = sym c.check_record.ensures.0 ∙ c.in-Sound.is
+scan-requires c = sym c.check_record.ensures.value ∙ c.in-Sound.is
 
 pub returns-in-Refused : goal.returns-in-Refused
 unfolding additivity after_record
-returns-in-Refused c = let both = let r = c.args.rec.now in told _ _ (sym (ap (λ t. after_record t (additivity_of (verdict (task_of r) (patterns_of r)))) (sym c.check_record.ensures.0 ∙ c.in-Refused.is))) in record { value = both.0; numbers = both.1 }
+returns-in-Refused c = let both = let r = c.args.rec.now in told _ _ (sym (ap (λ t. after_record t (additivity_of (verdict (task_of r) (patterns_of r)))) (sym c.check_record.ensures.value ∙ c.in-Refused.is))) in record { value = both.0; numbers = both.1 }
 
 pub returns-in-Sound : goal.returns-in-Sound
 unfolding additivity after_record
-returns-in-Sound c = let both = let r = c.args.rec.now in told _ _ (c.scan.ensures ∙ sym (ap (λ t. after_record t (additivity_of (verdict (task_of r) (patterns_of r)))) (sym c.check_record.ensures.0 ∙ c.in-Sound.is))) in record { value = both.0; numbers = both.1 }
+returns-in-Sound c = let both = let r = c.args.rec.now in told _ _ (c.scan.ensures ∙ sym (ap (λ t. after_record t (additivity_of (verdict (task_of r) (patterns_of r)))) (sym c.check_record.ensures.value ∙ c.in-Sound.is))) in record { value = both.0; numbers = both.1 }

@@ -25,18 +25,18 @@ told r s plan x e = let y = check_plan (tower r) most_moves (values_of r s) plan
     (e, ap numbers_of e ∙ after_check numbers_of (λ t. after_state t (λ u. answer_of y)) r s _ (λ n k. refl) (bytes-told y))
 
 pub cells_at-requires : goal.cells_at-requires
-cells_at-requires c = let whole = (checked_good _ _ (sym c.check_state.ensures.0 ∙ c.in-Good.is)).1.whole in omega arith
+cells_at-requires c = let whole = (checked_good _ _ (sym c.check_state.ensures.value ∙ c.in-Good.is)).1.whole in omega arith
 
 pub check_bytes-requires : goal.check_bytes-requires
-check_bytes-requires c = (checked_good _ _ (sym c.check_state.ensures.0 ∙ c.in-Good.is)).0
+check_bytes-requires c = (checked_good _ _ (sym c.check_state.ensures.value ∙ c.in-Good.is)).0
 
 pub returns-in-Refused : goal.returns-in-Refused
 unfolding plan_check_of after_state
-returns-in-Refused c = let both = told _ _ _ _ (rw (sym c.check_state.ensures.0 ∙ c.in-Refused.is)) in record { value = both.0; numbers = both.1 }
+returns-in-Refused c = let both = told _ _ _ _ (rw (sym c.check_state.ensures.value ∙ c.in-Refused.is)) in record { value = both.0; numbers = both.1 }
 
 pub returns-in-Good : goal.returns-in-Good
 unfolding plan_check_of after_state
-returns-in-Good c = let both = let good = sym c.check_state.ensures.0 ∙ c.in-Good.is in
+returns-in-Good c = let both = let good = sym c.check_state.ensures.value ∙ c.in-Good.is in
     let whole = (checked_good _ _ good).1.whole in
     let same = c.cells_at.ensures ∙ take_all 16 c.args.state.now (omega arith) in
     told _ _ _ _ (rw good (rw same at c.check_bytes.ensures)) in record { value = both.0; numbers = both.1 }

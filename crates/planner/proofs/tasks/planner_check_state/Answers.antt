@@ -6,8 +6,8 @@ use Rattle.planner.proofs.tasks.planner_check_state.Goals as goal
 
 pub returns-in-Refused : goal.returns-in-Refused
 unfolding state_numbers
-returns-in-Refused c = c.refuse.ensures ∙ ap (λ x. five_numbers (state_numbers x)) (sym c.in-Refused.is ∙ c.check_state.ensures.0)
+returns-in-Refused c = c.refuse.ensures ∙ ap (λ x. five_numbers (state_numbers x)) (sym c.in-Refused.is ∙ c.check_state.ensures.value)
 
 pub returns-in-Good : goal.returns-in-Good
 unfolding state_numbers
-returns-in-Good c = c.reply.ensures ∙ ap (λ x. five_numbers (state_numbers x)) (sym c.in-Good.is ∙ c.check_state.ensures.0)
+returns-in-Good c = c.reply.ensures ∙ ap (λ x. five_numbers (state_numbers x)) (sym c.in-Good.is ∙ c.check_state.ensures.value)

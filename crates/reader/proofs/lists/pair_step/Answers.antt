@@ -6,16 +6,15 @@ use Rattle.reader.proofs.Items.{step_against, step_ill, step_kept}
 use Rattle.reader.proofs.lists.pair_step.Goals as goal
 
 pub overflow_cast-x : goal.overflow_cast-x
-overflow_cast-x c = omega (arith, c.allowed.ensures.1 c.if-allowed.true)
+overflow_cast-x c = omega (arith, c.allowed.ensures.v_bound c.if-allowed.true)
 
 pub overflow_add-d : goal.overflow_add-d
-overflow_add-d c = omega (arith, c.allowed.ensures.1 c.if-allowed.true)
+overflow_add-d c = omega (arith, c.allowed.ensures.v_bound c.if-allowed.true)
 
 pub returns-then-allowed : goal.returns-then-allowed
 returns-then-allowed c =
     let a = c.args in
-    let p = c.p-1.given in
-    step_kept a.rec.now (gathered a.c a.cells.now) a.p p.0.0 p.0.1.0 p.1 (sym c.allowed.ensures.0 ∙ c.if-allowed.true) ∙ rw c.put.ensures
+    step_kept a.rec.now (gathered a.c a.cells.now) a.p c.in-Named.v c.in-Named.x c.in-Named.is (sym c.allowed.ensures.value ∙ c.if-allowed.true) ∙ rw c.put.ensures
 
 pub returns-in-Ill : goal.returns-in-Ill
 returns-in-Ill c =
@@ -25,5 +24,4 @@ returns-in-Ill c =
 pub returns-else-allowed : goal.returns-else-allowed
 returns-else-allowed c =
     let a = c.args in
-    let p = c.p-1.given in
-    step_against a.rec.now (gathered a.c a.cells.now) a.p p.0.0 p.0.1.0 p.1 (sym c.allowed.ensures.0 ∙ c.if-allowed.false)
+    step_against a.rec.now (gathered a.c a.cells.now) a.p c.in-Named.v c.in-Named.x c.in-Named.is (sym c.allowed.ensures.value ∙ c.if-allowed.false)

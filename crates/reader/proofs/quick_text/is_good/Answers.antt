@@ -20,7 +20,7 @@ returns-then-not-key_at c = λ e. absurd (false≢true e)
 pub returns : goal.returns
 unfolding bytes
 returns c = λ e. let q = c.quick_lines-at in
-    let w = q.ensures.1 (omega arith) in
+    let w = q.ensures.leads (omega arith) in
     let l = c.last_end-end in
     let b = c.quick_budget in
     w.same 1

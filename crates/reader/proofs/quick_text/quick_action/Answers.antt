@@ -58,14 +58,14 @@ pub quick_outcomes-requires : goal.quick_outcomes-requires
 quick_outcomes-requires c = let b = before-outcomes c in
     let q = c.quick_number_line-b in
     let w = c.wide-count.ensures.0 ∙ ap (λ (k : ℕ). get_or q.new.1.1.0 k 0) c.at_action-2.ensures in
-    (q.ensures.0, search rules, sym b.0, c.requires.3, c.requires.4, w, omega (arith, w, b.2), omega (arith, w, b.2))
+    (q.ensures.upper_bound, search rules, sym b.0, c.requires.3, c.requires.4, w, omega (arith, w, b.2), omega (arith, w, b.2))
 
 pub returns : goal.returns
 returns c = let both = let b = before-outcomes c in
     let a = c.args in
     let p = c.quick_number_line-b in
     let o = c.quick_outcomes in (
-      o.ensures.0,
-      λ h. let q = o.ensures.1 h in
+      o.ensures.upper_bound,
+      λ h. let q = o.ensures.rec_after h in
           (q.0, q.1 ∙ b.1, leads_on a.text.now (Need a.m) (Eff a.m 0) (action_from o.new.1.1.0 (a.m + 1)) a.rec.now p.new.1.1.0 o.new.1.1.0 a.at p.result o.result b.3 q.2),
     ) in record { upper_bound = both.0; rec_after = both.1 }

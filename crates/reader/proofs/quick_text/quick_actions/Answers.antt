@@ -24,12 +24,12 @@ returns-then-k-eq0 c = record { upper_bound = search rules; rec_after = λ h. ab
 pub loop-rec-preserved : goal.loop-rec-preserved
 loop-rec-preserved c = let a = c.args in
     let l = c.loop-rec in
-    let q = c.quick_action-k.ensures.1 (omega arith) in
+    let q = c.quick_action-k.ensures.rec_after (omega arith) in
     let r = c.quick_action-k.new.1.1.0 in
     let z = q.1 ∙ l.invariant.4 in (
       search rules,
       search rules,
-      c.quick_action-k.ensures.0,
+      c.quick_action-k.ensures.upper_bound,
       q.0,
       z,
       leads_on a.text.now (action_from a.rec.now 0) (Need l.m) (cond (ltb (l.m + 1) a.count) (Need (l.m + 1)) Goal) a.rec.now l.rec r a.at l.k c.quick_action-k.result (rw (lt-ltb l.m a.count (rw c.wide.ensures.0 at c.loop-rec-test.true)) at l.invariant.5) (rw z at q.2),

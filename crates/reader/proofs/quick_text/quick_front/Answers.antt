@@ -59,13 +59,13 @@ quick_sizes-b-requires c = let e = before-sizes c in
     let w = c.wide-n.ensures.0 in
     let l = e.0 in
     let n = e.1 in
-    (c.quick_number_line-a.ensures.0, search rules, w, omega (arith, w, l), omega (arith, w, n))
+    (c.quick_number_line-a.ensures.upper_bound, search rules, w, omega (arith, w, l), omega (arith, w, n))
 
 pub returns-then-b-eq0 : goal.returns-then-b-eq0
 returns-then-b-eq0 c = record { upper_bound = search rules; rec_bound = λ h. absurd (omega arith) }
 
 pub quick_number_line-c-requires : goal.quick_number_line-c-requires
-quick_number_line-c-requires c = (c.quick_sizes-b.ensures.0, search rules, omega arith, omega arith)
+quick_number_line-c-requires c = (c.quick_sizes-b.ensures.upper_bound, search rules, omega arith, omega arith)
 
 pub returns-then-c-eq0 : goal.returns-then-c-eq0
 returns-then-c-eq0 c = record { upper_bound = search rules; rec_bound = λ h. absurd (omega arith) }
@@ -74,13 +74,13 @@ pub quick_actions-requires : goal.quick_actions-requires
 quick_actions-requires c = let e = before-actions c in
     let w = c.wide-count.ensures.0 in
     let n = e.2 in
-    (c.quick_number_line-c.ensures.0, search rules, sym e.0, e.1, w, omega (arith, w, n))
+    (c.quick_number_line-c.ensures.upper_bound, search rules, sym e.0, e.1, w, omega (arith, w, n))
 
 pub returns : goal.returns
 returns c = let both = let e = before-actions c in
     let n = e.1 in (
-      c.quick_actions.ensures.0,
-      λ h. let f = c.quick_actions.ensures.1 h in let z = f.0 in (
+      c.quick_actions.ensures.upper_bound,
+      λ h. let f = c.quick_actions.ensures.rec_after h in let z = f.0 in (
         omega (arith, z, n),
         leads_on c.args.text.now Vars (action_from c.quick_number_line-c.new.1.1.0 0) Goal c.args.rec.now c.quick_number_line-c.new.1.1.0 c.quick_actions.new.1.1.0 0 c.quick_number_line-c.result c.quick_actions.result e.3 f.1,
       ),

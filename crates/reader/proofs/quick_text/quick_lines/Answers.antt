@@ -10,27 +10,27 @@ pub returns-then-a-eq0 : goal.returns-then-a-eq0
 returns-then-a-eq0 c = record { upper_bound = search rules; leads = λ h. absurd (omega arith) }
 
 pub quick_states-b-requires : goal.quick_states-b-requires
-quick_states-b-requires c = let f = c.quick_front-a.ensures.1 (omega arith) in
+quick_states-b-requires c = let f = c.quick_front-a.ensures.rec_bound (omega arith) in
     let n = f.0 in
     let w = c.wide-n.ensures.0 in
-    (c.quick_front-a.ensures.0, search rules, w, omega (arith, w, n))
+    (c.quick_front-a.ensures.upper_bound, search rules, w, omega (arith, w, n))
 
 pub returns-then-b-eq0 : goal.returns-then-b-eq0
 returns-then-b-eq0 c = record { upper_bound = search rules; leads = λ h. absurd (omega arith) }
 
 pub quick_tail-requires : goal.quick_tail-requires
-quick_tail-requires c = let f = c.quick_front-a.ensures.1 (omega arith) in
+quick_tail-requires c = let f = c.quick_front-a.ensures.rec_bound (omega arith) in
     let n = f.0 in
     let w = c.wide-n.ensures.0 in
-    (c.quick_states-b.ensures.0, search rules, sym (c.quick_states-b.ensures.1 (omega arith)).0, omega (arith, w, n))
+    (c.quick_states-b.ensures.upper_bound, search rules, sym (c.quick_states-b.ensures.rec_after (omega arith)).0, omega (arith, w, n))
 
 pub returns : goal.returns
 returns c = let both = let a = c.args in
     let p = c.quick_front-a in
     let s = c.quick_states-b in
     let q = c.quick_tail in (
-      q.ensures.0,
+      q.ensures.upper_bound,
       λ h. leads_on a.text.now Vars Patterns Budget a.rec.now s.new.1.1.0 q.new.1.1.0 0 s.result q.result
-          (leads_on a.text.now Vars Goal Patterns a.rec.now p.new.1.0 s.new.1.1.0 0 p.result s.result (p.ensures.1 (omega arith)).1 (s.ensures.1 (omega arith)).1)
-          (q.ensures.1 h),
+          (leads_on a.text.now Vars Goal Patterns a.rec.now p.new.1.0 s.new.1.1.0 0 p.result s.result (p.ensures.rec_bound (omega arith)).1 (s.ensures.rec_after (omega arith)).1)
+          (q.ensures.leads h),
     ) in record { upper_bound = both.0; leads = both.1 }

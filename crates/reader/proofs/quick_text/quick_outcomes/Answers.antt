@@ -34,12 +34,12 @@ loop-a-preserved c = let a = c.args in
     let l = c.loop-a in
     let b = c.behind-a.ensures (omega arith) in
     let s = c.quick_pairs-k in
-    let q = rw (c.at_outcome.ensures, b.0) at (s.ensures.1 (omega arith)) in
+    let q = rw (c.at_outcome.ensures, b.0) at (s.ensures.list_at (omega arith)) in
     let r = s.new.1.1.0 in
     let kept = list_kept a.text.now (l.k + 4) s.result Pairs l.rec (at_outcome a.m l.o) r q in
     let z = kept (at_action a.m) (omega arith) ∙ l.invariant.5 in
     let w = eff_on a.text.now (Eff a.m 0) a.rec.now a.at l.k s.result l.rec r a.m l.o (rw (lt-ltb l.o a.count (rw c.wide.ensures.0 at c.loop-a-test.true)) at l.invariant.6) b.1 q in
-    (search rules, search rules, s.ensures.0, kept 0 (omega arith) ∙ l.invariant.3, kept 1 (omega arith) ∙ l.invariant.4, z, rw z at w)
+    (search rules, search rules, s.ensures.upper_bound, kept 0 (omega arith) ∙ l.invariant.3, kept 1 (omega arith) ∙ l.invariant.4, z, rw z at w)
 
 pub returns : goal.returns
 returns c = let both = let l = c.loop-a in

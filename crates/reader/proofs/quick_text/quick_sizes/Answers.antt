@@ -21,11 +21,11 @@ pub loop-i-preserved : goal.loop-i-preserved
 unfolding bytes
 loop-i-preserved c = let a = c.args in
     let l = c.loop-i in
-    let q = c.quick_number_line-k.ensures.1 (omega arith) in
+    let q = c.quick_number_line-k.ensures.text_value (omega arith) in
     let r = c.quick_number_line-k.new.1.1.0 in
     let z = number_kept a.text.now (l.k + 5) c.quick_number_line-k.result 2 16 l.rec (8 + l.i) r q.1 0 (λ e. omega arith) ∙ l.invariant.3 in
     let w = size_on a.text.now (Size 0) a.rec.now a.at l.k c.quick_number_line-k.result l.rec r l.i (rw (lt-ltb l.i a.n c.loop-i-test.true) at l.invariant.4) q.0 q.1 in
-    (search rules, omega arith, c.quick_number_line-k.ensures.0, z, rw z at w)
+    (search rules, omega arith, c.quick_number_line-k.ensures.upper_bound, z, rw z at w)
 
 pub returns : goal.returns
 returns c = record { upper_bound = c.loop-i.invariant.2; rec_after = λ h. (c.loop-i.invariant.3, rw (le-ltb c.loop-i.i c.args.n c.loop-i-test.false) at c.loop-i.invariant.4) }

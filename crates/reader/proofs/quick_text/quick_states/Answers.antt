@@ -40,7 +40,7 @@ pub returns-then-a-eq0 : goal.returns-then-a-eq0
 returns-then-a-eq0 c = record { upper_bound = search rules; rec_after = λ h. absurd (omega arith) }
 
 pub quick_list_line-requires : goal.quick_list_line-requires
-quick_list_line-requires c = (c.quick_pairs-a.ensures.0, omega arith, search rules, (before-start c).0, c.requires.3, omega arith)
+quick_list_line-requires c = (c.quick_pairs-a.ensures.upper_bound, omega arith, search rules, (before-start c).0, c.requires.3, omega arith)
 
 pub returns : goal.returns
 unfolding bytes
@@ -48,8 +48,8 @@ returns c = let both = let e = before-start c in
     let a = c.args in
     let p = c.quick_pairs-a in
     let q = c.quick_list_line in (
-      q.ensures.0,
-      λ h. let f = q.ensures.1 h in (
+      q.ensures.upper_bound,
+      λ h. let f = q.ensures.text_value h in (
         list_kept a.text.now (p.result + 6) q.result Values p.new.1.1.0 40 q.new.1.1.0 f.1 0 (omega arith) ∙ sym e.0,
         start_on a.text.now Goal a.rec.now a.at p.result q.result p.new.1.1.0 q.new.1.1.0 e.1 f.0 f.1,
       ),

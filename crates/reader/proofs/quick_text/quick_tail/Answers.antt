@@ -35,13 +35,13 @@ pub quick_patterns-b-requires : goal.quick_patterns-b-requires
 quick_patterns-b-requires c = let e = before-patterns c in
     let w = c.wide-count.ensures.0 in
     let n = e.1 in
-    (c.quick_number_line-a.ensures.0, search rules, e.0, c.requires.3, w, omega (arith, w, n))
+    (c.quick_number_line-a.ensures.upper_bound, search rules, e.0, c.requires.3, w, omega (arith, w, n))
 
 pub returns-then-b-eq0 : goal.returns-then-b-eq0
 returns-then-b-eq0 c = record { upper_bound = search rules; leads = λ h. absurd (omega arith) }
 
 pub quick_number_line-requires : goal.quick_number_line-requires
-quick_number_line-requires c = (c.quick_patterns-b.ensures.0, search rules, omega arith, omega arith)
+quick_number_line-requires c = (c.quick_patterns-b.ensures.upper_bound, search rules, omega arith, omega arith)
 
 pub returns : goal.returns
 unfolding bytes
@@ -50,8 +50,8 @@ returns c = let both = let e = before-patterns c in
     let p = c.quick_number_line-a in
     let s = c.quick_patterns-b in
     let q = c.quick_number_line in (
-      q.ensures.0,
-      λ h. let f = q.ensures.1 h in
+      q.ensures.upper_bound,
+      λ h. let f = q.ensures.text_value h in
           limit_on a.text.now Patterns a.rec.now a.at s.result q.result s.new.1.1.0 q.new.1.1.0
-          (leads_on a.text.now Patterns (pattern_from p.new.1.1.0 0) Limit a.rec.now p.new.1.1.0 s.new.1.1.0 a.at p.result s.result e.2 (s.ensures.1 (omega arith))) f.0 f.1,
+          (leads_on a.text.now Patterns (pattern_from p.new.1.1.0 0) Limit a.rec.now p.new.1.1.0 s.new.1.1.0 a.at p.result s.result e.2 (s.ensures.leads (omega arith))) f.0 f.1,
     ) in record { upper_bound = both.0; leads = both.1 }

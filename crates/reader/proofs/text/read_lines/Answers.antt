@@ -67,8 +67,7 @@ slice_bounds-take_line-end c =
 
 pub returns-in-Faulty : goal.returns-in-Faulty
 returns-in-Faulty c =
-    let g = c.number-1.given in
-    by-line c ∙ read_faulty c.loop.line c.loop.due c.loop.rec _ _ g.0.0 (this-line c ∙ ap (λ (t : Taken). told t c.take_line.new.0) g.1)
+    by-line c ∙ read_faulty c.loop.line c.loop.due c.loop.rec _ _ c.in-Faulty.number (this-line c ∙ ap (λ (t : Taken). told t c.take_line.new.0) c.in-Faulty.is)
 
 pub overflow_add-at : goal.overflow_add-at
 overflow_add-at c = omega (arith, within c)
@@ -80,13 +79,12 @@ pub loop-at-smaller : goal.loop-at-smaller
 loop-at-smaller c = omega (arith, within c)
 
 pub loop-at-preserved : goal.loop-at-preserved
-loop-at-preserved c =
-    let g = c.next-1.given in (
-      omega (arith, within c),
-      omega arith,
-      search rules,
-      by-line c ∙ read_taken c.loop.line c.loop.due c.loop.rec _ _ g.0.0 _ (this-line c ∙ ap (λ (t : Taken). told t c.take_line.new.0) g.1),
-    )
+loop-at-preserved c = (
+  omega (arith, within c),
+  omega arith,
+  search rules,
+  by-line c ∙ read_taken c.loop.line c.loop.due c.loop.rec _ _ c.in-Next.next _ (this-line c ∙ ap (λ (t : Taken). told t c.take_line.new.0) c.in-Next.is),
+)
 
 pub returns-then-is_end : goal.returns-then-is_end
 returns-then-is_end c =

@@ -31,5 +31,4 @@ returns-in-Read c = let a = c.args in
 pub returns-in-Refused : goal.returns-in-Refused
 returns-in-Refused c = let a = c.args in
     let l = c.read_lines-answer.new.1.0 in
-    let g = c.answer-1.given in
-    answers_refused a.text.now a.record.now c.requires.0 g.0.0 g.0.1.0 (whole-text c ∙ ap (λ (r : Reading). whole_of r l) g.1)
+    answers_refused a.text.now a.record.now c.requires.0 c.in-Refused.number c.in-Refused.line (whole-text c ∙ ap (λ (r : Reading). whole_of r l) c.in-Refused.is)

@@ -23,7 +23,7 @@ put_found-requires c = let e = sym c.cost.given.1 ∙ c.search.ensures.0 in
     (c.put-start-value.ensures.1, simp length-take (omega (arith, c.place.ensures, found_short c.args.rec.now c.args.tables.now c.args.plan.now _ _ _ e)))
 
 pub returns-in-Refused : goal.returns-in-Refused
-returns-in-Refused c = (rw (refusal-told _ _ _ _ _ (sym c.in-Refused.is ∙ c.search.ensures.0)) c.put_refusal.ensures.0, c.search.ensures.1.0, c.search.ensures.1.1.0, omega (arith, c.put_refusal.ensures.1))
+returns-in-Refused c = (rw (refusal-told _ _ _ _ _ (sym c.in-Refused.is ∙ c.search.ensures.answer)) c.put_refusal.ensures.0, c.search.ensures.tables.0, c.search.ensures.tables.1.0, omega (arith, c.put_refusal.ensures.1))
 
 pub returns-in-Found : goal.returns-in-Found
 returns-in-Found c = let s = c.search.ensures in

@@ -8,18 +8,18 @@ use Rattle.tables_worklist.proofs.record_tables.build_tables.Goals as goal
 
 pub build_checked-requires : goal.build_checked-requires
 build_checked-requires c = let a = c.args in
-    fits_buildable a.rec.now (length a.tables.now) _ (sym c.check_tables.ensures.0 ∙ c.in-Fits.is)
+    fits_buildable a.rec.now (length a.tables.now) _ (sym c.check_tables.ensures.value ∙ c.in-Fits.is)
 
 pub returns-in-Refused : goal.returns-in-Refused
 unfolding table_build build_of tables_built where_fits table_numbers table_build_numbers
-returns-in-Refused c = let both = let a = c.args in let h = sym c.check_tables.ensures.0 ∙ c.in-Refused.is in (
+returns-in-Refused c = let both = let a = c.args in let h = sym c.check_tables.ensures.value ∙ c.in-Refused.is in (
   (sym (ap build_of h), sym (ap (λ t. where_fits t (built_over a.rec.now a.tables.now) a.tables.now) h)),
-  sym (ap table_numbers c.in-Refused.is) ∙ c.check_tables.ensures.1,
+  sym (ap table_numbers c.in-Refused.is) ∙ c.check_tables.ensures.numbers,
 ) in record { value = both.0; numbers = both.1 }
 
 pub returns-in-Fits : goal.returns-in-Fits
 unfolding table_build build_of tables_built where_fits table_numbers table_build_numbers
-returns-in-Fits c = let both = let a = c.args in let h = sym c.check_tables.ensures.0 ∙ c.in-Fits.is in (
+returns-in-Fits c = let both = let a = c.args in let h = sym c.check_tables.ensures.value ∙ c.in-Fits.is in (
   (sym (ap build_of h), c.build_checked.ensures ∙ sym (ap (λ t. where_fits t (built_over a.rec.now a.tables.now) a.tables.now) h)),
-  sym (ap table_numbers c.in-Fits.is) ∙ c.check_tables.ensures.1,
+  sym (ap table_numbers c.in-Fits.is) ∙ c.check_tables.ensures.numbers,
 ) in record { value = both.0; numbers = both.1 }

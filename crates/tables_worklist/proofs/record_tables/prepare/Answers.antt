@@ -30,7 +30,7 @@ sets_of r old e a v = rw (e, a, v)
 
 pub compile_record-requires : goal.compile_record-requires
 compile_record-requires c = let a = c.args in
-    (ready_buildable a.rec.now (length a.tables.now) (sym c.check_estimate.ensures.0 ∙ c.in-Ready.is)).sound
+    (ready_buildable a.rec.now (length a.tables.now) (sym c.check_estimate.ensures.value ∙ c.in-Ready.is)).sound
 
 pub build_all-requires : goal.build_all-requires
 build_all-requires c = let a = c.args in
@@ -42,9 +42,9 @@ start_word-requires c = let a = c.args in
 
 pub returns-in-Refused : goal.returns-in-Refused
 unfolding where_ready
-returns-in-Refused c = let both = let a = c.args in let h = sym c.check_estimate.ensures.0 ∙ c.in-Refused.is in
+returns-in-Refused c = let both = let a = c.args in let h = sym c.check_estimate.ensures.value ∙ c.in-Refused.is in
     let k = left_by a.rec.now a.tables.now a.task.now a.sets.now a.start.now _ h in
-    ((sym h, k.0, k.1), (k.2, (k.3, sym (ap estimate_numbers c.in-Refused.is) ∙ c.check_estimate.ensures.1))) in record { value = both.0; sets = both.1; start = both.2; numbers = both.3 }
+    ((sym h, k.0, k.1), (k.2, (k.3, sym (ap estimate_numbers c.in-Refused.is) ∙ c.check_estimate.ensures.numbers))) in record { value = both.0; sets = both.1; start = both.2; numbers = both.3 }
 
 pub returns-in-Ready : goal.returns-in-Ready
 unfolding where_ready

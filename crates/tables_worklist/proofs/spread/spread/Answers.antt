@@ -9,12 +9,12 @@ use Rattle.tables_worklist.proofs.spread.spread.Goals as goal
 
 pub returns-then-row-lt-ROW : goal.returns-then-row-lt-ROW
 unfolding where_counted
-returns-then-row-lt-ROW c = let both = let a = c.args in let h = sym c.check_tables.ensures.0 ∙ c.in-Fits.is in
+returns-then-row-lt-ROW c = let both = let a = c.args in let h = sym c.check_tables.ensures.value ∙ c.in-Fits.is in
     told a.rec.now a.pattern a.tables.now a.row.now _ (refused_row a.rec.now a.pattern a.tables.now a.row.now _ h c.if-row-lt-ROW.true) in record { value = both.0; numbers = both.1 }
 
 pub build_checked-requires : goal.build_checked-requires
 build_checked-requires c = let a = c.args in
-    fits_buildable a.rec.now (length a.tables.now) _ (sym c.check_tables.ensures.0 ∙ c.in-Fits.is)
+    fits_buildable a.rec.now (length a.tables.now) _ (sym c.check_tables.ensures.value ∙ c.in-Fits.is)
 
 pub slice_bounds-count_pattern-end-in-Fits : goal.slice_bounds-count_pattern-end-in-Fits
 slice_bounds-count_pattern-end-in-Fits c = sym (length-take-le row_size c.args.row.now c.if1.false)
@@ -26,7 +26,7 @@ count_pattern-states-requires c = let a = c.args in
 
 pub returns-in-Refused : goal.returns-in-Refused
 unfolding where_counted
-returns-in-Refused c = let both = let a = c.args in let h = sym c.check_tables.ensures.0 ∙ c.in-Refused.is in
+returns-in-Refused c = let both = let a = c.args in let h = sym c.check_tables.ensures.value ∙ c.in-Refused.is in
     told a.rec.now a.pattern a.tables.now a.row.now _ (refused-tables a.rec.now a.pattern a.tables.now a.row.now _ _ h) in record { value = both.0; numbers = both.1 }
 
 pub returns-else-row-lt-ROW : goal.returns-else-row-lt-ROW

@@ -9,7 +9,7 @@ unfolding fits
 returns-then-moved-top c =
     let wrapping-add-u8 = c.wrapping_add_u8-moved in
     let if1 = c.if-moved-top in
-    simp (← wrapping-add-u8.ensures, le-leb _ _ if1.true)
+    simp (← wrapping-add-u8.ensures.value, le-leb _ _ if1.true)
 
 pub returns : goal.returns
 unfolding fits
@@ -17,4 +17,4 @@ returns c =
     let args = c.args in
     let wrapping-add-u8 = c.wrapping_add_u8-moved in
     let if1 = c.if-moved-top in
-    simp (← wrapping-add-u8.ensures, lt-leb _ _ if1.false, ne_eqb (wrapping-add-u8.result - args.top) 0 (λ e. omega arith))
+    simp (← wrapping-add-u8.ensures.value, lt-leb _ _ if1.false, ne_eqb (wrapping-add-u8.result - args.top) 0 (λ e. omega arith))

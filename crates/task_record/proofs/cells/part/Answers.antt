@@ -14,7 +14,4 @@ returns-then-at-rec c =
     take_all (length l - a) (drop a l) (omega arith) ∙ sym (take_all 16 (drop a l) (omega arith))
 
 pub returns : goal.returns
-returns c =
-    let args = c.args in
-    let if2 = c.if2 in
-    rw (drop_of_length-le args.rec.now if2.false)
+returns c = rw (drop_of_length-le c.args.rec.now c.if-at-rec.false)

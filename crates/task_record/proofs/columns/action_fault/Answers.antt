@@ -15,7 +15,7 @@ loop-j-preserved c =
     let loop = c.loop-j in
     let wrapping-add-u8 = c.wrapping_add_u8 in
     let higher = c.higher-high in
-    let s = args in let e = wrapping-add-u8.ensures in
+    let s = args in let e = wrapping-add-u8.ensures.value in
     (omega arith, raised (λ (k : ℕ). (get_or s.c.now (s.a + 16 * k) 0 + 1) % 256) 0 loop.j loop.high higher.result higher.ensures.0 (omega (arith, higher.ensures.1)) loop.invariant.1)
 
 pub loop-j-2-init : goal.loop-j-2-init

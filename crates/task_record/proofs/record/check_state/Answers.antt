@@ -16,20 +16,17 @@ pub judge_state-requires : goal.judge_state-requires
 unfolding Sound
 judge_state-requires c =
     let check-record = c.check_record in
-    let enum_told = c.enum_told-1 in
-    sym check-record.ensures.0 ∙ enum_told.given.1
+    sym check-record.ensures.value ∙ c.in-Sound.is
 
 pub returns-in-Refused : goal.returns-in-Refused
 unfolding state_check after_record
 returns-in-Refused c = let both = let args = c.args in
     let check-record = c.check_record in
-    let number = c.number-1 in
-    told _ _ _ (sym (ap (λ (t : RecordCheck). after_record t (judge_state args.rec.now args.state.now)) (sym check-record.ensures.0 ∙ number.given.1))) in record { value = both.0; numbers = both.1 }
+    told _ _ _ (sym (ap (λ (t : RecordCheck). after_record t (judge_state args.rec.now args.state.now)) (sym check-record.ensures.value ∙ c.in-Refused.is))) in record { value = both.0; numbers = both.1 }
 
 pub returns-in-Sound : goal.returns-in-Sound
 unfolding state_check after_record
 returns-in-Sound c = let both = let args = c.args in
     let check-record = c.check_record in
-    let enum_told = c.enum_told-1 in
     let judge-state = c.judge_state in
-    told _ _ _ (judge-state.ensures ∙ sym (ap (λ (t : RecordCheck). after_record t (judge_state args.rec.now args.state.now)) (sym check-record.ensures.0 ∙ enum_told.given.1))) in record { value = both.0; numbers = both.1 }
+    told _ _ _ (judge-state.ensures ∙ sym (ap (λ (t : RecordCheck). after_record t (judge_state args.rec.now args.state.now)) (sym check-record.ensures.value ∙ c.in-Sound.is))) in record { value = both.0; numbers = both.1 }
