@@ -57,8 +57,8 @@ unfolding judge_estimate
 ready_means r lent h = passed_both (judge_tables (task_of r).sizes (patterns_of r) lent) (verdict (task_of r) (patterns_of r)) h
 
 -- What it means that the check of the tables, or that of estimates too, refuses nothing: the record is sound, and the rest was judged.
-fits_split : (a : RecordCheck) (j : TableCheck) (n : ℕ) → of_space.afterRecord a j ≡ of-tables.Fits n → (a ≡ of-record.Sound) × (j ≡ of-tables.Fits n)
-unfolding of_space.afterRecord
+fits_split : (a : RecordCheck) (j : TableCheck) (n : ℕ) → of_space.after_record a j ≡ of-tables.Fits n → (a ≡ of-record.Sound) × (j ≡ of-tables.Fits n)
+unfolding of_space.after_record
 fits_split of-record.Sound j n h = (refl, h)
 fits_split (of-record.Refused m x) j n h = let z : ◌≡◌ {A = ℕ} 0 1 = cc in absurd (omega arith)
 
@@ -66,8 +66,8 @@ pub fits_means : (r : List ℕ) (lent n : ℕ) → table_check r lent ≡ of-tab
 unfolding table_check Sound
 fits_means r lent n h = fits_split (record_check r) (judge_tables (task_of r).sizes (patterns_of r) lent) n h
 
-ready_split : (a : RecordCheck) (j : EstimateCheck) → of-estimates.afterRecord a j ≡ of-estimate.Ready → (a ≡ of-record.Sound) × (j ≡ of-estimate.Ready)
-unfolding of-estimates.afterRecord
+ready_split : (a : RecordCheck) (j : EstimateCheck) → of-estimates.after_record a j ≡ of-estimate.Ready → (a ≡ of-record.Sound) × (j ≡ of-estimate.Ready)
+unfolding of-estimates.after_record
 ready_split of-record.Sound j h = (refl, h)
 ready_split (of-record.Refused m x) j h = let z : ◌≡◌ {A = ℕ} 0 1 = cc in absurd (omega arith)
 
@@ -93,13 +93,13 @@ state_number r s n x h = by_test (eqb (length s) 16)
     (λ e. let g = rw e at h in let k : 10 ≡ n = cc in omega arith)
 
 -- What the check of a state says of the record and of the state.
-split_good : (a : RecordCheck) (j : StateCheck) → of-states.afterRecord a j ≡ of-state.Good → (a ≡ of-record.Sound) × (j ≡ of-state.Good)
-unfolding of-states.afterRecord
+split_good : (a : RecordCheck) (j : StateCheck) → of-states.after_record a j ≡ of-state.Good → (a ≡ of-record.Sound) × (j ≡ of-state.Good)
+unfolding of-states.after_record
 split_good of-record.Sound j h = (refl, h)
 split_good (of-record.Refused n x) j h = let z : ◌≡◌ {A = ℕ} 0 1 = cc in absurd (omega arith)
 
-split_refused : (a : RecordCheck) (j : StateCheck) (n x : ℕ) → of-states.afterRecord a j ≡ of-state.Refused n x → (a ≡ of-record.Refused n x) ⊎ ((a ≡ of-record.Sound) × (j ≡ of-state.Refused n x))
-unfolding of-states.afterRecord
+split_refused : (a : RecordCheck) (j : StateCheck) (n x : ℕ) → of-states.after_record a j ≡ of-state.Refused n x → (a ≡ of-record.Refused n x) ⊎ ((a ≡ of-record.Sound) × (j ≡ of-state.Refused n x))
+unfolding of-states.after_record
 split_refused of-record.Sound j n x h = inr (refl, h)
 split_refused (of-record.Refused m y) j n x h = let a : m ≡ n = cc in let b : y ≡ x = cc in inl (rw (a, b))
 
@@ -132,8 +132,8 @@ no_refusal n x (finite k) h = let z : ◌≡◌ {A = ℕ} 0 1 = cc in absurd (om
 no_refusal n x infinite h = let z : ◌≡◌ {A = ℕ} 0 1 = cc in absurd (omega arith)
 
 tests_passed : (a : RecordCheck) (e : EstimateCheck) (j : StateCheck) (w v : StateValue) → Answers v → after_record a (after_estimate e (after_state j w)) ≡ v →
-    (of-states.afterRecord a j ≡ of-state.Good) × (e ≡ of-estimate.Ready) × (w ≡ v)
-unfolding after_record after_estimate after_state of-states.afterRecord
+    (of-states.after_record a j ≡ of-state.Good) × (e ≡ of-estimate.Ready) × (w ≡ v)
+unfolding after_record after_estimate after_state of-states.after_record
 tests_passed of-record.Sound of-estimate.Ready of-state.Good w v k h = (refl, refl, h)
 tests_passed of-record.Sound of-estimate.Ready (of-state.Refused n x) w v k h = no_refusal n x k h
 tests_passed of-record.Sound (of-estimate.Refused n x) j w v k h = no_refusal n x k h

@@ -1,11 +1,11 @@
 -- `place_of`: the index so far, and what the variables left add at the running weight, are the whole index. Assumes nothing.
 use mathlib.Core.Path.{sym}
-use mathlib.Core.Logic.{⊎_elim}
-use Prim.Native.Nat.{◌-◌, ◌≤◌}
+use Prim.Native.Nat.{◌≤◌}
 use native.Mathlib.Nat.{mul-le-mul}
 use native.Mathlib.Omega.{arith}
 use borrow.Author.Tests.{ne_eqb}
 use Rattle.patterns.proofs.Weights.{numbering_start, numbering_in, numbering_out, numbering_done, counting_done, counting_below}
+use Rattle.patterns.proofs.places.place_of.Goals.{then-pattern-v-eq1, else-pattern-v-eq1}
 use Rattle.patterns.proofs.places.place_of.Goals as goal
 
 pub loop-v-init : goal.loop-v-init
@@ -23,13 +23,13 @@ overflow_mul-weight c = let b : c.wide-weight.result ≤ 255 = omega arith in le
 
 pub loop-v-preserved : goal.loop-v-preserved
 loop-v-preserved c = let l = c.loop-v in let t = c.loop-v-test.true in
-    ⊎_elim
-    (λ w. let b : w.2.result ≤ 255 = omega arith in let p = rw w.2.ensures.0 at (mul-le-mul b l.invariant.1) in
-    let k = numbering_in c.args.sizes.now c.args.pattern.now c.args.state.now c.requires.2 c.requires.3 l.index l.weight l.v l.invariant.0 t w.0.taken (omega arith) in
-    let m = counting_below c.args.sizes.now c.args.pattern.now c.requires.2 _ _ k.counting c.requires.0 in
-    rw (w.5, w.6, w.2.ensures.0, w.4.ensures.0) (k, omega (arith, m, c.requires.4)))
-    (λ w. rw (w.1, w.2) (numbering_out c.args.sizes.now c.args.pattern.now c.args.state.now c.requires.2 c.requires.3 l.index l.weight l.v l.invariant.0 t (ne_eqb _ _ w.0.left), l.invariant.1))
-    c.if-pattern-v-eq1.branch
+    elim c.if-pattern-v-eq1.branch [
+      | then-pattern-v-eq1 w ↦ let b : w.wide.result ≤ 255 = omega arith in let p = rw w.wide.ensures.0 at (mul-le-mul b l.invariant.1) in
+          let k = numbering_in c.args.sizes.now c.args.pattern.now c.args.state.now c.requires.2 c.requires.3 l.index l.weight l.v l.invariant.0 t w.if-pattern-v-eq1.true (omega arith) in
+          let m = counting_below c.args.sizes.now c.args.pattern.now c.requires.2 _ _ k.counting c.requires.0 in
+          rw (w.index-is, w.weight-is, w.wide.ensures.0, w.wide-weight.ensures.0) (k, omega (arith, m, c.requires.4))
+      | else-pattern-v-eq1 w ↦ rw (w.index-is, w.weight-is) (numbering_out c.args.sizes.now c.args.pattern.now c.args.state.now c.requires.2 c.requires.3 l.index l.weight l.v l.invariant.0 t (ne_eqb _ _ w.if-pattern-v-eq1.false), l.invariant.1)
+    ]
 
 pub returns : goal.returns
 returns c = let l = c.loop-v in (

@@ -1,10 +1,10 @@
 -- `state_count`: the running weight times the number of abstract states of the variables left is the whole number. Assumes nothing.
-use mathlib.Core.Logic.{⊎_elim}
-use Prim.Native.Nat.{◌-◌, ◌≤◌}
+use Prim.Native.Nat.{◌≤◌}
 use native.Mathlib.Nat.{mul-le-mul}
 use native.Mathlib.Omega.{arith}
 use borrow.Author.Tests.{ne_eqb}
 use Rattle.patterns.proofs.Weights.{counting_start, counting_in, counting_out, counting_done, counting_below}
+use Rattle.patterns.proofs.places.state_count.Goals.{then-pattern-v-eq1+else-weight-gt4096, else-pattern-v-eq1}
 use Rattle.patterns.proofs.places.state_count.Goals as goal
 
 pub loop-v-init : goal.loop-v-init
@@ -22,10 +22,11 @@ returns-then-weight-gt4096 c = let l = c.loop-v in
 
 pub loop-v-preserved : goal.loop-v-preserved
 loop-v-preserved c = let l = c.loop-v in let t = c.loop-v-test.true in
-    ⊎_elim
-    (λ w. rw (w.4, w.2.ensures.0) (counting_in c.args.sizes.now c.args.pattern.now c.requires.1 l.weight l.v l.invariant.0 t w.0.taken, rw w.2.ensures.0 at w.3.left))
-    (λ w. rw w.1 (counting_out c.args.sizes.now c.args.pattern.now c.requires.1 l.weight l.v l.invariant.0 t (ne_eqb _ _ w.0.left), l.invariant.1))
-    c.if-pattern-v-eq1.branch
+    elim c.if-pattern-v-eq1.branch [
+      | then-pattern-v-eq1+else-weight-gt4096 w ↦ rw (w.weight-is, w.wide-weight.ensures.0)
+          (counting_in c.args.sizes.now c.args.pattern.now c.requires.1 l.weight l.v l.invariant.0 t w.if-pattern-v-eq1.true, rw w.wide-weight.ensures.0 at w.if-weight-gt4096.false)
+      | else-pattern-v-eq1 w ↦ rw w.weight-is (counting_out c.args.sizes.now c.args.pattern.now c.requires.1 l.weight l.v l.invariant.0 t (ne_eqb _ _ w.if-pattern-v-eq1.false), l.invariant.1)
+    ]
 
 pub returns : goal.returns
 returns c = let l = c.loop-v in

@@ -1,7 +1,7 @@
 -- `judge_room`: the patterns passed are small, and their entries are counted. Assumes nothing.
 use mathlib.Core.Path.{◌≡◌, sym, ap₂, ◌∙◌}
 use mathlib.Core.List.{[]}
-use Prim.Native.Nat.{◌-◌, ◌≤◌, ◌<◌, min}
+use Prim.Native.Nat.{◌≤◌, ◌<◌, min}
 use native.Mathlib.Omega.{arith}
 use lib.ListN.{get_or}
 use Rattle.planning.specs.Table.{state_count}
@@ -20,12 +20,12 @@ pub state_count-states-requires : goal.state_count-states-requires
 state_count-states-requires c = let r = c.args.rec.now in let l = c.loop-p in
     let t : l.p < pattern_count r = rw c.pattern_count-p-end.ensures at c.loop-p-test.true in
     let f = sizes_few r c.requires.0 in let w = pattern_whole r c.requires.0 l.p t in
-    rw (c.requires.1, c.pattern_Cells.ensures) (sizes_positive r c.requires.0, omega arith)
+    rw (c.requires.1, c.pattern_cells.ensures) (sizes_positive r c.requires.0, omega arith)
 
 pub returns-then-states-gt4096 : goal.returns-then-states-gt4096
 returns-then-states-gt4096 c = let r = c.args.rec.now in let l = c.loop-p in
     let t : l.p < pattern_count r = rw c.pattern_count-p-end.ensures at c.loop-p-test.true in
-    let e : c.state_count-states.result ≡ min (state_count (task_of r).sizes (get_or (patterns_of r) l.p [])) 4097 = c.state_count-states.ensures ∙ ap₂ (λ z q. min (state_count z q) 4097) c.requires.1 (c.pattern_Cells.ensures ∙ sym (pattern_at r l.p t)) in
+    let e : c.state_count-states.result ≡ min (state_count (task_of r).sizes (get_or (patterns_of r) l.p [])) 4097 = c.state_count-states.ensures ∙ ap₂ (λ z q. min (state_count z q) 4097) c.requires.1 (c.pattern_cells.ensures ∙ sym (pattern_at r l.p t)) in
     sym (judged_large (task_of r).sizes (patterns_of r) l.needed l.p l.invariant c.args.lent (rw (patterns_length r) t) (omega (arith, c.if-states-gt4096.true)))
 
 pub overflow_add-needed : goal.overflow_add-needed
@@ -38,7 +38,7 @@ loop-p-smaller c = rw (← c.pattern_count-p-end.ensures) (omega arith)
 pub loop-p-preserved : goal.loop-p-preserved
 loop-p-preserved c = let r = c.args.rec.now in let l = c.loop-p in
     let t : l.p < pattern_count r = rw c.pattern_count-p-end.ensures at c.loop-p-test.true in
-    let e : c.state_count-states.result ≡ min (state_count (task_of r).sizes (get_or (patterns_of r) l.p [])) 4097 = c.state_count-states.ensures ∙ ap₂ (λ z q. min (state_count z q) 4097) c.requires.1 (c.pattern_Cells.ensures ∙ sym (pattern_at r l.p t)) in
+    let e : c.state_count-states.result ≡ min (state_count (task_of r).sizes (get_or (patterns_of r) l.p [])) 4097 = c.state_count-states.ensures ∙ ap₂ (λ z q. min (state_count z q) 4097) c.requires.1 (c.pattern_cells.ensures ∙ sym (pattern_at r l.p t)) in
     let g : c.state_count-states.result ≡ state_count (task_of r).sizes (get_or (patterns_of r) l.p []) = omega (arith, c.if-states-gt4096.false) in
     rw g (adding_small (task_of r).sizes (patterns_of r) l.needed l.p l.invariant (rw (patterns_length r) t) (omega (arith, c.if-states-gt4096.false)))
 

@@ -1,6 +1,6 @@
 -- `sizes_of`: the sizes passed are right. Assumes nothing.
 use mathlib.Core.Path.{ap, ◌∙◌}
-use Prim.Native.Nat.{ℕ, ◌-◌}
+use Prim.Native.Nat.{ℕ}
 use native.Mathlib.Omega.{arith}
 use lib.ListN.{length, length-set, length-replicate}
 use Rattle.task_record.specs.Numbers.{size_of}
@@ -13,7 +13,7 @@ loop-v-init c = (omega arith, ap length c.sixteen_zeros-r.ensures ∙ length-rep
 
 pub loop-v-preserved : goal.loop-v-preserved
 loop-v-preserved c = let l = c.loop-v in let r = c.args.rec.now in
-    (omega arith, simp length-set l.invariant.1, rw c.wide-i.ensures.0 (filled_next (size_of r) l.r l.v c.type_size.result (omega arith) c.type_size.ensures l.invariant.2))
+    (omega arith, simp length-set l.invariant.1, rw c.wide-i.ensures.0 (filled_next (size_of r) l.r l.v c.size_of.result (omega arith) c.size_of.ensures l.invariant.2))
 
 pub returns : goal.returns
 returns c = let l = c.loop-v in let r = c.args.rec.now in

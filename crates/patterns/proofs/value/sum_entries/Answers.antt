@@ -1,7 +1,7 @@
 -- `sum_entries`: the sum so far, and the value of the patterns left, are the whole value. Assumes nothing.
 use mathlib.Core.Path.{◌≡◌, sym, ap, ap₂, ◌∙◌}
 use mathlib.Core.List.{[]}
-use Prim.Native.Nat.{◌+◌, ◌-◌, ◌≤◌, ◌<◌}
+use Prim.Native.Nat.{◌+◌, ◌≤◌, ◌<◌}
 use native.Mathlib.Omega.{arith}
 use borrow.Author.Tests.{ne_eqb}
 use lib.ListN.{length, get_or}
@@ -26,13 +26,13 @@ place_of-place-requires c = let r = c.args.rec.now in let s = c.args.state.now i
     let m : l.p < length (patterns_of r) = rw (patterns_length r) t in
     let f = sizes_few r c.requires.0 in let w = pattern_whole r c.requires.0 l.p t in let n = state_length (task_of r).sizes s c.requires.2 in
     let k = rw (pattern_at r l.p t) at (all_at (λ x. state_count (task_of r).sizes x ≤ 4096) (patterns_of r) [] c.requires.3 l.p m) in
-    rw (c.requires.1, c.pattern_Cells.ensures) (sizes_positive r c.requires.0, f, omega arith, omega arith, k)
+    rw (c.requires.1, c.pattern_cells.ensures) (sizes_positive r c.requires.0, f, omega arith, omega arith, k)
 
 pub overflow_add-at : goal.overflow_add-at
 overflow_add-at c = let r = c.args.rec.now in let s = c.args.state.now in let l = c.loop-p in
     let t : l.p < pattern_count r = rw c.pattern_count-p-end.ensures at c.loop-p-test.true in
     let m : l.p < length (patterns_of r) = rw (patterns_length r) t in
-    let q : c.pattern_Cells.result.now ≡ get_or (patterns_of r) l.p [] = c.pattern_Cells.ensures ∙ sym (pattern_at r l.p t) in
+    let q : c.pattern_cells.result.now ≡ get_or (patterns_of r) l.p [] = c.pattern_cells.ensures ∙ sym (pattern_at r l.p t) in
     let i : c.place_of-place.result.index ≡ index (task_of r).sizes (get_or (patterns_of r) l.p []) s = c.place_of-place.ensures.0 ∙ ap₂ (λ z x. index z x s) c.requires.1 q in
     let n = place_inside (task_of r).sizes (patterns_of r) s c.args.tables.now l.sum l.begin l.p l.invariant m c.requires.2 in omega arith
 
@@ -40,7 +40,7 @@ pub offset_bounds-tables-at : goal.offset_bounds-tables-at
 offset_bounds-tables-at c = let r = c.args.rec.now in let s = c.args.state.now in let l = c.loop-p in
     let t : l.p < pattern_count r = rw c.pattern_count-p-end.ensures at c.loop-p-test.true in
     let m : l.p < length (patterns_of r) = rw (patterns_length r) t in
-    let q : c.pattern_Cells.result.now ≡ get_or (patterns_of r) l.p [] = c.pattern_Cells.ensures ∙ sym (pattern_at r l.p t) in
+    let q : c.pattern_cells.result.now ≡ get_or (patterns_of r) l.p [] = c.pattern_cells.ensures ∙ sym (pattern_at r l.p t) in
     let i : c.place_of-place.result.index ≡ index (task_of r).sizes (get_or (patterns_of r) l.p []) s = c.place_of-place.ensures.0 ∙ ap₂ (λ z x. index z x s) c.requires.1 q in
     let n = place_inside (task_of r).sizes (patterns_of r) s c.args.tables.now l.sum l.begin l.p l.invariant m c.requires.2 in omega arith
 
@@ -48,7 +48,7 @@ pub bounds-tables-at : goal.bounds-tables-at
 bounds-tables-at c = let r = c.args.rec.now in let s = c.args.state.now in let l = c.loop-p in
     let t : l.p < pattern_count r = rw c.pattern_count-p-end.ensures at c.loop-p-test.true in
     let m : l.p < length (patterns_of r) = rw (patterns_length r) t in
-    let q : c.pattern_Cells.result.now ≡ get_or (patterns_of r) l.p [] = c.pattern_Cells.ensures ∙ sym (pattern_at r l.p t) in
+    let q : c.pattern_cells.result.now ≡ get_or (patterns_of r) l.p [] = c.pattern_cells.ensures ∙ sym (pattern_at r l.p t) in
     let i : c.place_of-place.result.index ≡ index (task_of r).sizes (get_or (patterns_of r) l.p []) s = c.place_of-place.ensures.0 ∙ ap₂ (λ z x. index z x s) c.requires.1 q in
     let n = place_inside (task_of r).sizes (patterns_of r) s c.args.tables.now l.sum l.begin l.p l.invariant m c.requires.2 in omega arith
 
@@ -57,7 +57,7 @@ unfolding value_of
 returns-then-e-eq65535 c = let r = c.args.rec.now in let s = c.args.state.now in let l = c.loop-p in
     let t : l.p < pattern_count r = rw c.pattern_count-p-end.ensures at c.loop-p-test.true in
     let m : l.p < length (patterns_of r) = rw (patterns_length r) t in
-    let q : c.pattern_Cells.result.now ≡ get_or (patterns_of r) l.p [] = c.pattern_Cells.ensures ∙ sym (pattern_at r l.p t) in
+    let q : c.pattern_cells.result.now ≡ get_or (patterns_of r) l.p [] = c.pattern_cells.ensures ∙ sym (pattern_at r l.p t) in
     let i : c.place_of-place.result.index ≡ index (task_of r).sizes (get_or (patterns_of r) l.p []) s = c.place_of-place.ensures.0 ∙ ap₂ (λ z x. index z x s) c.requires.1 q in
     let e : c.entry-e.result ≡ get_or c.args.tables.now (l.begin + index (task_of r).sizes (get_or (patterns_of r) l.p []) s) 0 = c.entry-e.ensures.0 ∙ ap (λ x. get_or c.args.tables.now (l.begin + x) 0) i in
     sym (ap value_of (summing_infinite (task_of r).sizes (patterns_of r) s c.args.tables.now l.sum l.begin l.p l.invariant m c.requires.2 (sym e ∙ c.if-e-eq65535.true)))
@@ -70,7 +70,7 @@ pub overflow_add-begin : goal.overflow_add-begin
 overflow_add-begin c = let r = c.args.rec.now in let s = c.args.state.now in let l = c.loop-p in
     let t : l.p < pattern_count r = rw c.pattern_count-p-end.ensures at c.loop-p-test.true in
     let m : l.p < length (patterns_of r) = rw (patterns_length r) t in
-    let q : c.pattern_Cells.result.now ≡ get_or (patterns_of r) l.p [] = c.pattern_Cells.ensures ∙ sym (pattern_at r l.p t) in
+    let q : c.pattern_cells.result.now ≡ get_or (patterns_of r) l.p [] = c.pattern_cells.ensures ∙ sym (pattern_at r l.p t) in
     let j : c.place_of-place.result.states ≡ state_count (task_of r).sizes (get_or (patterns_of r) l.p []) = c.place_of-place.ensures.1 ∙ ap₂ state_count c.requires.1 q in
     let n = table_inside (task_of r).sizes (patterns_of r) s c.args.tables.now l.sum l.begin l.p l.invariant m c.requires.2 in omega arith
 
@@ -81,7 +81,7 @@ pub loop-p-preserved : goal.loop-p-preserved
 loop-p-preserved c = let r = c.args.rec.now in let s = c.args.state.now in let l = c.loop-p in
     let t : l.p < pattern_count r = rw c.pattern_count-p-end.ensures at c.loop-p-test.true in
     let m : l.p < length (patterns_of r) = rw (patterns_length r) t in
-    let q : c.pattern_Cells.result.now ≡ get_or (patterns_of r) l.p [] = c.pattern_Cells.ensures ∙ sym (pattern_at r l.p t) in
+    let q : c.pattern_cells.result.now ≡ get_or (patterns_of r) l.p [] = c.pattern_cells.ensures ∙ sym (pattern_at r l.p t) in
     let i : c.place_of-place.result.index ≡ index (task_of r).sizes (get_or (patterns_of r) l.p []) s = c.place_of-place.ensures.0 ∙ ap₂ (λ z x. index z x s) c.requires.1 q in
     let j : c.place_of-place.result.states ≡ state_count (task_of r).sizes (get_or (patterns_of r) l.p []) = c.place_of-place.ensures.1 ∙ ap₂ state_count c.requires.1 q in
     let e : c.entry-e.result ≡ get_or c.args.tables.now (l.begin + index (task_of r).sizes (get_or (patterns_of r) l.p []) s) 0 = c.entry-e.ensures.0 ∙ ap (λ x. get_or c.args.tables.now (l.begin + x) 0) i in

@@ -1,5 +1,5 @@
 -- `common_cell`: the cells passed are at least what they have in common. Assumes nothing.
-use Prim.Native.Nat.{ℕ, ◌+◌, ◌-◌, ◌*◌}
+use Prim.Native.Nat.{ℕ, ◌+◌, ◌*◌}
 use native.Mathlib.Omega.{arith}
 use lib.Bits.{bit_and, and_le_l, and_le_r}
 use lib.ListN.{get_or}

@@ -1,8 +1,7 @@
 -- `is_additive`: the actions passed affect at most one pattern each. Assumes nothing.
 use mathlib.Core.Path.{◌≡◌}
-use Prim.Native.Nat.{ℕ, ◌-◌, ◌<◌}
+use Prim.Native.Nat.{ℕ, ◌<◌}
 use native.Mathlib.Omega.{arith}
-use borrow.Author.Tests.{not-false}
 use Rattle.task_record.specs.Numbers.{action_count}
 use Rattle.task_record.proofs.ColumnLaws.{below_next}
 use Rattle.patterns.proofs.LoneSets.{Alone, alone, alone_few, all_alone}
@@ -41,7 +40,7 @@ loop-m-preserved c =
     let if2 = c.if-not-is_lone in
     let r = args.rec.now in let m = loop.m in
     let l : m < action_count r = omega (arith, loop-test.true, action-count.ensures) in
-    (omega arith, below_next (Alone r) m (alone r m touched-set.result l touched-set.ensures (is-lone.ensures (not-false _ if2.false-raw))) loop.invariant.1)
+    (omega arith, below_next (Alone r) m (alone r m touched-set.result l touched-set.ensures (is-lone.ensures if2.false)) loop.invariant.1)
 
 pub returns : goal.returns
 returns c =

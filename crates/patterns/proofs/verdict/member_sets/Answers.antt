@@ -1,7 +1,7 @@
 -- `member_sets`: of each variable the set of the patterns passed, from the highest down; within a row those of the variables passed have its
 -- pattern too. Assumes nothing.
 use mathlib.Core.Path.{◌≡◌, sym, ap, ap₂, ◌∙◌}
-use mathlib.Core.Bool.{Bool, cond}
+use mathlib.Core.Bool.{cond}
 use mathlib.Core.List.{List}
 use Prim.Native.Nat.{ℕ, ◌+◌, ◌-◌, ◌*◌}
 use native.Mathlib.Nat.{sub-zero}
@@ -9,20 +9,14 @@ use native.Mathlib.Omega.{arith}
 use lib.Dec.{eqb}
 use lib.ListN.{length, get_or, length-set, length-replicate}
 use lib.Seq.{get_or-set_other}
-use Rattle.task_record.specs.Layout.{at_pattern}
 use Rattle.task_record.specs.Numbers.{pattern_count}
-use Rattle.task_record.specs.TaskOf.{cells_at}
 use Rattle.task_record.proofs.Sixteens.{filled_next, zeros}
 use Rattle.task_record.proofs.SoundTask.{patterns_right}
 use Rattle.patterns.specs.Sets.{set_from, member_set}
 use Rattle.patterns.proofs.Gathering.{set_small, set_empty, set_step}
 use Rattle.patterns.proofs.Sizes.{pattern_whole}
+use Rattle.patterns.proofs.verdict.member_sets.Invariants.{member}
 use Rattle.patterns.proofs.verdict.member_sets.Goals as goal
-
--- Variable k is in pattern j.
-
-abbrev member : List ℕ → ℕ → ℕ → Bool
-member r k j = eqb (get_or (cells_at r (at_pattern j)) k 0) 1
 
 pub loop-p-init : goal.loop-p-init
 loop-p-init c =
@@ -62,11 +56,11 @@ bounds-cells-v c =
     let pre = c.requires in
     let args = c.args in
     let loop = c.loop-p in
-    let pattern_Cells = c.pattern_Cells in
+    let cells = c.pattern_cells-cells in
     let loop2 = c.loop-v in
     let loop2-test = c.loop-v-test in
     let r = args.rec.now in
-    rw (pattern_Cells.ensures, pattern_whole r pre (loop.p - 1) loop2.invariant.2) loop2-test.true
+    rw (cells.ensures, pattern_whole r pre (loop.p - 1) loop2.invariant.2) loop2-test.true
 
 pub overflow_add-r : goal.overflow_add-r
 overflow_add-r c =
@@ -83,13 +77,13 @@ pub loop-v-preserved : goal.loop-v-preserved
 loop-v-preserved c =
     let args = c.args in
     let loop = c.loop-p in
-    let pattern_Cells = c.pattern_Cells in
+    let cells = c.pattern_cells-cells in
     let loop2 = c.loop-v in
     let loop2-test = c.loop-v-test in
     let digit = c.digit in
     let r = args.rec.now in let t = loop2-test.true in let i = loop2.invariant in let p = loop.p - 1 in let v = loop2.v in
     let x = get_or loop2.r v 0 * 2 + digit.result in
-    let d = digit.ensures.0 ∙ ap (λ (l : List ℕ). cond (eqb (get_or l v 0) 1) 1 0) pattern_Cells.ensures in
+    let d = digit.ensures.0 ∙ ap (λ (l : List ℕ). cond (eqb (get_or l v 0) 1) 1 0) cells.ensures in
     let e : x ≡ set_from (member r v) p (pattern_count r - p) = ap₂ (λ (a b : ℕ). a * 2 + b) (i.4 v (omega arith) t) d ∙ sym (set_step (member r v) p (pattern_count r) i.2) in (
       omega arith,
       simp length-set i.1,

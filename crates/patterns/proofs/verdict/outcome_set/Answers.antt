@@ -1,7 +1,7 @@
 -- `outcome_set`: what was gathered, and what the variables left affect, are the whole. Assumes nothing.
 use mathlib.Core.Path.{ap₂, ◌∙◌}
 use mathlib.Core.Bool.{Bool, not, ◌&&◌, cond}
-use Prim.Native.Nat.{ℕ, ◌+◌, ◌-◌}
+use Prim.Native.Nat.{ℕ, ◌+◌}
 use native.Mathlib.Omega.{arith}
 use lib.Dec.{eqb}
 use lib.ListN.{get_or, drop}

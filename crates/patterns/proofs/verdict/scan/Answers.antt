@@ -1,34 +1,20 @@
 -- `scan`: actions passed affect at most one pattern each; patterns passed are not affected; in the inner loop p is, and none between p and q. Assumes nothing.
 use mathlib.Core.Path.{refl, sym, ap, ◌∙◌}
-use mathlib.Core.Logic.{⊎_elim}
 use mathlib.Core.List.{◌∷◌}
-use Prim.Native.Nat.{◌+◌, ◌-◌}
+use Prim.Native.Nat.{◌+◌}
 use native.Mathlib.Nat.{sub-zero}
 use native.Mathlib.Omega.{arith}
-use borrow.Author.Rules.{rules}
 use Rattle.task_record.specs.Numbers.{pattern_count}
 use Rattle.task_record.specs.TaskOf.{task_of, patterns_of}
 use Rattle.patterns.specs.Additivity.{additivity_of}
 use Rattle.patterns.proofs.Affected.{verdict-at_start}
 use Rattle.patterns.proofs.Gathering.{set_half, set_odd, set_even}
 use Rattle.patterns.proofs.Reading.{affects_at, affected_from, patterns_passed, pattern_spared, pattern_affected, actions_passed, no_pattern, one_pattern, two_patterns}
+use Rattle.patterns.proofs.verdict.scan.Goals.{else-loop-p-test, then-loop-p-test+then-left-eq1+else-loop-q-test}
 use Rattle.patterns.proofs.verdict.scan.Goals as goal
 
-member-sets-requires :
-    tie.Need-member-sets-requires invariant-loop2 decreases-loop2 invariant-loop decreases-loop invariant-scan decreases-scan
-member-sets-requires c κs = search rules
-
-action-count-requires :
-    tie.Need-action-count-requires invariant-loop2 decreases-loop2 invariant-loop decreases-loop invariant-scan decreases-scan
-action-count-requires c κs = search rules
-
-pattern-count-requires :
-    tie.Need-pattern-count-requires invariant-loop2 decreases-loop2 invariant-loop decreases-loop invariant-scan decreases-scan
-pattern-count-requires c κs = search rules
-
-affected-set-requires :
-    tie.Need-affected-set-requires invariant-loop2 decreases-loop2 invariant-loop decreases-loop invariant-scan decreases-scan
-affected-set-requires c κs = (c.before.before.before.before.before.before.requires, c.before.before.before.before.member-sets.ensures, rw c.before.scan.invariant.3 at c.scan-test.true)
+pub affected_set-left-requires : goal.affected_set-left-requires
+affected_set-left-requires c = (c.requires, c.member_sets-members.ensures, rw c.scan.invariant.3 at c.scan-test.true)
 
 pub scan-init : goal.scan-init
 scan-init c = let r = c.args.rec.now in (verdict-at_start (task_of r) (patterns_of r), refl, omega arith, c.action_count-actions.ensures, c.pattern_count-patterns.ensures)
@@ -66,10 +52,11 @@ loop-p-preserved c = let r = c.args.rec.now in let s = c.scan in let l = c.loop-
 pub scan-preserved : goal.scan-preserved
 scan-preserved c = let r = c.args.rec.now in let s = c.scan in let l = c.loop-p in
     let t = rw s.invariant.3 at c.scan-test.true in
-    ⊎_elim
-    (λ w. (s.invariant.0 ∙ no_pattern r s.m t (l.invariant.0 ∙ patterns_passed r s.m l.p (rw s.invariant.4 at w.0.left)), w.1 ∙ l.invariant.1, omega arith, s.invariant.3, s.invariant.4))
-    (λ w. (s.invariant.0 ∙ one_pattern r s.m t l.p (w.2.inv.0 ∙ ap (λ x. l.p ∷ x) (patterns_passed r s.m w.2.q (rw s.invariant.4 at w.3.left))), w.4 ∙ w.2.inv.1, omega arith, s.invariant.3, s.invariant.4))
-    c.loop-p-test.branch
+    elim c.loop-p-test.branch [
+      | else-loop-p-test w ↦ (s.invariant.0 ∙ no_pattern r s.m t (l.invariant.0 ∙ patterns_passed r s.m l.p (rw s.invariant.4 at w.loop-p-test.false)), w.answer-is ∙ l.invariant.1, omega arith, s.invariant.3, s.invariant.4)
+      | then-loop-p-test+then-left-eq1+else-loop-q-test w ↦ let k = w.loop-q in
+          (s.invariant.0 ∙ one_pattern r s.m t l.p (k.invariant.0 ∙ ap (λ x. l.p ∷ x) (patterns_passed r s.m k.q (rw s.invariant.4 at w.loop-q-test.false))), w.answer-is ∙ k.invariant.1, omega arith, s.invariant.3, s.invariant.4)
+    ]
 
 pub returns-after-scan : goal.returns-after-scan
 unfolding additivity_of

@@ -1,6 +1,6 @@
 -- `touched_set`: the set has every pattern with a variable passed that an outcome names. Assumes nothing.
 use mathlib.Core.Path.{◌≡◌}
-use Prim.Native.Nat.{ℕ, ◌+◌, ◌-◌, ◌*◌}
+use Prim.Native.Nat.{ℕ, ◌+◌, ◌*◌}
 use native.Mathlib.Omega.{arith}
 use lib.ListN.{get_or}
 use Rattle.task_record.specs.Layout.{at_outcome}
@@ -30,7 +30,6 @@ pub loop-v-preserved : goal.loop-v-preserved
 loop-v-preserved c =
     let pre = c.requires in
     let args = c.args in
-    let shared-slice-known = c.shared_slice_known-1 in
     let wide = c.wide in
     let loop = c.loop-v in
     let loop-test = c.loop-v-test in
@@ -45,7 +44,7 @@ loop-v-preserved c =
           (λ k b.
           let e : 201 + 145 * wide.result + v + 16 * k ≡ at_outcome m k + v = omega arith in
           rw (at k) (rw e at (common-cell.ensures k (omega arith) (omega arith))))
-          (λ k b. rw (at k) (omega (arith, shared-slice-known.given (at_outcome m k + v))))
+          (λ k b. rw (at k) (omega (arith, c.type_inv.rec (at_outcome m k + v))))
           loop.invariant.2),
     )
 

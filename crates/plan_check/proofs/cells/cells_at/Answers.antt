@@ -1,6 +1,6 @@
 -- `cells_at`: the cells passed are the record's. Assumes nothing.
 use mathlib.Core.Path.{refl, sym, ◌∙◌}
-use Prim.Native.Nat.{◌+◌, ◌-◌}
+use Prim.Native.Nat.{◌+◌}
 use native.Mathlib.Omega.{arith}
 use lib.ListN.{get_or, length-set}
 use lib.Seq.{ext_get_or}

@@ -1,6 +1,6 @@
 -- `met`: the faults gathered so far are none exactly if the cells passed are met. Assumes nothing.
 use mathlib.Core.Path.{◌≡◌, refl, ap, ◌∙◌}
-use Prim.Native.Nat.{ℕ, ◌-◌}
+use Prim.Native.Nat.{ℕ}
 use native.Mathlib.Omega.{arith}
 use lib.ListN.{length, get_or}
 use Rattle.planning.specs.Task.{meets_cell}
