@@ -19,8 +19,8 @@ fn place(n: u64) -> usize
 // The lines of a record.
 fn report_record(rec: &[u8], tables: &mut [u16], plan: &mut [u8], out: &mut [u8]) -> usize
     ensures { (Written (record_lines (length tables.old) (length plan.old) rec.now) 0 out.old out.new result)
-        × (tables.new ≡ tablesPrepared rec.now tables.old)
-        × (plan.new ≡ planAfter rec.now (length tables.old) plan.old)
+        × (tables.new ≡ tables_prepared rec.now tables.old)
+        × (plan.new ≡ plan_after rec.now (length tables.old) plan.old)
         × (result ≤ 4 * length plan.old + 256) }
 {
     match search(rec, tables, plan) {
@@ -50,8 +50,8 @@ fn report_record(rec: &[u8], tables: &mut [u16], plan: &mut [u8], out: &mut [u8]
 pub fn report_text(text: &[u8], tables: &mut [u16], plan: &mut [u8], out: &mut [u8]) -> usize
     ensures { (result ≡ length (printed (length tables.old) (length plan.old) text.now))
         × (out.new ≡ overwritten (printed (length tables.old) (length plan.old) text.now) out.old)
-        × (tables.new ≡ tablesLeft text.now tables.old)
-        × (plan.new ≡ planLeft text.now (length tables.old) plan.old)
+        × (tables.new ≡ tables_left text.now tables.old)
+        × (plan.new ≡ plan_left text.now (length tables.old) plan.old)
         × (result ≤ 4 * length plan.old + 256) }
 {
     let mut rec = [0u8; RECORD_SIZE];

@@ -1,18 +1,37 @@
 // Program `tower`: reads a text from standard input and prints the lines that `report` gives for it. Input longer than 65,536 bytes is cut
-// there. It ends with exit code 0 whatever it prints, refusals too.
+// there. It ends with exit code 0 whatever it prints, refusals too; with 1 only where standard input or output fails.
 #![tactic(auto)]
 
+ghost use Rattle.std.specs.Prelude.{◌≤◌, IfOk, length};
+
 use report::text::report_text;
+use std::io;
+use std::io::Read;
 
 // Four bytes for each byte of the plan and 256 more: what `report_text` never passes.
 const OUT_SIZE: usize = 262400;
 
-fn main() {
+// Reads until the buffer is full or the input ends. Answers how many bytes there are.
+fn read_full<R: Read>(input: &mut R, buffer: &mut [u8]) -> io::Result<usize>
+    ensures { IfOk result (λ n. n ≤ length buffer.new) }
+{
+    let mut done = 0;
+    while done < buffer.len() {
+        let n = input.read(&mut buffer[done..])?;
+        if n == 0 {
+            break;
+        }
+        done += n;
+    }
+    Ok(done)
+}
+
+fn main(rt: HostRuntime) -> io::Result<()> {
     let mut input: [u8; 65536] = [0; 65536];
     let mut plan: [u8; 65536] = [0; 65536];
     let mut tables: [u16; 16384] = [0; 16384];
     let mut out: [u8; OUT_SIZE] = [0; OUT_SIZE];
-    let n = io::read_full(0, &mut input);
+    let n = read_full(&mut rt.stdin(), &mut input)?;
     let end = report_text(&input[..n], &mut tables, &mut plan, &mut out);
-    io::write_all(1, &out[..end]);
+    rt.write_all(&out[..end])
 }
