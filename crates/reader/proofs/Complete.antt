@@ -64,6 +64,7 @@ module _ (t : List ℕ) (sound : Sound t) (fit : Bytes t) where
   pub final_covered : (due : Due) (dues : List Due) (r : List ℕ) (k : ℕ) → Run t due dues → length r ≡ record_size → Some (Covers k) dues
       → Same t (final t dues r) k
   unfolding final
+  final_covered _ _ r k over w c = elim c [ ]
   final_covered _ _ r k (line due dues e v run) w (inl c) =
       final_kept _ dues (stored t due r) k run (stored_whole t sound fit r w due v) (new_same t sound fit r w due v k c)
   final_covered _ _ r k (line due dues e v run) w (inr c) =

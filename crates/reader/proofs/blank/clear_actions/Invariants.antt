@@ -1,5 +1,4 @@
 -- `reader::blank::clear_actions` meets its contract: what is left to clear makes the whole. Assumes nothing.
-use Prim.Native.Nat.{◌-◌}
 use lib.ListN.{length}
 use mathlib.Core.Path.{◌≡◌}
 use Rattle.reader.specs.Stores.{clear_actions}

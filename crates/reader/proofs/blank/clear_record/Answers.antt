@@ -19,7 +19,7 @@ fill-requires c = let n = ap length c.requires ∙ whole in omega (arith, n)
 
 pub fill-requires-2 : goal.fill-requires-2
 fill-requires-2 c = let n = ap length c.requires ∙ whole in
-    let k = c.fill.auto.0 in
+    let k = c.fill.auto.r in
     omega (arith, n, k, c.at_pattern.ensures, c.at_action.ensures, c.at_pattern-2.ensures)
 
 pub returns : goal.returns

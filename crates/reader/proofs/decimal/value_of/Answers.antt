@@ -1,7 +1,6 @@
 -- `reader::decimal::value_of` meets its contract: the digits and the value of the whole are those of the rest, after what was read. Seven digits
 -- keep it below a power of ten. Assumes nothing.
 use borrow.Author.Rules.{rules}
-use Prim.Native.Nat.{◌-◌}
 use borrow.Author.Tests.{le-leb, lt-leb}
 use mathlib.Core.Bool.{false}
 use mathlib.Core.Path.{◌∙◌, ◌≡◌, refl}

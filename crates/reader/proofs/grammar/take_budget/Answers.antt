@@ -14,5 +14,5 @@ returns-in-Malformed c = ap (take_budget c.args.rec.now c.args.due) c.in-Malform
 
 pub returns-else-n-gt1000000 : goal.returns-else-n-gt1000000
 unfolding take_budget
-returns-else-n-gt1000000 c = ap (take_budget c.args.rec.now c.args.due) c.d.given.1
-    ∙ simp (le-leb _ _ c.if1.false) (rw (← c.put-budget.ensures) c.go_on.ensures)
+returns-else-n-gt1000000 c = ap (take_budget c.args.rec.now c.args.due) c.in-Value.is
+    ∙ simp (le-leb _ _ c.if-n-gt1000000.false) (rw (← c.put_budget.ensures) c.go_on.ensures)

@@ -20,7 +20,7 @@ returns-in-Malformed c = ap (take_number c.args.rec.now c.args.due c.args.lo c.a
 
 pub returns-else-hi-n : goal.returns-else-hi-n
 unfolding take_number
-returns-else-hi-n c = ap (take_number c.args.rec.now c.args.due c.args.lo c.args.hi c.args.at) c.d.given.1
-    ∙ (simp (le-leb _ _ c.if1.false, le-leb _ _ c.if2.false))
+returns-else-hi-n c = ap (take_number c.args.rec.now c.args.due c.args.lo c.args.hi c.args.at) c.in-Value.is
+    ∙ (simp (le-leb _ _ c.if-n-lo.false, le-leb _ _ c.if-hi-n.false))
     ∙ ap (λ (x : List ℕ). go_on c.args.due x) (sym c.put.ensures)
     ∙ c.go_on.ensures

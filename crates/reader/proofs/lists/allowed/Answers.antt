@@ -11,11 +11,8 @@ returns-then-v-next c = record { value = simp (lt-leb _ _ c.if-v-next.true); v_b
 
 pub returns-then-n-v : goal.returns-then-n-v
 unfolding pair_fits
-returns-then-n-v c = record { value = simp (le-leb _ _ c.if-v-next.false, le-ltb _ _ (rw c.Cell-at.ensures.0 at c.if-n-v.true)); v_bound = λ e. absurd (false≢true e) }
+returns-then-n-v c = record { value = simp (le-leb _ _ c.if-v-next.false, le-ltb _ _ (rw c.cell_at-n.ensures.0 at c.if-n-v.true)); v_bound = λ e. absurd (false≢true e) }
 
 pub returns : goal.returns
 unfolding pair_fits
-returns c = let both = (
-  simp (c.cell_at-size.ensures.0, le-leb _ _ c.if-v-next.false, lt-ltb _ _ (rw c.Cell-at.ensures.0 at c.if-n-v.false)),
-  λ e. omega (arith, ltb-true c.args.x c.cell_at-size.result e),
-) in record { value = both.0; v_bound = both.1 }
+returns c = record { value = simp (c.cell_at-size.ensures.0, le-leb _ _ c.if-v-next.false, lt-ltb _ _ (rw c.cell_at-n.ensures.0 at c.if-n-v.false)); v_bound = λ e. omega (arith, ltb-true c.args.x c.cell_at-size.result e) }

@@ -8,10 +8,10 @@ use Rattle.reader.proofs.Split.{index_le}
 use Rattle.reader.proofs.lists.first_item.Goals as goal
 
 pub slice_bounds-number-end : goal.slice_bounds-number-end
-slice_bounds-number-end c = sym (length-take-le _ _ (omega (arith, c.find.ensures, index_le comma c.args.s.now)))
+slice_bounds-number-end c = sym (length-take-le _ _ (omega (arith, c.find-k.ensures, index_le comma c.args.s.now)))
 
 pub slice_bounds-number-end-in-Members : goal.slice_bounds-number-end-in-Members
-slice_bounds-number-end-in-Members c = sym (length-take-le _ _ (omega (arith, c.find2.ensures, index_le comma c.args.s.now)))
+slice_bounds-number-end-in-Members c = sym (length-take-le _ _ (omega (arith, c.find-k-in-Members.ensures, index_le comma c.args.s.now)))
 
 pub returns-in-Pairs : goal.returns-in-Pairs
 unfolding item_of
@@ -19,8 +19,8 @@ returns-in-Pairs c = (c.first_pair.ensures.0 ∙ sym (ap (λ k. item_of k c.args
 
 pub returns-in-Values : goal.returns-in-Values
 unfolding item_of
-returns-in-Values c = (c.join-pair.ensures ∙ rw (c.number-x.ensures, c.find.ensures) (sym (ap (λ k. item_of k c.args.next (first_piece c.args.s.now)) c.enum-told2.given.1)), c.find.ensures)
+returns-in-Values c = (c.join-pair.ensures ∙ rw (c.number-x.ensures, c.find-k.ensures) (sym (ap (λ k. item_of k c.args.next (first_piece c.args.s.now)) c.in-Values.is)), c.find-k.ensures)
 
 pub returns-in-Members : goal.returns-in-Members
 unfolding item_of
-returns-in-Members c = (c.join-pair-in-Members.ensures ∙ rw (c.number-v.ensures, c.find2.ensures) (sym (ap (λ k. item_of k c.args.next (first_piece c.args.s.now)) c.enum-told3.given.1)), c.find2.ensures)
+returns-in-Members c = (c.join-pair-in-Members.ensures ∙ rw (c.number-v.ensures, c.find-k-in-Members.ensures) (sym (ap (λ k. item_of k c.args.next (first_piece c.args.s.now)) c.in-Members.is)), c.find-k-in-Members.ensures)

@@ -1,5 +1,4 @@
 -- `reader::pieces::find` meets its contract: the first b of the whole is that of the rest, further by what was passed. Assumes nothing.
-use Prim.Native.Nat.{◌-◌}
 use native.Mathlib.Omega.{arith}
 use Rattle.reader.proofs.Split.{index_end, index_hit, index_miss}
 use Rattle.reader.proofs.pieces.find.Goals as goal

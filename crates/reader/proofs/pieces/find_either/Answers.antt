@@ -1,6 +1,5 @@
 -- `reader::pieces::find_either` meets its contract: the first a or b of the whole is that of the rest, further by what was passed.
 -- Assumes nothing.
-use Prim.Native.Nat.{◌-◌}
 use native.Mathlib.Omega.{arith}
 use Rattle.reader.proofs.Pairs.{either_end, either_first, either_miss, either_second}
 use Rattle.reader.proofs.pieces.find_either.Goals as goal

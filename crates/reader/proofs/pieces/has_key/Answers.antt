@@ -1,5 +1,4 @@
 -- `reader::pieces::has_key` meets its contract: the whole line has the whole key where the rest has the rest. Assumes nothing.
-use Prim.Native.Nat.{◌-◌}
 use borrow.Author.Rules.{rules}
 use borrow.Author.Tests.{eq-eqb, ne_eqb}
 use mathlib.Core.Path.{◌∙◌, sym}

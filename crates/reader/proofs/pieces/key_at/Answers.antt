@@ -1,6 +1,6 @@
 -- `reader::pieces::key_at` meets its contract: the key stands there if no byte so far differs and the rest has the rest. Assumes nothing.
 use borrow.Author.Rules.{rules}
-use Prim.Native.Nat.{◌+◌, ◌-◌}
+use Prim.Native.Nat.{◌+◌}
 use lib.Dec.{eqb}
 use lib.ListN.{drop, get_or}
 use mathlib.Core.Bool.{Bool, ◌&&◌}

@@ -11,8 +11,8 @@ pub returns-then-text-k-ne-COLON : goal.returns-then-text-k-ne-COLON
 returns-then-text-k-ne-COLON c = record { variable_bound = search rules; at_lt_end = λ h. absurd (omega arith) }
 
 pub returns : goal.returns
-returns c = let both = let e = c.args in (
-  search rules,
-  λ h. let a = c.small_number-v.ensures.at_lt_end (omega arith) in let b = c.small_number-x.ensures.at_lt_end h in
-      (omega (arith, a.0, b.0), λ next. pair_at e.text.now e.at next _ _ c.small_number-v.result.end _ (omega arith) (omega arith) a.1 (omega arith) c.if-text-k-ne-COLON.false b.1),
-) in record { variable_bound = both.0; at_lt_end = both.1 }
+returns c = let e = c.args in record {
+  variable_bound = search rules;
+  at_lt_end = λ h. let a = c.small_number-v.ensures.at_lt_end (omega arith) in let b = c.small_number-x.ensures.at_lt_end h in
+      (omega (arith, a.0, b.0), λ next. pair_at e.text.now e.at next _ _ c.small_number-v.result.end _ (omega arith) (omega arith) a.1 (omega arith) c.if-text-k-ne-COLON.false b.1);
+}

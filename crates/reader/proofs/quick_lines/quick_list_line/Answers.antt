@@ -14,5 +14,4 @@ quick_list-requires c = let e = c.behind-a.ensures (omega arith) in let p = c.re
     (omega (arith, e.0, e.2, p.5), p.1, p.2, p.3, p.4)
 
 pub returns : goal.returns
-returns c = let both = let a = c.args in let q = c.quick_list in let e = c.behind-a.ensures (omega arith) in
-    (q.ensures.upper_bound, λ h. (e.1, subst (λ (k : ℕ). ListAt a.text.now k q.result a.kind a.rec.now a.row q.new.1.1.0) e.0 (q.ensures.list_at h))) in record { upper_bound = both.0; text_value = both.1 }
+returns c = let a = c.args in let q = c.quick_list in let e = c.behind-a.ensures (omega arith) in record { upper_bound = q.ensures.upper_bound; text_value = λ h. (e.1, subst (λ (k : ℕ). ListAt a.text.now k q.result a.kind a.rec.now a.row q.new.rec) e.0 (q.ensures.list_at h)) }

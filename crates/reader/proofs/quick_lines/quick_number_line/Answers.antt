@@ -32,10 +32,7 @@ pub overflow_add-result : goal.overflow_add-result
 overflow_add-result c = let e = c.behind-a.ensures (omega arith) in search rules
 
 pub returns : goal.returns
-returns c = let both = let a = c.args in
+returns c = let a = c.args in
     let e = c.behind-a.ensures (omega arith) in
     let n = c.short_number-s in
-    let s = n.ensures.at_lt_end (omega arith) in (
-      omega (arith, e.0, e.2, n.ensures.value_bound.1, c.requires.3),
-      λ h. (e.1, number_at a.text.now (a.at + length a.key.now) n.result.end a.lo a.hi a.rec.now a.cell n.result.value _ (ap (λ (k : ℕ). drop k a.text.now) (sym e.0) ∙ s.1) (omega arith) (omega (arith, e.0, e.2, n.ensures.value_bound.1, c.requires.3)) c.if-text-e-ne-LINE_BREAK.false c.if-x-lo.false c.if-hi-x.false c.store.ensures),
-    ) in record { upper_bound = both.0; text_value = both.1 }
+    let s = n.ensures.at_lt_end (omega arith) in record { upper_bound = omega (arith, e.0, e.2, n.ensures.value_bound.1, c.requires.3); text_value = λ h. (e.1, number_at a.text.now (a.at + length a.key.now) n.result.end a.lo a.hi a.rec.now a.cell n.result.value _ (ap (λ (k : ℕ). drop k a.text.now) (sym e.0) ∙ s.1) (omega arith) (omega (arith, e.0, e.2, n.ensures.value_bound.1, c.requires.3)) c.if-text-e-ne-LINE_BREAK.false c.if-x-lo.false c.if-hi-x.false c.store.ensures) }

@@ -1,6 +1,5 @@
 -- `reader::quick_text::is_good` meets its contract: the lines before the last lead to it, and it is taken with nothing after it. Assumes nothing.
 use Prim.Native.Nat.{◌+◌}
-use borrow.Author.Tests.{not-false}
 use mathlib.Core.Bool.{false≢true}
 use mathlib.Core.Path.{◌∙◌, refl, sym}
 use native.Mathlib.Omega.{arith}
@@ -24,5 +23,5 @@ returns c = λ e. let q = c.quick_lines-at in
     let l = c.last_end-end in
     let b = c.quick_budget in
     w.same 1
-    ∙ budget_ends c.args.text.now (q.result + 7) l.result (omega (arith, l.ensures.1, c.if-text-at.false)) l.ensures.0 l.ensures.1 l.ensures.2 q.result q.new.1.0 b.new.0 refl
-    (sym c.key_at.ensures ∙ not-false _ c.if-not-key_at.false-raw) (b.ensures e) (1 + w.lines)
+    ∙ budget_ends c.args.text.now (q.result + 7) l.result (omega (arith, l.ensures.1, c.if-text-at.false)) l.ensures.0 l.ensures.1 l.ensures.2 q.result q.new.rec b.new.rec refl
+    (sym c.key_at.ensures ∙ c.if-not-key_at.false) (b.ensures e) (1 + w.lines)

@@ -1,7 +1,7 @@
 -- `reader::quick_text::quick_actions` meets its contract. The loop's invariant: the lines so far lead to the action that is due, or past the last.
 -- Assumes nothing.
 use borrow.Author.Rules.{rules}
-use Prim.Native.Nat.{◌+◌, ◌-◌}
+use Prim.Native.Nat.{◌+◌}
 use borrow.Author.Tests.{lt-ltb, le-ltb}
 use lib.Dec.{ltb}
 use mathlib.Core.Bool.{cond}
@@ -25,7 +25,7 @@ pub loop-rec-preserved : goal.loop-rec-preserved
 loop-rec-preserved c = let a = c.args in
     let l = c.loop-rec in
     let q = c.quick_action-k.ensures.rec_after (omega arith) in
-    let r = c.quick_action-k.new.1.1.0 in
+    let r = c.quick_action-k.new.rec in
     let z = q.1 ∙ l.invariant.4 in (
       search rules,
       search rules,

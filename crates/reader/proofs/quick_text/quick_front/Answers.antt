@@ -10,52 +10,54 @@ use Rattle.reader.specs.Quick.{Leads}
 use Rattle.reader.specs.declared.order.Due.TheVariants.{Vars, Size, Moves, Goal}
 use Rattle.reader.proofs.QuickLines.{leads_here, leads_on, number_kept, number_range}
 use Rattle.reader.proofs.QuickOrder.{vars_on, moves_on}
+use Rattle.reader.proofs.quick_text.quick_front.Goals.{Else-a-eq0, Else-c-eq0}
 use Rattle.reader.proofs.quick_text.quick_front.Goals as goal
 
 -- what is known before the sizes
 
-before-sizes : (c : tie.Else1)
-    → let a = c.before.before.before.before.before.before.before.before.args in
-    let r = c.before.before.before.quick-number-line.new.1.1.0 in
-    (1 ≤ get_or r 0 0) × (get_or r 0 0 ≤ 16) × Leads a.text.now Vars a.rec.now 0 (Size 0) r c.before.before.before.quick-number-line.result
+before-sizes : (c : Else-a-eq0)
+    → let a = c.args in
+    let r = c.quick_number_line-a.new.rec in
+    (1 ≤ get_or r 0 0) × (get_or r 0 0 ≤ 16) × Leads a.text.now Vars a.rec.now 0 (Size 0) r c.quick_number_line-a.result
 unfolding bytes
 before-sizes c =
-    let a = c.before.before.before.before.before.before.before.before.args in
-    let p = c.before.before.before.quick-number-line in
-    let f = p.ensures.1 (omega arith) in
-    let n = number_range a.text.now 5 p.result 1 16 a.rec.now 0 p.new.1.1.0 f.1 (search rules) in
-    (n.0, n.1, vars_on a.text.now Vars a.rec.now 0 0 p.result a.rec.now p.new.1.1.0 (leads_here a.text.now Vars a.rec.now 0) f.0 f.1)
+    let a = c.args in
+    let p = c.quick_number_line-a in
+    let f = p.ensures.text_value (omega arith) in
+    let n = number_range a.text.now 5 p.result 1 16 a.rec.now 0 p.new.rec f.1 (search rules) in
+    (n.0, n.1, vars_on a.text.now Vars a.rec.now 0 0 p.result a.rec.now p.new.rec (leads_here a.text.now Vars a.rec.now 0) f.0 f.1)
 
 -- what is known before the actions
 
-before-actions : (c : tie.Else3)
-    → let a = c.before.before.before.before.before.before.before.before.before.before.before.before.before.before.before.before.before.before.before.before.before.args in
-    let r = c.before.before.before.quick-number-line2.new.1.1.0 in
-    (get_or r 0 0 ≡ c.before.before.before.before.before.before.before.before.before.before.before.wide.result) × (c.before.before.before.before.before.before.before.before.before.before.before.wide.result ≤ 16) × (get_or r 1 0 ≤ 64)
-    × Leads a.text.now Vars a.rec.now 0 (action_from r 0) r c.before.before.before.quick-number-line2.result
+before-actions : (c : Else-c-eq0)
+    → let a = c.args in
+    let p = c.quick_number_line-a in
+    let r = c.quick_number_line-c.new.rec in
+    (1 ≤ get_or p.new.rec 0 0) × (get_or p.new.rec 0 0 ≤ 16) × Leads a.text.now Vars a.rec.now 0 (Size 0) p.new.rec p.result →
+    (get_or r 0 0 ≡ c.wide-n.result) × (c.wide-n.result ≤ 16) × (get_or r 1 0 ≤ 64)
+    × Leads a.text.now Vars a.rec.now 0 (action_from r 0) r c.quick_number_line-c.result
 unfolding bytes
-before-actions c =
-    let a = c.before.before.before.before.before.before.before.before.before.before.before.before.before.before.before.before.before.before.before.before.before.args in
-    let p = c.before.before.before.before.before.before.before.before.before.before.before.before.before.before.before.before.quick-number-line in
-    let s = c.before.before.before.before.before.before.before.before.before.quick-sizes in
-    let q = c.before.before.before.quick-number-line2 in
-    let e = before-sizes c.before.before.before.before.before.before.before.before.before.before.before.before.before in
-    let f = s.ensures.1 (omega arith) in
-    let g = q.ensures.1 (omega arith) in
-    let w = c.before.before.before.before.before.before.before.before.before.before.before.wide.ensures.0 in
+before-actions c e =
+    let a = c.args in
+    let p = c.quick_number_line-a in
+    let s = c.quick_sizes-b in
+    let q = c.quick_number_line-c in
+    let f = s.ensures.rec_after (omega arith) in
+    let g = q.ensures.text_value (omega arith) in
+    let w = c.wide-n.ensures.0 in
     let n = e.1 in (
-      number_kept a.text.now (s.result + 6) q.result 0 64 s.new.1.1.0 1 q.new.1.1.0 g.1 0 (λ z. omega arith) ∙ f.0,
+      number_kept a.text.now (s.result + 6) q.result 0 64 s.new.rec 1 q.new.rec g.1 0 (λ z. omega arith) ∙ f.0,
       omega (arith, w, n),
-      (number_range a.text.now (s.result + 6) q.result 0 64 s.new.1.1.0 1 q.new.1.1.0 g.1 (let k = s.auto.1.1.0 in let j = p.auto.1.1.0 in omega (arith, k, j, c.before.before.before.before.before.before.before.before.before.before.before.before.before.before.before.before.before.before.before.before.before.requires))).1,
-      moves_on a.text.now Vars a.rec.now 0 s.result q.result s.new.1.1.0 q.new.1.1.0
-          (leads_on a.text.now Vars (Size 0) Moves a.rec.now p.new.1.1.0 s.new.1.1.0 0 p.result s.result e.2 f.1) g.0 g.1,
+      (number_range a.text.now (s.result + 6) q.result 0 64 s.new.rec 1 q.new.rec g.1 (let k = s.auto.rec in let j = p.auto.rec in omega (arith, k, j, c.requires))).1,
+      moves_on a.text.now Vars a.rec.now 0 s.result q.result s.new.rec q.new.rec
+          (leads_on a.text.now Vars (Size 0) Moves a.rec.now p.new.rec s.new.rec 0 p.result s.result e.2 f.1) g.0 g.1,
     )
 
 pub returns-then-a-eq0 : goal.returns-then-a-eq0
 returns-then-a-eq0 c = record { upper_bound = search rules; rec_bound = λ h. absurd (omega arith) }
 
 pub quick_sizes-b-requires : goal.quick_sizes-b-requires
-quick_sizes-b-requires c = let e = before-sizes c in
+quick_sizes-b-requires c = let e = before-sizes (goal.at.quick_sizes-b-requires c).Else-a-eq0 in
     let w = c.wide-n.ensures.0 in
     let l = e.0 in
     let n = e.1 in
@@ -71,17 +73,17 @@ pub returns-then-c-eq0 : goal.returns-then-c-eq0
 returns-then-c-eq0 c = record { upper_bound = search rules; rec_bound = λ h. absurd (omega arith) }
 
 pub quick_actions-requires : goal.quick_actions-requires
-quick_actions-requires c = let e = before-actions c in
+quick_actions-requires c = let e = before-actions (goal.at.quick_actions-requires c).Else-c-eq0 (before-sizes (goal.at.quick_actions-requires c).Else-a-eq0) in
     let w = c.wide-count.ensures.0 in
     let n = e.2 in
     (c.quick_number_line-c.ensures.upper_bound, search rules, sym e.0, e.1, w, omega (arith, w, n))
 
 pub returns : goal.returns
-returns c = let both = let e = before-actions c in
-    let n = e.1 in (
-      c.quick_actions.ensures.upper_bound,
-      λ h. let f = c.quick_actions.ensures.rec_after h in let z = f.0 in (
+returns c = let e = before-actions (goal.at.returns c).Else-c-eq0 (before-sizes (goal.at.returns c).Else-a-eq0) in
+    let n = e.1 in record {
+      upper_bound = c.quick_actions.ensures.upper_bound;
+      rec_bound = λ h. let f = c.quick_actions.ensures.rec_after h in let z = f.0 in (
         omega (arith, z, n),
-        leads_on c.args.text.now Vars (action_from c.quick_number_line-c.new.1.1.0 0) Goal c.args.rec.now c.quick_number_line-c.new.1.1.0 c.quick_actions.new.1.1.0 0 c.quick_number_line-c.result c.quick_actions.result e.3 f.1,
-      ),
-    ) in record { upper_bound = both.0; rec_bound = both.1 }
+        leads_on c.args.text.now Vars (action_from c.quick_number_line-c.new.rec 0) Goal c.args.rec.now c.quick_number_line-c.new.rec c.quick_actions.new.rec 0 c.quick_number_line-c.result c.quick_actions.result e.3 f.1,
+      );
+    }

@@ -25,12 +25,12 @@ quick_tail-requires c = let f = c.quick_front-a.ensures.rec_bound (omega arith) 
     (c.quick_states-b.ensures.upper_bound, search rules, sym (c.quick_states-b.ensures.rec_after (omega arith)).0, omega (arith, w, n))
 
 pub returns : goal.returns
-returns c = let both = let a = c.args in
+returns c = let a = c.args in
     let p = c.quick_front-a in
     let s = c.quick_states-b in
-    let q = c.quick_tail in (
-      q.ensures.upper_bound,
-      λ h. leads_on a.text.now Vars Patterns Budget a.rec.now s.new.1.1.0 q.new.1.1.0 0 s.result q.result
-          (leads_on a.text.now Vars Goal Patterns a.rec.now p.new.1.0 s.new.1.1.0 0 p.result s.result (p.ensures.rec_bound (omega arith)).1 (s.ensures.rec_after (omega arith)).1)
-          (q.ensures.leads h),
-    ) in record { upper_bound = both.0; leads = both.1 }
+    let q = c.quick_tail in record {
+      upper_bound = q.ensures.upper_bound;
+      leads = λ h. leads_on a.text.now Vars Patterns Budget a.rec.now s.new.rec q.new.rec 0 s.result q.result
+          (leads_on a.text.now Vars Goal Patterns a.rec.now p.new.rec s.new.rec 0 p.result s.result (p.ensures.rec_bound (omega arith)).1 (s.ensures.rec_after (omega arith)).1)
+          (q.ensures.leads h);
+    }

@@ -1,7 +1,7 @@
 -- `reader::quick_text::quick_outcomes` meets its contract. The loop's invariant: the lines so far lead to the outcome that is due, or past the
 -- last. Assumes nothing.
 use borrow.Author.Rules.{rules}
-use Prim.Native.Nat.{◌+◌, ◌-◌}
+use Prim.Native.Nat.{◌+◌}
 use borrow.Author.Tests.{lt-ltb, le-ltb}
 use mathlib.Core.Path.{refl, sym, ◌∙◌}
 use native.Mathlib.Omega.{arith}
@@ -35,12 +35,11 @@ loop-a-preserved c = let a = c.args in
     let b = c.behind-a.ensures (omega arith) in
     let s = c.quick_pairs-k in
     let q = rw (c.at_outcome.ensures, b.0) at (s.ensures.list_at (omega arith)) in
-    let r = s.new.1.1.0 in
+    let r = s.new.rec in
     let kept = list_kept a.text.now (l.k + 4) s.result Pairs l.rec (at_outcome a.m l.o) r q in
     let z = kept (at_action a.m) (omega arith) ∙ l.invariant.5 in
     let w = eff_on a.text.now (Eff a.m 0) a.rec.now a.at l.k s.result l.rec r a.m l.o (rw (lt-ltb l.o a.count (rw c.wide.ensures.0 at c.loop-a-test.true)) at l.invariant.6) b.1 q in
     (search rules, search rules, s.ensures.upper_bound, kept 0 (omega arith) ∙ l.invariant.3, kept 1 (omega arith) ∙ l.invariant.4, z, rw z at w)
 
 pub returns : goal.returns
-returns c = let both = let l = c.loop-a in
-    (l.invariant.2, λ h. (l.invariant.3, l.invariant.4, rw (le-ltb l.o c.args.count (rw c.wide.ensures.0 at c.loop-a-test.false)) at l.invariant.6)) in record { upper_bound = both.0; rec_after = both.1 }
+returns c = let l = c.loop-a in record { upper_bound = l.invariant.2; rec_after = λ h. (l.invariant.3, l.invariant.4, rw (le-ltb l.o c.args.count (rw c.wide.ensures.0 at c.loop-a-test.false)) at l.invariant.6) }

@@ -12,8 +12,8 @@ use Rattle.reader.specs.declared.order.Due.TheVariants.{Eff}
 use Rattle.reader.proofs.quick_text.quick_outcomes.Given as goal
 
 abbrev pub invariant-loop-a : goal.invariant-loop-a
-invariant-loop-a l = (length l.o ≡ length l.initial.rec) × (l.k ≤ l.count) × (k ≤ length l.text) × (get_or l.o 0 0 ≡ l.n) × (get_or l.o 1 0 ≡ get_or l.initial.rec 1 0) × (get_or l.o (at_action l.m) 0 ≡ l.count)
-    × Leads l.text (Eff l.m 0) l.initial.rec l.at (cond (ltb l.k l.count) (Eff l.m l.k) (action_from l.o (l.m + 1))) l.o k
+invariant-loop-a l = (length l.rec ≡ length l.initial.rec) × (l.o ≤ l.count) × (l.k ≤ length l.text) × (get_or l.rec 0 0 ≡ l.n) × (get_or l.rec 1 0 ≡ get_or l.initial.rec 1 0) × (get_or l.rec (at_action l.m) 0 ≡ l.count)
+    × Leads l.text (Eff l.m 0) l.initial.rec l.at (cond (ltb l.o l.count) (Eff l.m l.o) (action_from l.rec (l.m + 1))) l.rec l.k
 
 abbrev pub decreases-loop-a : goal.decreases-loop-a
-decreases-loop-a l = l.count - l.k
+decreases-loop-a l = l.count - l.o

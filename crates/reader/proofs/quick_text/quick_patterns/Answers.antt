@@ -1,7 +1,7 @@
 -- `reader::quick_text::quick_patterns` meets its contract. The loop's invariant: the lines so far lead to the pattern that is due, or past the
 -- last. Assumes nothing.
 use borrow.Author.Rules.{rules}
-use Prim.Native.Nat.{◌+◌, ◌-◌}
+use Prim.Native.Nat.{◌+◌}
 use borrow.Author.Tests.{lt-ltb, le-ltb}
 use mathlib.Core.Path.{refl, sym, ◌∙◌}
 use native.Mathlib.Omega.{arith}
@@ -27,7 +27,7 @@ unfolding bytes
 loop-rec-preserved c = let a = c.args in
     let l = c.loop-rec in
     let q = rw c.at_pattern.ensures at (c.quick_list_line-k.ensures.text_value (omega arith)) in
-    let r = c.quick_list_line-k.new.1.1.0 in
+    let r = c.quick_list_line-k.new.rec in
     let kept = list_kept a.text.now (l.k + 8) c.quick_list_line-k.result Members l.rec (at_pattern l.p) r q.1 in
     let z = kept 2 (omega arith) ∙ l.invariant.4 in
     let w = pattern_on a.text.now (pattern_from a.rec.now 0) a.rec.now a.at l.k c.quick_list_line-k.result l.rec r l.p (rw (lt-ltb l.p a.count (rw c.wide.ensures.0 at c.loop-rec-test.true)) at l.invariant.5) q.0 q.1 in

@@ -1,7 +1,7 @@
 -- `reader::quick_text::quick_sizes` meets its contract. The loop's invariant: the lines so far lead to the size that is due, or past the last.
 -- Assumes nothing.
 use borrow.Author.Rules.{rules}
-use Prim.Native.Nat.{◌+◌, ◌-◌}
+use Prim.Native.Nat.{◌+◌}
 use borrow.Author.Tests.{lt-ltb, le-ltb}
 use mathlib.Core.Path.{refl, sym, ◌∙◌}
 use native.Mathlib.Omega.{arith}
@@ -22,7 +22,7 @@ unfolding bytes
 loop-i-preserved c = let a = c.args in
     let l = c.loop-i in
     let q = c.quick_number_line-k.ensures.text_value (omega arith) in
-    let r = c.quick_number_line-k.new.1.1.0 in
+    let r = c.quick_number_line-k.new.rec in
     let z = number_kept a.text.now (l.k + 5) c.quick_number_line-k.result 2 16 l.rec (8 + l.i) r q.1 0 (λ e. omega arith) ∙ l.invariant.3 in
     let w = size_on a.text.now (Size 0) a.rec.now a.at l.k c.quick_number_line-k.result l.rec r l.i (rw (lt-ltb l.i a.n c.loop-i-test.true) at l.invariant.4) q.0 q.1 in
     (search rules, omega arith, c.quick_number_line-k.ensures.upper_bound, z, rw z at w)

@@ -1,5 +1,4 @@
 -- `reader::store::put_cells` meets its contract: the stores of the whole run are those that are left. Assumes nothing.
-use Prim.Native.Nat.{◌-◌}
 use borrow.Author.Rules.{rules}
 use lib.ListN.{length-set}
 use mathlib.Core.Path.{◌∙◌, refl, sym}
