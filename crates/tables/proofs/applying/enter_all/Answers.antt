@@ -1,5 +1,5 @@
 -- `tables::applying::enter_all` meets its contract. The loop's invariant: actions below m are entered. Assumes nothing.
-use Rattle.std.proofs.Common.{◌-◌, sym, ◌∙◌, arith}
+use Rattle.std.proofs.Common.{sym, ◌∙◌, arith}
 use Rattle.tables.proofs.SetsFilled.{slotting_starts, slotting_goes_on, slotted}
 use Rattle.tables.proofs.applying.enter_all.Goals as goal
 
@@ -10,7 +10,7 @@ pub enter-requires : goal.enter-requires
 enter-requires c = (c.loop-m.invariant.1.long, c.requires.2)
 
 pub loop-m-preserved : goal.loop-m-preserved
-loop-m-preserved c = let l = c.loop-m in (omega arith, slotting_goes_on c.args.task.now c.args.mask c.args.digits l.invariant.1 (omega (arith, c.requires.1)) c.enter.auto.0 c.enter.ensures)
+loop-m-preserved c = let l = c.loop-m in (omega arith, slotting_goes_on c.args.task.now c.args.mask c.args.digits l.invariant.1 (omega (arith, c.requires.1)) c.enter.auto.slots c.enter.ensures)
 
 pub shape_of-slots : goal.shape_of-slots
 shape_of-slots c = c.loop-m.invariant.1.long ∙ sym c.requires.0

@@ -6,8 +6,8 @@ use Rattle.tables.proofs.build.build_within.Goals as goal
 
 pub make-requires : goal.make-requires
 unfolding digit_by
-make-requires c = (c.requires.0, lookable_as _ _ _ _ _ c.pack.ensures c.requires.1, omega (arith, c.requires.3, c.requires.2.states_few), indexed_as _ _ _ _ c.requires.3 (parts_indexed c.args.task.now c.args.actions c.args.n c.pack.result c.args.sizes c.args.pattern c.weights-of.result _ c.args.entries.now c.pack.ensures c.weights-of.ensures c.fill-states.ensures c.requires.2 (omega (arith, c.requires.3, c.requires.4, c.fill-states.auto.1.1.1.0))))
+make-requires c = (c.requires.0, lookable_as _ _ _ _ _ c.pack-mask.ensures c.requires.1, omega (arith, c.requires.3, c.requires.2.states_few), indexed_as _ _ _ _ c.requires.3 (parts_indexed c.args.task.now c.args.actions c.args.n c.pack-mask.result c.args.sizes c.args.pattern c.weights_of-weights.result _ c.args.entries.now c.pack-mask.ensures c.weights_of-weights.ensures c.fill_states.ensures c.requires.2 (omega (arith, c.requires.3, c.requires.4, c.fill_states.auto.states))))
 
 pub returns : goal.returns
 unfolding digit_by
-returns c = parts_build c.args.task.now c.args.actions c.args.n c.pack.result c.args.sizes c.args.pattern c.weights-of.result _ _ c.pack.ensures c.weights-of.ensures c.fill-states.ensures (c.make.auto.1.1.1.1.1.1.1.0 ∙ c.requires.3) c.make.ensures
+returns c = parts_build c.args.task.now c.args.actions c.args.n c.pack-mask.result c.args.sizes c.args.pattern c.weights_of-weights.result _ _ c.pack-mask.ensures c.weights_of-weights.ensures c.fill_states.ensures (c.make.auto.entries ∙ c.requires.3) c.make.ensures

@@ -1,5 +1,5 @@
 -- `tables::certify::fill_steps` meets its contract. Assumes nothing.
-use Rattle.std.proofs.Common.{◌-◌, arith}
+use Rattle.std.proofs.Common.{arith}
 use Rattle.tables.proofs.certify.fill_steps.Goals as goal
 
 pub put_steps-requires : goal.put_steps-requires

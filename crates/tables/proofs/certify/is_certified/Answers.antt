@@ -1,6 +1,5 @@
 -- `tables::certify::is_certified` meets its contract. Assumes nothing.
-use Rattle.std.proofs.Common.{◌-◌, arith}
-use borrow.Author.Tests.{not-false}
+use Rattle.std.proofs.Common.{arith}
 use Rattle.tables.proofs.SetsFilled.{filled-sets}
 use Rattle.tables.proofs.Certifying.{exact_next, exact_all}
 use Rattle.tables.proofs.Sweeping.{false_true}
@@ -16,7 +15,7 @@ pub returns-then-not-is_exact : goal.returns-then-not-is_exact
 returns-then-not-is_exact c = λ q. false_true q
 
 pub loop-i-preserved : goal.loop-i-preserved
-loop-i-preserved c = let l = c.loop-i in (omega (arith, c.loop-i-test.true), exact_next _ _ _ (c.is_exact.ensures (not-false _ c.if-not-is_exact.false-raw)) l.invariant.1)
+loop-i-preserved c = let l = c.loop-i in (omega (arith, c.loop-i-test.true), exact_next _ _ _ (c.is_exact.ensures c.if-not-is_exact.false) l.invariant.1)
 
 pub returns : goal.returns
 returns c = λ q. exact_all _ _ _ c.loop-i-test.false c.loop-i.invariant.1

@@ -1,9 +1,10 @@
 -- `tables::certify::is_said` meets its contract. Assumes nothing.
-use Rattle.std.proofs.Common.{sym, ◌∙◌, inl, inr, ⊎_elim, arith, eqb-true}
+use Rattle.std.proofs.Common.{sym, ◌∙◌, inl, inr, arith, eqb-true}
 use Rattle.tables.specs.Steps.{space}
 use Rattle.tables.proofs.Certifying.{judging_start, judged_known, judging_next, judging_hit, judging_end, set-falls}
 use Rattle.tables.proofs.Sweeping.{false_true}
 use Rattle.tables.proofs.certify.is_said.Goals as goal
+use Rattle.tables.proofs.certify.is_said.Goals.{then-verdict-eq1+else-e-le1, else-verdict-eq1}
 
 pub loop-rest-init : goal.loop-rest-init
 loop-rest-init c = judging_start _ _ _ _ _ _ c.requires.3 (λ q. eqb-true _ _ q)
@@ -27,7 +28,7 @@ loop-rest-smaller c = set-falls _ c.loop-rest-test.true
 
 pub loop-rest-preserved : goal.loop-rest-preserved
 loop-rest-preserved c = let l = c.loop-rest in judging_next (space c.args.task.now c.args.mask c.args.weights.now c.args.states.now c.args.actions) c.args.entries.now c.args.s c.args.e l.rest l.attained c.requires.0.actions_few l.invariant c.loop-rest-test.true c.judge-verdict.result c.judge-verdict.ensures c.if-verdict-eq0.false c.if-verdict-eq1.attained
-    (λ q. ⊎_elim (λ w. inl w.0.taken) (λ w. inr (sym w.1 ∙ q)) c.if-verdict-eq1.branch)
+    (λ q. elim c.if-verdict-eq1.branch [ then-verdict-eq1+else-e-le1 w ↦ inl w.if-verdict-eq1.true | else-verdict-eq1 w ↦ inr (sym w.attained-is ∙ q) ])
 
 pub returns : goal.returns
 returns c = λ q. let l = c.loop-rest in judging_end (space c.args.task.now c.args.mask c.args.weights.now c.args.states.now c.args.actions) c.args.entries.now c.args.s c.args.e l.rest l.attained c.requires.0.actions_few l.invariant c.loop-rest-test.false q

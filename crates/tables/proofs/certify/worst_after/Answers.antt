@@ -1,9 +1,10 @@
 -- `tables::certify::worst_after` meets its contract. Assumes nothing.
-use Rattle.std.proofs.Common.{◌≡◌, ◌-◌, ◌<◌, ◌≤◌, refl, ◌∙◌, ⊎_elim, arith}
+use Rattle.std.proofs.Common.{◌≡◌, ◌<◌, ◌≤◌, refl, ◌∙◌, arith}
 use Rattle.tables.specs.Packed.{outcome_count}
 use Rattle.tables.specs.Steps.{worst, outcome_entry}
 use Rattle.tables.proofs.Sweeping.{worst-start, worst-more, worst_same, worst_end, worst_reaches, below_same, below_not}
 use Rattle.tables.proofs.certify.worst_after.Goals as goal
+use Rattle.tables.proofs.certify.worst_after.Goals.{then-most-e, else-most-e}
 
 pub loop-o-init : goal.loop-o-init
 loop-o-init c = (refl, omega arith, worst-start _ _)
@@ -17,19 +18,20 @@ returns-then-e-limit c = let a = c.args in let l = c.loop-o in let e = c.entry_a
 pub loop-o-preserved : goal.loop-o-preserved
 loop-o-preserved c = let a = c.args in let l = c.loop-o in let e = c.entry_after-e.ensures in let t = c.loop-o-test.true in
     let f = outcome_entry a.task.now a.mask a.weights.now a.entries.now a.m a.s in let n = outcome_count a.task.now a.m in
-    ⊎_elim
-    (λ w. (
-      refl,
-      omega arith,
-      let q : c.if-most-e.most ≡ f l.o = w.1 ∙ e in let h : l.most < f l.o = omega (arith, e, w.0.taken) in
-          rw q (worst-more f l.o n l.most t h l.invariant.2),
-    ))
-    (λ w. (
-      refl,
-      omega arith,
-      let q : c.if-most-e.most ≡ l.most = w.1 in let h : f l.o ≤ l.most = omega (arith, e, w.0.left) in
-          rw q (worst_same f l.o n l.most t h l.invariant.2),
-    )) c.if-most-e.branch
+    elim c.if-most-e.branch [
+      | then-most-e w ↦ (
+        refl,
+        omega arith,
+        let q : c.if-most-e.most ≡ f l.o = w.most-is ∙ e in let h : l.most < f l.o = omega (arith, e, w.if-most-e.true) in
+            rw q (worst-more f l.o n l.most t h l.invariant.2),
+      )
+      | else-most-e w ↦ (
+        refl,
+        omega arith,
+        let q : c.if-most-e.most ≡ l.most = w.most-is in let h : f l.o ≤ l.most = omega (arith, e, w.if-most-e.false) in
+            rw q (worst_same f l.o n l.most t h l.invariant.2),
+      )
+    ]
 
 pub returns : goal.returns
 returns c = let a = c.args in let l = c.loop-o in

@@ -1,5 +1,5 @@
 -- `tables::sweep::index_of` meets its contract. Assumes nothing.
-use Rattle.std.proofs.Common.{◌≡◌, ◌+◌, ◌-◌, ◌*◌, ◌<◌, drop, sym, ◌∙◌, arith}
+use Rattle.std.proofs.Common.{◌≡◌, ◌+◌, ◌*◌, ◌<◌, drop, sym, ◌∙◌, arith}
 use Rattle.tables.proofs.Sweeping.{weigh-zero, weigh_four, digits_left, digits-over}
 use Rattle.tables.proofs.sweep.index_of.Goals as goal
 

@@ -1,5 +1,5 @@
 -- `tables::sweep::may_idle` meets its contract. Assumes nothing.
-use Rattle.std.proofs.Common.{◌-◌, refl, arith}
+use Rattle.std.proofs.Common.{refl, arith}
 use Rattle.tables.specs.Packed.{outcome_count}
 use Rattle.tables.proofs.Sweeping.{idling_start, idling_hit, idling_miss, idling_end}
 use Rattle.tables.proofs.sweep.may_idle.Goals as goal

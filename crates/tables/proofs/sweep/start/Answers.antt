@@ -1,5 +1,5 @@
 -- `tables::sweep::start` meets its contract. Assumes nothing.
-use Rattle.std.proofs.Common.{◌-◌, length, refl, arith, length-set}
+use Rattle.std.proofs.Common.{length, refl, arith, length-set}
 use Rattle.tables.proofs.Sweeping.{started-more, started-done}
 use Rattle.tables.proofs.sweep.start.Goals as goal
 

@@ -1,7 +1,8 @@
 -- `tables::sweep::sweep_action` meets its contract. Assumes nothing.
-use Rattle.std.proofs.Common.{◌-◌, sym, ◌∙◌, ⊎_elim, arith}
+use Rattle.std.proofs.Common.{sym, ◌∙◌, arith}
 use Rattle.tables.proofs.Sweeping.{row_start, row_hit, row_miss, row_end}
 use Rattle.tables.proofs.sweep.sweep_action.Goals as goal
+use Rattle.tables.proofs.sweep.sweep_action.Goals.{then-try_action, else-try_action}
 
 pub loop-i-init : goal.loop-i-init
 loop-i-init c = row_start _ _ _
@@ -14,7 +15,7 @@ try_action-requires c = let p = c.requires in (omega (arith, p.0.actions_few, p.
 
 pub loop-i-preserved : goal.loop-i-preserved
 loop-i-preserved c = let v = c.loop-i.invariant in let l = c.loop-i-test.true in let e = c.try_action.ensures in let p = c.requires in
-    ⊎_elim (λ w. rw w.1 (row_hit v l p.1 e.1 (sym e.0 ∙ w.0.taken))) (λ w. rw w.1 (row_miss v l e.1 (sym e.0 ∙ w.0.left))) c.if-try_action.branch
+    elim c.if-try_action.branch [ then-try_action w ↦ rw w.changed-is (row_hit v l p.1 e.left (sym e.told ∙ w.if-try_action.true)) | else-try_action w ↦ rw w.changed-is (row_miss v l e.left (sym e.told ∙ w.if-try_action.false)) ]
 
 pub returns : goal.returns
 returns c = row_end c.loop-i.invariant c.loop-i-test.false
