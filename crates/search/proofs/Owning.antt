@@ -127,19 +127,19 @@ one_alone (x ∷ []) i j n (inr a) u = absurd a
 one_alone (x ∷ (y ∷ l)) i j n s u = absurd (omega arith)
 
 module _ (r : List ℕ) (sound : Sound r) where
-  outcome_long : (m k : ℕ) → m < action_count r → k < record-numbers.outcomeCount r m → length (cells_at r (at_outcome m k)) ≡ 16
+  outcome_long : (m k : ℕ) → m < action_count r → k < record-numbers.outcome_count r m → length (cells_at r (at_outcome m k)) ≡ 16
   outcome_long m k l b = let n = sound_length r sound in let a = actions_right r sound in let o = outcomes_right r sound m l in length_of_part r 16 (at_outcome m k) (omega arith)
 
-  outcome_is : (m k : ℕ) → m < action_count r → k < record-numbers.outcomeCount r m → get_or (action_at (task_of r) m).outcomes k [] ≡ cells_at r (at_outcome m k)
+  outcome_is : (m k : ℕ) → m < action_count r → k < record-numbers.outcome_count r m → get_or (action_at (task_of r) m).outcomes k [] ≡ cells_at r (at_outcome m k)
   unfolding action_of
-  outcome_is m k l b = rw (action_at_lem r m l) (get_or_tabulate (λ j. cells_at r (at_outcome m j)) 0 (record-numbers.outcomeCount r m) k [] b ∙ ap (λ j. cells_at r (at_outcome m j)) (zero-add k))
+  outcome_is m k l b = rw (action_at_lem r m l) (get_or_tabulate (λ j. cells_at r (at_outcome m j)) 0 (record-numbers.outcome_count r m) k [] b ∙ ap (λ j. cells_at r (at_outcome m j)) (zero-add k))
 
-  outcomes_number : (m : ℕ) → m < action_count r → length (action_at (task_of r) m).outcomes ≡ record-numbers.outcomeCount r m
+  outcomes_number : (m : ℕ) → m < action_count r → length (action_at (task_of r) m).outcomes ≡ record-numbers.outcome_count r m
   unfolding action_of
-  outcomes_number m l = rw (action_at_lem r m l) (length-tabulate (λ j. cells_at r (at_outcome m j)) 0 (record-numbers.outcomeCount r m))
+  outcomes_number m l = rw (action_at_lem r m l) (length-tabulate (λ j. cells_at r (at_outcome m j)) 0 (record-numbers.outcome_count r m))
 
   module _ (m : ℕ) (l : m < action_count r) where
-    module _ (k : ℕ) (b : k < record-numbers.outcomeCount r m) where
+    module _ (k : ℕ) (b : k < record-numbers.outcome_count r m) where
       kept_word : keep_mask (compiled (task_of r)) m k ≡ pack_by leaving (cells_at r (at_outcome m k))
       kept_word = let o = outcomes_right r sound m l in let n = outcomes_number m l in
           keep_mask_is (task_of r) (sound_packable r sound).actions_few m (rw (actions_length r) l) (omega arith) k (omega arith) ∙ ap (pack_by leaving) (outcome_is m k l b)
@@ -152,11 +152,11 @@ module _ (r : List ℕ) (sound : Sound r) where
     unfolding touches affects_pattern
     touches_is p n = rw (outcome_count_is (task_of r) (sound_packable r sound).actions_few m (rw (actions_length r) l))
         (any_some (affects p) (λ o. not (eqb (bit_and (keep_mask (compiled (task_of r)) m o) (pack_by picking p)) (pack_by picking p))) (action_at (task_of r) m).outcomes [] 0
-        (λ k b. let c : k < record-numbers.outcomeCount r m = rw (outcomes_number m l) at b in let w = outcome_long m k l c in
+        (λ k b. let c : k < record-numbers.outcome_count r m = rw (outcomes_number m l) at b in let w = outcome_long m k l c in
         rw (zero-add k, kept_word k c, outcome_is m k l c, kept_is p (cells_at r (at_outcome m k)) (omega arith)) (not_not _)))
 
     -- What does not affect a pattern leaves every word's index in it.
-    word_unmoved : (p : List ℕ) (k s : ℕ) → k < record-numbers.outcomeCount r m → affects_pattern (action_at (task_of r) m) p ≡ false →
+    word_unmoved : (p : List ℕ) (k s : ℕ) → k < record-numbers.outcome_count r m → affects_pattern (action_at (task_of r) m) p ≡ false →
         weigh (weights_from 1 (task_of r).sizes p) (bit_or (bit_and s (keep_mask (compiled (task_of r)) m k)) (set_value (compiled (task_of r)) m k)) ≡
         weigh (weights_from 1 (task_of r).sizes p) s
     unfolding affects_pattern

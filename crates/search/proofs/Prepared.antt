@@ -88,7 +88,7 @@ within_own r e = ap (λ b. answer_within b r) e
 pub ready_when : (r : List ℕ) (lent : ℕ) → Sound r → Additive (task_of r) (patterns_of r) → Small (task_of r) (patterns_of r) →
     entries_needed (task_of r).sizes (patterns_of r) ≤ lent →
     estimate_check r lent ≡ of-estimate.Ready
-unfolding estimate_check of-checks.afterRecord Sound Small after_verdict additivity_of
+unfolding estimate_check of-checks.after_record Sound Small after_verdict additivity_of
 ready_when r lent sound add small room = rw sound
     (verdict_decides r lent (small_fits (task_of r).sizes (patterns_of r) lent small room)
     (ap additivity_of ((verdict-additive (task_of r) (patterns_of r)).1 add)))

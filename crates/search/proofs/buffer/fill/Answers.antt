@@ -1,5 +1,4 @@
 -- `search::buffer::fill` meets its contract. The loop's invariant: below `from` as it was, from there to `i` the byte x. Assumes nothing.
-use Rattle.std.proofs.Common.{◌-◌}
 use Rattle.search.proofs.Bytes.{filling_begins, filling_goes_on, filling_ends}
 use Rattle.search.proofs.buffer.fill.Goals as goal
 

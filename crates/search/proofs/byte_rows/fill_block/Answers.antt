@@ -1,5 +1,5 @@
 -- `search::byte_rows::fill_block` meets its contract. The loop's invariant: rows below h are written. Assumes nothing.
-use Rattle.std.proofs.Common.{◌-◌, sym, ◌∙◌, arith}
+use Rattle.std.proofs.Common.{sym, ◌∙◌, arith}
 use Rattle.search.proofs.PlacesFilled.{blocking_starts, blocking_goes_on, blocking_ends}
 use Rattle.search.proofs.byte_rows.fill_block.Goals as goal
 
@@ -10,7 +10,7 @@ pub fill_sums-requires : goal.fill_sums-requires
 fill_sums-requires c = (c.loop-h.invariant.1.long, omega (arith, c.requires.1))
 
 pub loop-h-preserved : goal.loop-h-preserved
-loop-h-preserved c = (omega arith, blocking_goes_on c.loop-h.invariant.1 c.loop-h-test.true c.fill_sums.ensures c.fill_sums.auto.0)
+loop-h-preserved c = (omega arith, blocking_goes_on c.loop-h.invariant.1 c.loop-h-test.true c.fill_sums.ensures c.fill_sums.auto.places)
 
 pub shape_of-places : goal.shape_of-places
 shape_of-places c = c.loop-h.invariant.1.long ∙ sym c.requires.0

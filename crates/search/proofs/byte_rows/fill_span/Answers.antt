@@ -1,6 +1,5 @@
 -- `search::byte_rows::fill_span` meets its contract. The loop's invariant: blocks below j are written. Assumes nothing.
-use Rattle.std.proofs.Common.{◌-◌, sym, ◌∙◌, arith}
-use borrow.Author.Tests.{not-false}
+use Rattle.std.proofs.Common.{sym, ◌∙◌, arith}
 use Rattle.search.proofs.PlacesFilled.{spanning_starts, spanning_goes_on, spanning_fails, spanning_ends}
 use Rattle.search.proofs.byte_rows.fill_span.Goals as goal
 
@@ -17,7 +16,7 @@ pub fill_block-requires : goal.fill_block-requires
 fill_block-requires c = let q = c.requires in (c.loop-j.invariant.1.long, omega (arith, q.4))
 
 pub loop-j-preserved : goal.loop-j-preserved
-loop-j-preserved c = (omega arith, spanning_goes_on c.loop-j.invariant.1 c.requires.5 c.loop-j-test.true c.fill_block.ensures c.fill_block.auto.0 c.values_of-low.ensures c.values_of-high.ensures (c.is_entry.ensures (not-false c.is_entry.result c.if-not-is_entry.false-raw)))
+loop-j-preserved c = (omega arith, spanning_goes_on c.loop-j.invariant.1 c.requires.5 c.loop-j-test.true c.fill_block.ensures c.fill_block.auto.places c.values_of-low.ensures c.values_of-high.ensures (c.is_entry.ensures c.if-not-is_entry.false))
 
 pub shape_of-places : goal.shape_of-places
 shape_of-places c = c.loop-j.invariant.1.long ∙ sym c.requires.0

@@ -1,5 +1,5 @@
 -- `search::byte_rows::first_used` meets its contract. The loop's invariant: no variable below v adds anything. Assumes nothing.
-use Rattle.std.proofs.Common.{◌-◌, arith}
+use Rattle.std.proofs.Common.{arith}
 use Rattle.search.proofs.PlacesFilled.{unused_next}
 use Rattle.search.proofs.byte_rows.first_used.Goals as goal
 

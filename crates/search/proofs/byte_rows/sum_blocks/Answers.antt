@@ -1,5 +1,5 @@
 -- `search::byte_rows::sum_blocks` meets its contract. The loop's invariant: the sum so far and what is left make the whole. Assumes nothing.
-use Rattle.std.proofs.Common.{◌-◌, arith}
+use Rattle.std.proofs.Common.{arith}
 use Rattle.search.proofs.ByteSums.{blocks_start, blocks_add, blocks_whole}
 use Rattle.search.proofs.byte_rows.sum_blocks.Goals as goal
 

@@ -1,5 +1,5 @@
 -- `search::byte_rows::values_of` meets its contract. The loop's invariant: values below x are taken. Assumes nothing.
-use Rattle.std.proofs.Common.{◌-◌, refl, arith, length-set}
+use Rattle.std.proofs.Common.{refl, arith, length-set}
 use Rattle.search.specs.ByteRows.{digit_adds}
 use Rattle.search.proofs.PlacesFilled.{taking_starts, taking_goes_on}
 use Rattle.search.proofs.byte_rows.values_of.Goals as goal

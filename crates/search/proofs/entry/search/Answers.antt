@@ -7,13 +7,21 @@ use Rattle.search.proofs.Prepared.{search-refused, plan_refused, search_ready, p
 use Rattle.search.proofs.entry.search.Goals as goal
 
 pub search_built-requires : goal.search_built-requires
-search_built-requires c = let a = c.args in let e = c.prepare.ensures in prepared a.rec.now a.tables.now (sym e.0.0 ∙ c.enum_told.given.1) (replicate 1282 0) (replicate 2048 0) 0 e.0.1 e.0.2 e.1.0 e.1.1.0 c.budget.ensures
+search_built-requires c = let a = c.args in let e = c.prepare.ensures in prepared a.rec.now a.tables.now (sym e.value.0 ∙ c.in-Ready.is) (replicate 1282 0) (replicate 2048 0) 0 e.value.1 e.value.2 e.sets e.start c.budget.ensures
 
 pub returns-in-Refused : goal.returns-in-Refused
-returns-in-Refused c = let both = let a = c.args in let e = c.prepare.ensures.value in let h = sym e.0 ∙ c.in-Refused.is in let q = sym (search-refused a.rec.now (length a.tables.now) h (length a.plan.now)) in
-    (q, (e.1, (sym (plan_refused a.rec.now (length a.tables.now) h a.plan.now), search-told a.rec.now (length a.tables.now) (length a.plan.now) _ q))) in record { answer = both.0; tables = both.1; plan = both.2; numbers = both.3 }
+returns-in-Refused c = let a = c.args in let e = c.prepare.ensures.value in let h = sym e.0 ∙ c.in-Refused.is in let q = sym (search-refused a.rec.now (length a.tables.now) h (length a.plan.now)) in record {
+  answer = q;
+  tables = e.1;
+  plan = sym (plan_refused a.rec.now (length a.tables.now) h a.plan.now);
+  numbers = search-told a.rec.now (length a.tables.now) (length a.plan.now) _ q;
+}
 
 pub returns-in-Ready : goal.returns-in-Ready
-returns-in-Ready c = let both = let a = c.args in let r = a.rec.now in let e = c.prepare.ensures.0 in let h = sym e.0 ∙ c.enum_told.given.1 in let w = within_own r c.budget.ensures in
-    let q = c.search_built.ensures.answer ∙ ap (search_of (length a.plan.now)) w ∙ sym (search_ready r (length a.tables.now) h (length a.plan.now)) in
-    (q, (e.1, (c.search_built.ensures.buffer ∙ ap (buffer_of (length a.plan.now)) w ∙ sym (plan_ready r (length a.tables.now) h a.plan.now), search-told r (length a.tables.now) (length a.plan.now) _ q))) in record { answer = both.0; tables = both.1; plan = both.2; numbers = both.3 }
+returns-in-Ready c = let a = c.args in let r = a.rec.now in let e = c.prepare.ensures.value in let h = sym e.0 ∙ c.in-Ready.is in let w = within_own r c.budget.ensures in
+    let q = c.search_built.ensures.answer ∙ ap (search_of (length a.plan.now)) w ∙ sym (search_ready r (length a.tables.now) h (length a.plan.now)) in record {
+      answer = q;
+      tables = e.1;
+      plan = c.search_built.ensures.buffer ∙ ap (buffer_of (length a.plan.now)) w ∙ sym (plan_ready r (length a.tables.now) h a.plan.now);
+      numbers = search-told r (length a.tables.now) (length a.plan.now) _ q;
+    }

@@ -27,14 +27,16 @@ run_rounds-requires c = let p = c.requires in let r = c.args.rec.now in let z = 
     ready = rw (p.words, z.actions, z.patterns, z.variables, z.spends) (sound_ready r p.sound _ p.budgeted);
     applying = rw (z.actions, z.variables) p.applying;
     placed = rw (c.patterns_in-patterns.ensures, c.variables_in-variables.ensures) at c.fill_places.ensures;
-    owned = c.fill_guide.ensures.kept.1 _ _ c.fill_rows.ensures;
+    owned = c.fill_guide.ensures.owned _ _ c.fill_rows.ensures;
   },
   omega (arith, limit_right r p.sound, z.limit),
 )
 
 pub returns : goal.returns
-returns c = let both = let p = c.requires in let a = c.args in let r = a.rec.now in let z = c.fill_guide.ensures.sized in let b = patterns_right r p.sound in let n = patterns_length r in
-    let f = rows_same _ _ _ _ _ (omega (arith, b, n)) c.fill_guide.ensures.kept.0 c.fill_rows.ensures in
+returns c = let p = c.requires in let a = c.args in let r = a.rec.now in let z = c.fill_guide.ensures.sized in let b = patterns_right r p.sound in let n = patterns_length r in
+    let f = rows_same _ _ _ _ _ (omega (arith, b, n)) c.fill_guide.ensures.kept c.fill_rows.ensures in
     let e = searched r p.sound p.small _ _ a.tables.now f p.holds p.words z.actions z.patterns z.variables z.spends z.limit p.started in
-    let w = c.run_rounds.ensures in
-    (c.widen.ensures ∙ ap widened (w.answer ∙ ap (answer_of (length a.plan.now)) e) ∙ sym (search_of_lem (length a.plan.now) (answer_within a.budget r)), w.buffer ∙ ap (buffer_of (length a.plan.now)) e) in record { answer = both.0; buffer = both.1 }
+    let w = c.run_rounds.ensures in record {
+      answer = c.widen.ensures ∙ ap widened (w.answer ∙ ap (answer_of (length a.plan.now)) e) ∙ sym (search_of_lem (length a.plan.now) (answer_within a.budget r));
+      buffer = w.buffer ∙ ap (buffer_of (length a.plan.now)) e;
+    }

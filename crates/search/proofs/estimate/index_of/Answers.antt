@@ -1,5 +1,5 @@
 -- `search::estimate::index_of` meets its contract. The loop's invariant: the sum so far and what is left make the whole index. Assumes nothing.
-use Rattle.std.proofs.Common.{◌-◌, sym, zero-add, arith}
+use Rattle.std.proofs.Common.{sym, zero-add, arith}
 use native.Mathlib.Nat.{sub-zero}
 use Rattle.search.proofs.RowSums.{index_adds, index_whole}
 use Rattle.search.proofs.estimate.index_of.Goals as goal

@@ -8,13 +8,11 @@ pub put_owners-requires : goal.put_owners-requires
 put_owners-requires c = c.requires.0
 
 pub put_sizes-requires : goal.put_sizes-requires
-put_sizes-requires c = c.put_owners.auto.1.0 ∙ c.requires.0
+put_sizes-requires c = c.put_owners.auto.guide ∙ c.requires.0
 
 pub returns : goal.returns
-returns c = let both = let p = c.requires in let z = c.put_sizes.ensures.sized in let q = c.put_owners.ensures in let n = actions_right _ p.1 in (
-  z,
-  (
-    λ i h. c.put_sizes.ensures.kept.before i h ∙ q.kept i (omega (arith, h)),
-    λ rows offsets f. rw (z.actions, z.patterns, z.variables) (owned_same _ _ _ _ _ _ _ n (λ m h. c.put_sizes.ensures.kept.after m ∙ q.owner m h) (c.fill_owners.ensures rows offsets f)),
-  ),
-) in record { sized = both.0; kept = both.1; owned = both.2 }
+returns c = let p = c.requires in let z = c.put_sizes.ensures.sized in let q = c.put_owners.ensures in let n = actions_right _ p.1 in record {
+  sized = z;
+  kept = λ i h. c.put_sizes.ensures.kept.before i h ∙ q.kept i (omega (arith, h));
+  owned = λ rows offsets f. rw (z.actions, z.patterns, z.variables) (owned_same _ _ _ _ _ _ _ n (λ m h. c.put_sizes.ensures.kept.after m ∙ q.owner m h) (c.fill_owners.ensures rows offsets f));
+}

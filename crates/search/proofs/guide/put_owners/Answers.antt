@@ -1,5 +1,5 @@
 -- `search::guide::put_owners` meets its contract. The loop's invariant: the owners below m were written. Assumes nothing.
-use Rattle.std.proofs.Common.{◌-◌, arith}
+use Rattle.std.proofs.Common.{arith}
 use Rattle.search.proofs.Guiding.{owners_begin, owners_go_on, owners_end}
 use Rattle.search.proofs.guide.put_owners.Goals as goal
 

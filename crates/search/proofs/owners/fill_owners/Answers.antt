@@ -1,5 +1,5 @@
 -- `search::owners::fill_owners` meets its contract. The loop's invariant: every affected pattern below p is the owner. Assumes nothing.
-use Rattle.std.proofs.Common.{◌-◌, ◌<◌, ◌∙◌, arith, rules}
+use Rattle.std.proofs.Common.{◌<◌, ◌∙◌, arith, rules}
 use Rattle.task_record.specs.Numbers.{pattern_count}
 use Rattle.task_record.proofs.SoundTask.{actions_right}
 use Rattle.tables.proofs.SoundPacked.{compiled_outcomes_few}
@@ -16,7 +16,7 @@ mark-requires c = let s = c.requires.1 in let r = c.args.rec.now in let n = acti
 pub loop-p-preserved : goal.loop-p-preserved
 loop-p-preserved c = let r = c.args.rec.now in let l = c.loop-p in let a = c.wide-actions.ensures.0 ∙ c.action_count.ensures in
     let t : l.p < pattern_count r = rw c.pattern_count-p-end.ensures at c.loop-p-test.true in
-    (λ sound. owning_goes_on r sound c.requires.2 _ _ l.p t c.mark.auto.1.0 (l.invariant.0 sound) (rw (a, c.requires.3, c.mask_of.ensures) at c.mark.ensures), c.mark.auto.1.0 ∙ l.invariant.1, omega arith)
+    (λ sound. owning_goes_on r sound c.requires.2 _ _ l.p t c.mark.auto.owners (l.invariant.0 sound) (rw (a, c.requires.3, c.mask_of.ensures) at c.mark.ensures), c.mark.auto.owners ∙ l.invariant.1, omega arith)
 
 pub shape_of-owners : goal.shape_of-owners
 shape_of-owners c = c.loop-p.invariant.1

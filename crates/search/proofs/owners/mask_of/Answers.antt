@@ -6,7 +6,7 @@ use Rattle.tables.proofs.CompiledRecord.{part_few}
 use Rattle.search.proofs.owners.mask_of.Goals as goal
 
 pub mask_in-requires : goal.mask_in-requires
-mask_in-requires c = let a = c.args in rw c.pattern_Cells.ensures (part_few (drop (at_pattern a.p) a.rec.now))
+mask_in-requires c = let a = c.args in rw c.pattern_cells.ensures (part_few (drop (at_pattern a.p) a.rec.now))
 
 pub returns : goal.returns
-returns c = c.mask_in.ensures ∙ ap (pack_by picking) c.pattern_Cells.ensures
+returns c = c.mask_in.ensures ∙ ap (pack_by picking) c.pattern_cells.ensures

@@ -1,5 +1,5 @@
 -- `search::owners::names_under` meets its contract. The loop's invariant: the outcomes left decide. Assumes nothing.
-use Rattle.std.proofs.Common.{◌-◌, sym, ◌∙◌, arith}
+use Rattle.std.proofs.Common.{sym, ◌∙◌, arith}
 use Rattle.search.specs.Owned.{touches}
 use native.Mathlib.Nat.{sub-zero}
 use Rattle.tables.specs.Packed.{outcome_count}

@@ -12,4 +12,4 @@ write_found-requires c = let p = c.requires in let e = c.visit_of-w.ensures in l
 
 pub returns : goal.returns
 returns c = let e = c.visit_of-w.ensures in
-    λ x f. fits _ _ _ c.write_found.auto.1.1.1.1.1.1.1.0 x _ _ _ _ _ _ _ _ f c.if-plan-bytes.false (c.write_found.ensures f.plan f.made (rw (e.0, e.2) f.again)) c.fill-2.ensures
+    λ x f. fits _ _ _ c.write_found.auto.plan x _ _ _ _ _ _ _ _ f c.if-plan-bytes.false (c.write_found.ensures f.plan f.made (rw (e.0, e.2) f.again)) c.fill-2.ensures

@@ -1,5 +1,5 @@
 -- `search::rows::fill_pattern` meets its contract. The loop's invariant: variables below v have their rows. Assumes nothing.
-use Rattle.std.proofs.Common.{◌-◌, ◌<◌, sym, ◌∙◌, arith}
+use Rattle.std.proofs.Common.{◌<◌, sym, ◌∙◌, arith}
 use Rattle.task_record.specs.Layout.{at_pattern}
 use Rattle.task_record.specs.Numbers.{variable_count}
 use Rattle.task_record.specs.TaskOf.{cells_at, task_of}
@@ -13,7 +13,7 @@ loop-v-init c = let r = c.args.rec.now in (pattern_begins (task_of r).sizes (cel
 
 pub bounds-cells-wide : goal.bounds-cells-wide
 bounds-cells-wide c = let r = c.args.rec.now in let w = pattern_whole r c.requires.1 c.args.p c.requires.2 in let n = variables_few r c.requires.1 in
-    rw c.pattern_Cells.ensures (omega (arith, c.variable_count-v-end.ensures, c.loop-v-test.true, c.wide.ensures.0))
+    rw c.pattern_cells-cells.ensures (omega (arith, c.variable_count-v-end.ensures, c.loop-v-test.true, c.wide.ensures.0))
 
 pub fill_values-requires : goal.fill_values-requires
 fill_values-requires c = let r = c.args.rec.now in let l = c.loop-v in let n = variables_few r c.requires.1 in let k = patterns_right r c.requires.1 in
@@ -30,10 +30,10 @@ loop-v-smaller c = rw (← c.variable_count-v-end.ensures) (omega arith)
 pub loop-v-preserved : goal.loop-v-preserved
 loop-v-preserved c = let r = c.args.rec.now in let l = c.loop-v in
     let t : l.v < variable_count r = rw c.variable_count-v-end.ensures at c.loop-v-test.true in let k = patterns_right r c.requires.1 in (
-      rw (c.weight_after-weight.ensures, c.type_size.ensures, ← (size_read r c.requires.1 l.v t), c.wide.ensures.0, c.pattern_Cells.ensures)
+      rw (c.weight_after-weight.ensures, c.size_of.ensures, ← (size_read r c.requires.1 l.v t), c.wide.ensures.0, c.pattern_cells-cells.ensures)
           (pattern_goes_on (task_of r).sizes (cells_at r (at_pattern c.args.p)) (sizes_within r c.requires.1 c.args.p c.requires.2) l.invariant.0 (omega (arith, sizes_number r c.requires.1))
-          (rw (c.wide-in-loop-v.ensures.0, c.wide-in-loop-v-2.ensures.0, c.weight_in.ensures.0, c.wide.ensures.0, c.pattern_Cells.ensures) at c.fill_values.ensures) (omega (arith, c.requires.2))),
-      c.fill_values.auto.0 ∙ l.invariant.1,
+          (rw (c.wide-in-loop-v.ensures.0, c.wide-in-loop-v-2.ensures.0, c.weight_in.ensures.0, c.wide.ensures.0, c.pattern_cells-cells.ensures) at c.fill_values.ensures) (omega (arith, c.requires.2))),
+      c.fill_values.auto.rows ∙ l.invariant.1,
     )
 
 pub shape_of-rows : goal.shape_of-rows

@@ -1,5 +1,5 @@
 -- `search::rows::fill_rows` meets its contract. The loop's invariant: patterns below p have their rows and offsets. Assumes nothing.
-use Rattle.std.proofs.Common.{◌-◌, ◌<◌, sym, ◌∙◌, arith}
+use Rattle.std.proofs.Common.{◌<◌, sym, ◌∙◌, arith}
 use Rattle.task_record.specs.Numbers.{pattern_count}
 use Rattle.task_record.specs.TaskOf.{task_of, patterns_of}
 use Rattle.task_record.proofs.SoundTask.{patterns_right}
@@ -34,7 +34,7 @@ loop-p-preserved c = let r = c.args.rec.now in let l = c.loop-p in let t : l.p <
     let k = patterns_right r c.requires.2 in let h = pattern_small r c.requires.2 c.requires.3 l.p t in (
       rw c.wide.ensures.0 (rows-go_on (task_of r).sizes (patterns_of r) l.invariant.0 (rw (patterns_length r) t) (omega arith)
           (rw (pattern_at r l.p t) c.fill_pattern-begin.ensures) (rw (pattern_at r l.p t) h)),
-      c.fill_pattern-begin.auto.1.0 ∙ l.invariant.1,
+      c.fill_pattern-begin.auto.rows ∙ l.invariant.1,
     )
 
 pub shape_of-rows : goal.shape_of-rows

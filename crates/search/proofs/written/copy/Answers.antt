@@ -1,5 +1,5 @@
 -- `search::written::copy` meets its contract. The loop's invariant: as many bytes as passed are copied. Assumes nothing.
-use Rattle.std.proofs.Common.{◌-◌, refl, arith, rules}
+use Rattle.std.proofs.Common.{refl, arith, rules}
 use Rattle.search.proofs.Standing.{copying_begins, copying_goes_on, copied_all}
 use Rattle.search.proofs.written.copy.Goals as goal
 
