@@ -63,7 +63,7 @@ module _ (r : List ℕ) (lent : ℕ) (ready : estimate_check r lent ≡ of-estim
   ready_additive = (verdict-additive (task_of r) (patterns_of r)).0 (ready_means r lent ready_judged).1
 
   start_checked : state_check r (cells_at r at_start) ≡ of-state.Good
-  unfolding state_check of-states.afterRecord Sound
+  unfolding state_check of-states.after_record Sound
   start_checked = rw (ready_sound) (good_passes r (cells_at r at_start) (start_good r ready_sound))
 
   start_values : values_of r (cells_at r at_start) ≡ start_of r
