@@ -94,7 +94,7 @@ module _ (x : Space) (n : ℕ) (marks : List ℕ) (acting : (m : ℕ) → m < x.
 
 -- When nothing waits, the entries are settled.
 pub kept_settled : (x : Space) (first t marks : List ℕ) → ((j : ℕ) → Waits marks j → ⊥) → Kept x first t marks → Settled x first t
-kept_settled x first t marks quiet k = record { steps = k.steps; stable = record { low = λ m i l b q p. from m i (k.heard m i (record { known = l; moves = q; enabled = p }) b) } }
+kept_settled x begun t marks quiet k = record { steps = k.steps; stable = record { low = λ m i l b q p. from m i (k.heard m i (record { known = l; moves = q; enabled = p }) b) } }
   where
     from : (m i : ℕ) → Heard x t marks m i → get_or t i 0 ≤ offer_at x t m i
     from m i (low h) = h

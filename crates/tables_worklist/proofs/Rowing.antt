@@ -191,7 +191,7 @@ rows_to_next {states} {ts} {old} {u} {new} {k} {low} {high} {lower} {upper} {c} 
 
 -- The meet of the two sets of a row misses no edge.
 both_true : (a b : Bool) → (a && b) ≡ false → a ≡ true → b ≡ true → ⊥
-both_true a b e f g = let z : true ≡ false = sym (rw (f, g)) ∙ e in Rattle.tables_worklist.proofs.Stepping.false-true (sym z)
+both_true a b e f g = let z : true ≡ false = sym (rw (f, g)) ∙ e in Rattle.tables_worklist.proofs.Stepping.false_true (sym z)
 
 row_of : {states ts sets : List ℕ} {n k low high lower upper c base : ℕ} → Tests ts k → Parted states n lower low high → n ≡ upper * lower → EdgeRow states ts sets low high lower upper (64 * c) (min 64 (k - 64 * c)) base →
     (j : ℕ) → j < n → 64 * c < k → Row ts (get_or states j 0) k c (bit_and (get_or sets (base + j % lower) 0) (get_or sets (base + lower + j / lower) 0))
@@ -236,7 +236,7 @@ row_tested ts word k c count r e l h = record {
   inside = omega arith;
   whole = λ q d g. omega arith;
   is = h;
-  missed = λ q d f g. Rattle.tables_worklist.proofs.Stepping.false-true (sym f ∙ eq-eqb (bit_and word (edge_mask ts (64 * c + q))) (edge_value ts (64 * c + q)) g);
+  missed = λ q d f g. Rattle.tables_worklist.proofs.Stepping.false_true (sym f ∙ eq-eqb (bit_and word (edge_mask ts (64 * c + q))) (edge_value ts (64 * c + q)) g);
 }
 
 -- The upper part of an index, and where its sets are.

@@ -47,8 +47,8 @@ module _ (r : List ℕ) (sound : Sound r) where
   unfolding action_of
   action_packable m l = record {
     precondition_fits = assigned_fits (cells_at r (at_precondition m)) (precondition_assigns r sound m l);
-    outcomes_few = rw (length-tabulate (λ k. cells_at r (at_outcome m k)) 0 (rec.outcomeCount r m)) (outcomes_right r sound m l).1;
-    outcomes_fit = all_tabulate (PackableOutcome (task_of r).sizes) (λ k. cells_at r (at_outcome m k)) 0 (rec.outcomeCount r m)
+    outcomes_few = rw (length-tabulate (λ k. cells_at r (at_outcome m k)) 0 (rec.outcome_count r m)) (outcomes_right r sound m l).1;
+    outcomes_fit = all_tabulate (PackableOutcome (task_of r).sizes) (λ k. cells_at r (at_outcome m k)) 0 (rec.outcome_count r m)
         (λ k u. rw (zero-add k) (let a = outcome_assigns r sound m k l u in record {
           cells_fit = assigned_fits (cells_at r (at_outcome m k)) a;
           whole = let w = a.whole in let n = sizes_few r sound in omega arith;
@@ -67,10 +67,10 @@ module _ (r : List ℕ) (sound : Sound r) where
 
   module _ (m : ℕ) (l : m < action_count r) where
     -- What the words of an action say: its number of outcomes, and 1 for its weight.
-    pub compiled_outcomes : outcome_count (compiled (task_of r)) m ≡ rec.outcomeCount r m
+    pub compiled_outcomes : outcome_count (compiled (task_of r)) m ≡ rec.outcome_count r m
     unfolding action_of
     compiled_outcomes = outcome_count_is (task_of r) sound_packable.actions_few m (rw (actions_length r) l)
-        ∙ ap (λ a. length a.outcomes) (action_at_lem r m l) ∙ length-tabulate (λ k. cells_at r (at_outcome m k)) 0 (rec.outcomeCount r m)
+        ∙ ap (λ a. length a.outcomes) (action_at_lem r m l) ∙ length-tabulate (λ k. cells_at r (at_outcome m k)) 0 (rec.outcome_count r m)
 
     pub compiled_outcomes_few : outcome_count (compiled (task_of r)) m ≤ 8
     compiled_outcomes_few = rw compiled_outcomes (outcomes_right r sound m l).1

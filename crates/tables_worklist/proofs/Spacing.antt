@@ -45,7 +45,7 @@ pub length_weights : (w : ℕ) (zs p : List ℕ) → length (weights_from w zs p
 unfolding weights_from
 length_weights w [] p = refl
 length_weights w (z ∷ zs) [] = ap suc (length_weights w zs [])
-length_weights w (z ∷ zs) (b ∷ p) = ap suc (length_weights _ zs p)
+length_weights w (z ∷ zs) (b ∷ p) = ap suc (length_weights (cond (eqb b 1) (w * z) w) zs p)
 
 pub length_state : (zs p : List ℕ) (i : ℕ) → length (state_at zs p i) ≡ length zs
 unfolding state_at

@@ -73,7 +73,7 @@ module _ (r tabs row : List ℕ) (p n : ℕ) (counted : table_spread r p (length
 
   -- "A pattern number not below P names no states, so its counts are all 0."
   pub none_counted : pattern_count r ≤ p → take row_size left ≡ replicate row_size 0
-  none_counted l = counts_left ∙ ap spread (none_named r p l) ∙ law.spread-of-none
+  none_counted l = counts_left ∙ ap spread (none_named r p l) ∙ law.spread_of_none
 
   below-number : ltb p (pattern_count r) ≡ true → p < length (patterns_of r)
   below-number e = rw (patterns_length r) (ltb-true p (pattern_count r) e)
@@ -95,7 +95,7 @@ module _ (r tabs row : List ℕ) (p n : ℕ) (counted : table_spread r p (length
 
   -- "The counts add up to the pattern's number of states", which is what the call answers.
   pub counts_add_up : total (take row_size left) ≡ n
-  counts_add_up = rw counts_left (law.counts-add-up (costs_named r p) costs_bounded ∙ costs_counted)
+  counts_add_up = rw counts_left (law.counts_add_up (costs_named r p) costs_bounded ∙ costs_counted)
 
   -- A number that names a pattern.
   module _ (l : p < pattern_count r) where
@@ -125,15 +125,15 @@ module _ (r tabs row : List ℕ) (p n : ℕ) (counted : table_spread r p (length
     counted_states : (c : ℕ∞) → HowMany (λ i. IsCost abstracted (state_of i) c) 0 n (states_with c (costs_named r p))
     unfolding costs_named table
     counted_states c = let e = costs_counted in rw (← e, lt-ltb p (pattern_count r) l)
-        (law.how-many (λ i. IsCost abstracted (state_of i)) (λ i a b. cost_unique abstracted _ sound (state_of i) (state_at_abstract (task_of r) well_formed_lem pattern i) a b)
+        (law.how_many (λ i. IsCost abstracted (state_of i)) (λ i a b. cost_unique abstracted _ sound (state_of i) (state_at_abstract (task_of r) well_formed_lem pattern i) a b)
         c 0 (table (task_of r) pattern)
         (λ i h. rw (zero-add i) (table_entry (task_of r) pattern (λ a. a.weight) well_formed_lem weights_positive i (rw (table-length (task_of r) pattern (λ a. a.weight)) at h))))
 
     -- "How many abstract states have each value": count v is the number of those whose cost, the limit of Definition 2.9, is v.
     pub count_of_cost : (v : ℕ) → v ≤ most_cost → HowMany (λ i. IsCost abstracted (state_of i) (fin v)) 0 n (get_or left v 0)
-    count_of_cost v h = rw (count_left v (omega arith), law.finite-count (costs_named r p) v h) (counted_states (fin v))
+    count_of_cost v h = rw (count_left v (omega arith), law.finite_count (costs_named r p) v h) (counted_states (fin v))
 
     -- "And how many are infinite": the last count is the number of those from which there is no strong plan.
     pub count_of_infinite : HowMany (λ i. (q : Plan) → Strong abstracted q (state_of i) → ⊥) 0 n (get_or left (suc most_cost) 0)
-    count_of_infinite = rw (count_left (suc most_cost) (omega arith), law.infinite-count (costs_named r p))
-        (law.how-many-iff _ _ (λ i. cost_infinite_iff_no_plan abstracted _ sound (state_of i) (state_at_abstract (task_of r) well_formed_lem pattern i)) 0 n _ (counted_states inf))
+    count_of_infinite = rw (count_left (suc most_cost) (omega arith), law.infinite_count (costs_named r p))
+        (law.how_many_iff _ _ (λ i. cost_infinite_iff_no_plan abstracted _ sound (state_of i) (state_at_abstract (task_of r) well_formed_lem pattern i)) 0 n _ (counted_states inf))

@@ -1,5 +1,5 @@
 -- `tables::applying::enter_all` meets its contract. The loop's invariant: actions below m are entered. Assumes nothing.
-use Rattle.std.proofs.Common.{◌-◌, sym, ◌∙◌, arith}
+use Rattle.std.proofs.Common.{sym, ◌∙◌, arith}
 use Rattle.tables_worklist.specs.Sets.{action_need}
 use Rattle.tables_worklist.proofs.SetsFilled.{slotting_starts, slotting_goes_on, slotted, action_needs}
 use Rattle.tables_worklist.proofs.applying.enter_all.Goals as goal
@@ -11,7 +11,7 @@ pub enter-requires : goal.enter-requires
 enter-requires c = (c.loop-m.invariant.1.long, c.requires.2)
 
 pub loop-m-preserved : goal.loop-m-preserved
-loop-m-preserved c = let l = c.loop-m in (omega arith, slotting_goes_on (action_need c.args.task.now c.args.mask) c.args.digits l.invariant.1 (omega (arith, c.requires.1)) c.enter.auto.0 (action_needs c.args.task.now c.args.mask l.m) c.enter.ensures)
+loop-m-preserved c = let l = c.loop-m in (omega arith, slotting_goes_on (action_need c.args.task.now c.args.mask) c.args.digits l.invariant.1 (omega (arith, c.requires.1)) c.enter.auto.slots (action_needs c.args.task.now c.args.mask l.m) c.enter.ensures)
 
 pub shape_of-slots : goal.shape_of-slots
 shape_of-slots c = c.loop-m.invariant.1.long ∙ sym c.requires.0

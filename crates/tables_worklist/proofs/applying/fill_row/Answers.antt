@@ -1,5 +1,5 @@
 -- `tables::applying::fill_row` meets its contract. The loop's invariant: the row is filled as far as l. Assumes nothing.
-use Rattle.std.proofs.Common.{◌-◌, sym, refl, ◌∙◌, arith}
+use Rattle.std.proofs.Common.{sym, refl, ◌∙◌, arith}
 use Rattle.tables_worklist.specs.Sets.{slot_meet}
 use Rattle.tables_worklist.proofs.SetsFilled.{row_starts, row_goes_on, row_ends}
 use Rattle.tables_worklist.proofs.applying.fill_row.Goals as goal

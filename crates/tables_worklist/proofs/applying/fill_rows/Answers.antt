@@ -1,5 +1,5 @@
 -- `tables::applying::fill_rows` meets its contract. The loop's invariant: rows below q are filled. Assumes nothing.
-use Rattle.std.proofs.Common.{◌-◌, sym, ◌∙◌, arith}
+use Rattle.std.proofs.Common.{sym, ◌∙◌, arith}
 use Rattle.tables_worklist.proofs.SetsFilled.{rows_start, rows-go_on, rows_end}
 use Rattle.tables_worklist.proofs.applying.fill_rows.Goals as goal
 
@@ -10,7 +10,7 @@ pub fill_row-requires : goal.fill_row-requires
 fill_row-requires c = (c.loop-q.invariant.1, omega (arith, c.requires.1))
 
 pub loop-q-preserved : goal.loop-q-preserved
-loop-q-preserved c = let l = c.loop-q in (omega arith, c.fill_row.auto.1.0 ∙ l.invariant.1, rows-go_on l.invariant.2 c.fill_row.ensures)
+loop-q-preserved c = let l = c.loop-q in (omega arith, c.fill_row.auto.sets ∙ l.invariant.1, rows-go_on l.invariant.2 c.fill_row.ensures)
 
 pub shape_of-sets : goal.shape_of-sets
 shape_of-sets c = c.loop-q.invariant.1 ∙ sym c.requires.0

@@ -9,7 +9,7 @@ pub fill_states-requires : goal.fill_states-requires
 fill_states-requires c = let p = c.requires in (p.2, omega (arith, p.5, p.6), p.7)
 
 pub settle-requires : goal.settle-requires
-settle-requires c = let p = c.requires in let w = c.weights-of.ensures in let f = c.fill-states.ensures in let s = c.parts-of.ensures in (
+settle-requires c = let p = c.requires in let w = c.weights_of-weights.ensures in let f = c.fill_states.ensures in let s = c.parts_of-parts.ensures in (
   p.0,
   p.4,
   regular_as (sym p.5) (p.1.regular _ _ w f),
@@ -30,4 +30,4 @@ settle-requires c = let p = c.requires in let w = c.weights-of.ensures in let f 
 
 pub returns : goal.returns
 returns c = let a = c.args in let p = c.requires in
-    parts_settled a.task.now a.actions a.n a.mask a.sizes a.pattern c.weights-of.result _ _ p.3 c.weights-of.ensures c.fill-states.ensures _ (ap (started a.task.now a.mask _) p.5) c.settle.ensures
+    parts_settled a.task.now a.actions a.n a.mask a.sizes a.pattern c.weights_of-weights.result _ _ p.3 c.weights_of-weights.ensures c.fill_states.ensures _ (ap (started a.task.now a.mask _) p.5) c.settle.ensures

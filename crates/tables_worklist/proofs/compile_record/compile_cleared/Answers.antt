@@ -1,5 +1,5 @@
 -- `tables::compile_record::compile_cleared` meets its contract. Assumes nothing.
-use Rattle.std.proofs.Common.{drop}
+use Rattle.std.proofs.Common.{drop, rules}
 use Rattle.task_record.specs.Layout.{at_goal}
 use Rattle.tables_worklist.proofs.CompiledRecord.{part_few, record_compiled}
 use Rattle.tables_worklist.proofs.compile_record.compile_cleared.Goals as goal
@@ -11,6 +11,6 @@ pub named_digits-mask-requires : goal.named_digits-mask-requires
 named_digits-mask-requires c = (rw c.goal_cells-goal.ensures (part_few (drop at_goal c.args.rec.now)), c.words_of-words.ensures.0)
 
 pub returns : goal.returns
-returns c = record_compiled c.args.rec.now c.requires.0 c.args.task.now c.compile_actions.new.1.0 _
-    c.compile_actions-arg-1.given.0.1 c.requires.1 c.compile_actions.ensures
+returns c = record_compiled c.args.rec.now c.requires.0 c.args.task.now c.compile_actions.new.task _
+    (search rules) c.requires.1 c.compile_actions.ensures
     (rw (c.put.ensures, c.named_digits-mask.ensures, c.words_of-words.ensures.1, c.goal_cells-goal.ensures) at c.put-2.ensures)

@@ -1,5 +1,5 @@
 -- `is_twin`: an earlier outcome was found, or none. Assumes nothing.
-use Rattle.std.proofs.Common.{◌-◌, arith, eqb-true}
+use Rattle.std.proofs.Common.{arith}
 use Rattle.tables_worklist.proofs.Stepping.{false_true}
 use Rattle.tables_worklist.proofs.edges.is_twin.Goals as goal
 
@@ -7,7 +7,7 @@ pub loop-p-init : goal.loop-p-init
 loop-p-init c = omega arith
 
 pub returns-then-task-m-2 : goal.returns-then-task-m-2
-returns-then-task-m-2 c = λ z. (c.loop-p.p, c.loop-p-test.true, c.if-task-m.true, eqb-true _ _ c.if-task-m-2.true-raw)
+returns-then-task-m-2 c = λ z. (c.loop-p.p, c.loop-p-test.true, c.if-task-m.true, c.if-task-m-2.true)
 
 pub returns : goal.returns
 returns c = λ z. false_true z

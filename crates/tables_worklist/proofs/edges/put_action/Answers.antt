@@ -1,5 +1,5 @@
 -- `put_action`: an edge for each outcome that needs one. Assumes nothing.
-use Rattle.std.proofs.Common.{◌≡◌, ◌-◌, refl, ◌∙◌, arith}
+use Rattle.std.proofs.Common.{◌≡◌, refl, ◌∙◌, arith}
 use Rattle.tables_worklist.specs.Packed.{outcome_count}
 use Rattle.tables_worklist.proofs.Making.{acting_none, acting_next, acting_end}
 use Rattle.tables_worklist.proofs.edges.put_action.Goals as goal

@@ -1,5 +1,5 @@
 -- `put_span`: the last words of the edges are stored. Assumes nothing.
-use Rattle.std.proofs.Common.{◌≡◌, ◌-◌, refl, arith, rules}
+use Rattle.std.proofs.Common.{◌≡◌, refl, arith, rules}
 use Rattle.tables_worklist.proofs.Making.{spanned_none, spanned_next}
 use Rattle.tables_worklist.proofs.edges.put_span.Goals as goal
 

@@ -1,5 +1,5 @@
 -- `tables::incoming::enter_edges` meets its contract. The loop's invariant: edges below q are entered, and are the set. Assumes nothing.
-use Rattle.std.proofs.Common.{◌-◌, true, sym, refl, ◌∙◌, arith}
+use Rattle.std.proofs.Common.{true, sym, refl, ◌∙◌, arith}
 use Rattle.tables_worklist.specs.Incoming.{edge_need}
 use Rattle.tables_worklist.proofs.Gathering.{gathered_none, gathered_next, gathered_all}
 use Rattle.tables_worklist.proofs.SetsFilled.{slotting_starts, slotting_goes_on, slotted}
@@ -15,7 +15,7 @@ enter-requires c = (c.loop-q.invariant.1.long, omega arith)
 pub loop-q-preserved : goal.loop-q-preserved
 loop-q-preserved c = let l = c.loop-q in (
   omega (arith, c.loop-q-test.true),
-  slotting_goes_on (edge_need c.args.tests.now c.args.first) 16 l.invariant.1 (omega (arith, c.requires.1, c.loop-q-test.true)) c.enter.auto.0 (edge_needs c.args.tests.now c.args.first l.q) c.enter.ensures,
+  slotting_goes_on (edge_need c.args.tests.now c.args.first) 16 l.invariant.1 (omega (arith, c.requires.1, c.loop-q-test.true)) c.enter.auto.slots (edge_needs c.args.tests.now c.args.first l.q) c.enter.ensures,
   gathered_next (λ j. true) l.q l.all l.bit _ (omega (arith, c.requires.1, c.loop-q-test.true)) refl l.invariant.2,
 )
 

@@ -1,5 +1,5 @@
 -- `tables::incoming::fill_sets` meets its contract. The loop's invariant: the rows below c are filled. Assumes nothing.
-use Rattle.std.proofs.Common.{◌+◌, ◌-◌, ◌*◌, ◌≤◌, ap, ◌∙◌, mul-le-mul_right, mul-le-mul, arith}
+use Rattle.std.proofs.Common.{◌+◌, ◌*◌, ◌≤◌, ap, ◌∙◌, mul-le-mul_right, mul-le-mul, arith}
 use Rattle.tables_worklist.proofs.Rowing.{rows_to_start, rows_to_next, incoming_of, incoming_none}
 use Rattle.tables_worklist.proofs.incoming.fill_sets.Goals as goal
 
@@ -42,7 +42,7 @@ pub loop-c-smaller : goal.loop-c-smaller
 loop-c-smaller c = omega (arith, c.requires.0.few, c.loop-c-test.true)
 
 pub loop-c-preserved : goal.loop-c-preserved
-loop-c-preserved c = let p = c.requires in let v = c.loop-c.invariant in rows_to_next (omega (arith, p.0.few, c.loop-c-test.true)) c.at_most_64-count.ensures v c.fill_row.ensures c.fill_row.auto.1.1.1.1.1.1.1.1.1.0
+loop-c-preserved c = let p = c.requires in let v = c.loop-c.invariant in rows_to_next (omega (arith, p.0.few, c.loop-c-test.true)) c.at_most_64-count.ensures v c.fill_row.ensures c.fill_row.auto.sets
 
 pub shape_of-sets : goal.shape_of-sets
 shape_of-sets c = c.loop-c.invariant.long

@@ -1,5 +1,5 @@
 -- `tables::parts::place_of` meets its contract. Assumes nothing.
-use Rattle.std.proofs.Common.{◌≡◌, suc, ◌+◌, ◌-◌, ◌*◌, ◌^◌, ◌≤◌, sym, refl, ap, ◌∙◌, pow-suc, arith}
+use Rattle.std.proofs.Common.{◌≡◌, suc, ◌+◌, ◌*◌, ◌^◌, ◌≤◌, sym, refl, ap, ◌∙◌, pow-suc, arith}
 use native.Mathlib.Nat.{pow-le-pow_right}
 use Rattle.tables_worklist.proofs.parts.place_of.Goals as goal
 

@@ -1,5 +1,5 @@
 -- `tables::ranking::weights_of` meets its contract. Assumes nothing.
-use Rattle.std.proofs.Common.{◌≡◌, ◌-◌, length, refl, arith, rules}
+use Rattle.std.proofs.Common.{◌≡◌, length, refl, arith, rules}
 use Rattle.planning.specs.Table.{state_count}
 use Rattle.tables_worklist.specs.Steps.{weights_from}
 use Rattle.tables_worklist.proofs.Spacing.{weighing_step, weighing_end, weighing_small}

@@ -12,14 +12,14 @@ build_checked-requires c = let a = c.args in
 
 pub returns-in-Refused : goal.returns-in-Refused
 unfolding table_build build_of tables_built where_fits table_numbers table_build_numbers
-returns-in-Refused c = let both = let a = c.args in let h = sym c.check_tables.ensures.value ∙ c.in-Refused.is in (
-  (sym (ap build_of h), sym (ap (λ t. where_fits t (built_over a.rec.now a.tables.now) a.tables.now) h)),
-  sym (ap table_numbers c.in-Refused.is) ∙ c.check_tables.ensures.numbers,
-) in record { value = both.0; numbers = both.1 }
+returns-in-Refused c = let a = c.args in let h = sym c.check_tables.ensures.value ∙ c.in-Refused.is in record {
+  value = (sym (ap build_of h), sym (ap (λ t. where_fits t (built_over a.rec.now a.tables.now) a.tables.now) h));
+  numbers = sym (ap table_numbers c.in-Refused.is) ∙ c.check_tables.ensures.numbers;
+}
 
 pub returns-in-Fits : goal.returns-in-Fits
 unfolding table_build build_of tables_built where_fits table_numbers table_build_numbers
-returns-in-Fits c = let both = let a = c.args in let h = sym c.check_tables.ensures.value ∙ c.in-Fits.is in (
-  (sym (ap build_of h), c.build_checked.ensures ∙ sym (ap (λ t. where_fits t (built_over a.rec.now a.tables.now) a.tables.now) h)),
-  sym (ap table_numbers c.in-Fits.is) ∙ c.check_tables.ensures.numbers,
-) in record { value = both.0; numbers = both.1 }
+returns-in-Fits c = let a = c.args in let h = sym c.check_tables.ensures.value ∙ c.in-Fits.is in record {
+  value = (sym (ap build_of h), c.build_checked.ensures ∙ sym (ap (λ t. where_fits t (built_over a.rec.now a.tables.now) a.tables.now) h));
+  numbers = sym (ap table_numbers c.in-Fits.is) ∙ c.check_tables.ensures.numbers;
+}

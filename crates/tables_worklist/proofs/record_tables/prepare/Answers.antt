@@ -34,27 +34,29 @@ compile_record-requires c = let a = c.args in
 
 pub build_all-requires : goal.build_all-requires
 build_all-requires c = let a = c.args in
-    (ready_buildable a.rec.now (length a.tables.now) (sym c.check-estimate.ensures.0 ∙ c.enum_told.given.1), c.compile-record.ensures)
+    (ready_buildable a.rec.now (length a.tables.now) (sym c.check_estimate.ensures.value ∙ c.in-Ready.is), c.compile_record.ensures)
 
 pub start_word-requires : goal.start_word-requires
 start_word-requires c = let a = c.args in
-    (ready_buildable a.rec.now (length a.tables.now) (sym c.check-estimate.ensures.0 ∙ c.enum_told.given.1)).sound
+    (ready_buildable a.rec.now (length a.tables.now) (sym c.check_estimate.ensures.value ∙ c.in-Ready.is)).sound
 
 pub returns-in-Refused : goal.returns-in-Refused
 unfolding where_ready
-returns-in-Refused c = let both = let a = c.args in let h = sym c.check_estimate.ensures.value ∙ c.in-Refused.is in
+returns-in-Refused c = let a = c.args in let h = sym c.check_estimate.ensures.value ∙ c.in-Refused.is in
     let k = left_by a.rec.now a.tables.now a.task.now a.sets.now a.start.now _ h in
-    ((sym h, k.0, k.1), (k.2, (k.3, sym (ap estimate_numbers c.in-Refused.is) ∙ c.check_estimate.ensures.numbers))) in record { value = both.0; sets = both.1; start = both.2; numbers = both.3 }
+    record { value = (sym h, k.0, k.1); sets = k.2; start = k.3; numbers = sym (ap estimate_numbers c.in-Refused.is) ∙ c.check_estimate.ensures.numbers }
 
 pub returns-in-Ready : goal.returns-in-Ready
 unfolding where_ready
-returns-in-Ready c = let both = let a = c.args in let r = a.rec.now in
-    let h = sym c.check-estimate.ensures.0 ∙ c.enum_told.given.1 in
+returns-in-Ready c = let a = c.args in let r = a.rec.now in
+    let h = sym c.check_estimate.ensures.value ∙ c.in-Ready.is in
     let k = left_by r a.tables.now a.task.now a.sets.now a.start.now _ h in
-    let words = c.compile-record.ensures in
+    let words = c.compile_record.ensures in
     let sets = c.fill_sets.ensures
-    ∙ sets_of r a.sets.now words (c.wide.ensures.0 ∙ c.action-count.ensures)
-    (c.wide2.ensures.0 ∙ c.variable-count.ensures) in (
-      (sym h, c.build-all.ensures ∙ k.0, words ∙ k.1),
-      (sets ∙ k.2, (c.start_word.ensures ∙ k.3, sym (ap estimate_numbers c.enum_told.given.1) ∙ c.check-estimate.ensures.1)),
-    ) in record { value = both.0; sets = both.1; start = both.2; numbers = both.3 }
+    ∙ sets_of r a.sets.now words (c.wide-actions.ensures.0 ∙ c.action_count.ensures)
+    (c.wide.ensures.0 ∙ c.variable_count.ensures) in record {
+      value = (sym h, c.build_all.ensures ∙ k.0, words ∙ k.1);
+      sets = sets ∙ k.2;
+      start = c.start_word.ensures ∙ k.3;
+      numbers = sym (ap estimate_numbers c.in-Ready.is) ∙ c.check_estimate.ensures.numbers;
+    }

@@ -7,27 +7,28 @@ use Rattle.task_record.proofs.Soundness.{sound_length}
 use Rattle.task_record.proofs.SoundTask.{variables_right, length_of_part}
 use Rattle.tables_worklist.specs.Packed.{pack_by, low, digit_by}
 use Rattle.tables_worklist.proofs.record_tables.start_word.Goals as goal
+use Rattle.tables_worklist.proofs.record_tables.start_word.Goals.{After-wide-n, After-start_cells-cells}
 
 -- The number of variables, and that there are as many cells.
 
-variables-known : (c : tie.After-wide) → c.wide.result ≡ variable_count c.before.before.before.args.rec.now
-variables-known c = c.wide.ensures.0 ∙ c.before.variable-count.ensures
+variables-known : (c : After-wide-n) → c.wide-n.result ≡ variable_count c.args.rec.now
+variables-known c = c.wide-n.ensures.0 ∙ c.variable_count.ensures
 
-enough-cells : (c : tie.After-start-cells) → c.before.wide.result ≤ length c.start-cells.result.now
-enough-cells c = let a = c.before.before.before.before in let r = a.args.rec.now in
-    let n = variables_right r a.requires in let l = sound_length r a.requires in let e = variables-known c.before in
-    rw (c.start-cells.ensures, length_of_part r 16 at_start (omega arith)) (omega (arith, n.1, e))
+enough-cells : (c : After-start_cells-cells) → c.wide-n.result ≤ length c.start_cells-cells.result.now
+enough-cells c = let r = c.args.rec.now in
+    let n = variables_right r c.requires in let l = sound_length r c.requires in let e = c.wide-n.ensures.0 ∙ c.variable_count.ensures in
+    rw (c.start_cells-cells.ensures, length_of_part r 16 at_start (omega arith)) (omega (arith, n.1, e))
 
 pub slice_bounds-pack-end : goal.slice_bounds-pack-end
-slice_bounds-pack-end c = sym (length-take-le _ _ (enough-cells c))
+slice_bounds-pack-end c = let w = (goal.at.slice_bounds-pack-end c).After-start_cells-cells in sym (length-take-le _ _ (enough-cells w))
 
 pub pack-requires : goal.pack-requires
-pack-requires c = let n = variables_right c.args.rec.now c.requires in
-    let e = variables-known c in rw (length-take-le _ _ (enough-cells c)) (omega (arith, n.1, e))
+pack-requires c = let v = (goal.at.pack-requires c).After-wide-n in let w = (goal.at.pack-requires c).After-start_cells-cells in let n = variables_right c.args.rec.now c.requires in
+    let e = variables-known v in rw (length-take-le _ _ (enough-cells w)) (omega (arith, n.1, e))
 
 pub returns : goal.returns
 unfolding digit_by start_of
-returns c = let r = c.args.rec.now in let n = variables_right r c.requires in
-    let e : take c.wide.result c.start-cells.result.now ≡ start_of r =
-    rw (variables-known c, c.start-cells.ensures) (take-take (variable_count r) 16 (drop at_start r) n.1) in
+returns c = let v = (goal.at.returns c).After-wide-n in let r = c.args.rec.now in let n = variables_right r c.requires in
+    let e : take c.wide-n.result c.start_cells-cells.result.now ≡ start_of r =
+    rw (variables-known v, c.start_cells-cells.ensures) (take-take (variable_count r) 16 (drop at_start r) n.1) in
     c.pack.ensures ∙ ap (pack_by low) e

@@ -1,5 +1,5 @@
 -- `clear`: the counts passed are 0. Assumes nothing.
-use Rattle.std.proofs.Common.{◌≡◌, ℕ, ◌-◌, length, replicate, sym, refl, ap, ◌∙◌, arith, length-set, take_all}
+use Rattle.std.proofs.Common.{◌≡◌, ℕ, length, replicate, sym, refl, ap, ◌∙◌, arith, length-set, take_all}
 use Rattle.tables_worklist.proofs.Spreading.{clearing_next}
 use Rattle.tables_worklist.proofs.spread.clear.Goals as goal
 

@@ -17,39 +17,40 @@ use Rattle.tables_worklist.proofs.TableChain.{pattern_sized}
 use Rattle.tables_worklist.proofs.Spreading.{needed_next}
 use Rattle.patterns.specs.Space.{entries_needed}
 use Rattle.tables_worklist.proofs.spread.part_of.Goals as goal
+use Rattle.tables_worklist.proofs.spread.part_of.Goals.{After-state_of-pattern}
 
 -- What was read of the record: its sizes, the number of its variables, and the pattern.
 
-module _ (c : tie.After-state-of invariant-loop decreases-loop) where
+module _ (c : After-state_of-pattern) where
   abbrev rec : List ℕ
-  rec = c.before.before.before.before.before.before.before.before.args.rec.now
+  rec = c.args.rec.now
 
   abbrev number : ℕ
-  number = c.before.before.before.loop.q
+  number = c.loop-q.q
 
   abbrev sizes : List ℕ
-  sizes = c.before.before.before.before.before.before.sizes-of.result
+  sizes = c.sizes_of-sizes.result
 
   sound : Sound rec
-  sound = c.before.before.before.before.before.before.before.before.requires.0
+  sound = c.requires.0
 
   below : number < pattern_count rec
-  below = omega (arith, c.before.before.loop-test.true, c.before.before.before.before.before.before.before.before.requires.2)
+  below = omega (arith, c.loop-q-test.true, c.requires.2)
 
   sixteen : Sixteen (size_of rec) sizes
-  sixteen = sixteen_sizes _ _ c.before.before.before.before.before.before.sizes-of.ensures
+  sixteen = sixteen_sizes _ _ c.sizes_of-sizes.ensures
 
-  variables-known : c.before.before.before.before.wide.result ≡ variable_count rec
-  variables-known = c.before.before.before.before.wide.ensures.0 ∙ c.before.before.before.before.before.variable-count.ensures
+  variables-known : c.wide-n.result ≡ variable_count rec
+  variables-known = c.wide-n.ensures.0 ∙ c.variable_count.ensures
 
-  pattern_known : c.state-of.result ≡ cells_at rec (at_pattern number)
-  pattern_known = c.state-of.ensures ∙ ap state_cells c.before.pattern_Cells.ensures ∙ sym (state_cells_whole (cells_at rec (at_pattern number)) (pattern_whole rec sound number below))
+  pattern_known : c.state_of-pattern.result ≡ cells_at rec (at_pattern number)
+  pattern_known = c.state_of-pattern.ensures ∙ ap state_cells c.pattern_cells.ensures ∙ sym (state_cells_whole (cells_at rec (at_pattern number)) (pattern_whole rec sound number below))
 
   few : state_count (task_of rec).sizes (get_or (patterns_of rec) number []) ≤ 4096
   unfolding Small
-  few = all_at (λ x. state_count (task_of rec).sizes x ≤ 4096) (patterns_of rec) [] c.before.before.before.before.before.before.before.before.requires.1 number (rw (patterns_length rec) below)
+  few = all_at (λ x. state_count (task_of rec).sizes x ≤ 4096) (patterns_of rec) [] c.requires.1 number (rw (patterns_length rec) below)
 
-  states-known : state_count (take c.before.before.before.before.wide.result sizes) c.state-of.result ≡ state_count (task_of rec).sizes (get_or (patterns_of rec) number [])
+  states-known : state_count (take c.wide-n.result sizes) c.state_of-pattern.result ≡ state_count (task_of rec).sizes (get_or (patterns_of rec) number [])
   states-known = ap₂ state_count (ap (λ k. take k sizes) variables-known ∙ sizes_taken rec sound sizes sixteen) (pattern_known ∙ sym (pattern_at rec number below))
 
 same-sized : (zs p q : List ℕ) (n m : ℕ) → p ≡ q → n ≡ m → Sized zs q m → Sized zs p n
@@ -63,25 +64,25 @@ unfolding entries_needed
 loop-q-init c = (omega arith, refl, refl, omega arith)
 
 pub state_count-requires : goal.state_count-requires
-state_count-requires c = same-sized _ _ _ _ _ (pattern_known c) (variables-known c)
-    (pattern_sized (rec c) (sound c) (sizes c) (sixteen c) (cells_at (rec c) (at_pattern (number c))) (rw (pattern_at (rec c) (number c) (below c)) at (few c)))
+state_count-requires c = let w = (goal.at.state_count-requires c).After-state_of-pattern in same-sized _ _ _ _ _ (pattern_known w) (variables-known w)
+    (pattern_sized (rec w) (sound w) (sizes w) (sixteen w) (cells_at (rec w) (at_pattern (number w))) (rw (pattern_at (rec w) (number w) (below w)) at (few w)))
 
 pub overflow_add-end : goal.overflow_add-end
-overflow_add-end c = let e = c.state_count.ensures ∙ states-known c in let k = patterns_right (rec c) (sound c) in
-    omega (arith, few c, below c, c.loop-q.invariant.3)
+overflow_add-end c = let w = (goal.at.overflow_add-end c).After-state_of-pattern in let e = c.state_count.ensures ∙ states-known w in let k = patterns_right (rec w) (sound w) in
+    omega (arith, few w, below w, c.loop-q.invariant.3)
 
 pub overflow_step-q : goal.overflow_step-q
-overflow_step-q c = let k = patterns_right (rec c) (sound c) in omega (arith, below c)
+overflow_step-q c = let w = (goal.at.overflow_step-q c).After-state_of-pattern in let k = patterns_right (rec w) (sound w) in omega (arith, below w)
 
 pub loop-q-smaller : goal.loop-q-smaller
 loop-q-smaller c = omega (arith, c.loop-q-test.true)
 
 pub loop-q-preserved : goal.loop-q-preserved
-loop-q-preserved c = let e = c.state_count.ensures ∙ states-known c in let l = c.loop-q in
+loop-q-preserved c = let w = (goal.at.loop-q-preserved c).After-state_of-pattern in let e = c.state_count.ensures ∙ states-known w in let l = c.loop-q in
     let t = c.loop-q-test.true in
-    let n = needed_next (task_of (rec c)).sizes (patterns_of (rec c)) l.q (rw (patterns_length (rec c)) (below c)) in
+    let n = needed_next (task_of (rec w)).sizes (patterns_of (rec w)) l.q (rw (patterns_length (rec w)) (below w)) in
     let k : l.q ≡ (l.q + 1) - 1 = omega arith in
-    (omega arith, l.invariant.2 ∙ ap (λ k. entries_needed (task_of (rec c)).sizes (take k (patterns_of (rec c)))) k, omega (arith, l.invariant.2), omega (arith, few c, l.invariant.3))
+    (omega arith, l.invariant.2 ∙ ap (λ k. entries_needed (task_of (rec w)).sizes (take k (patterns_of (rec w)))) k, omega (arith, l.invariant.2), omega (arith, few w, l.invariant.3))
 
 pub returns : goal.returns
 returns c = let l = c.loop-q in let a = c.args in let t = c.loop-q-test.false in let i = l.invariant.0 in

@@ -17,12 +17,12 @@ build_checked-requires c = let a = c.args in
     fits_buildable a.rec.now (length a.tables.now) _ (sym c.check_tables.ensures.value ∙ c.in-Fits.is)
 
 pub slice_bounds-count_pattern-end-in-Fits : goal.slice_bounds-count_pattern-end-in-Fits
-slice_bounds-count_pattern-end-in-Fits c = sym (length-take-le row_size c.args.row.now c.if1.false)
+slice_bounds-count_pattern-end-in-Fits c = sym (length-take-le row_size c.args.row.now c.if-row-lt-ROW.false)
 
 pub count_pattern-states-requires : goal.count_pattern-states-requires
 count_pattern-states-requires c = let a = c.args in
-    let b = fits_buildable a.rec.now (length a.tables.now) _ (sym c.check-tables.ensures.0 ∙ c.n.given.1) in
-    let k = built_again a.rec.now a.tables.now _ b c.build-checked.ensures in (k.0, k.1, length-take-le row_size a.row.now c.if1.false)
+    let b = fits_buildable a.rec.now (length a.tables.now) _ (sym c.check_tables.ensures.value ∙ c.in-Fits.is) in
+    let k = built_again a.rec.now a.tables.now _ b c.build_checked.ensures in (k.0, k.1, length-take-le row_size a.row.now c.if-row-lt-ROW.false)
 
 pub returns-in-Refused : goal.returns-in-Refused
 unfolding where_counted
@@ -31,6 +31,6 @@ returns-in-Refused c = let both = let a = c.args in let h = sym c.check_tables.e
 
 pub returns-else-row-lt-ROW : goal.returns-else-row-lt-ROW
 unfolding where_counted
-returns-else-row-lt-ROW c = let both = let a = c.args in let h = sym c.check-tables.ensures.0 ∙ c.n.given.1 in let n = c.count_pattern-states.ensures in
-    let e = ap answer.Counted n.0 ∙ counted_states a.rec.now a.pattern a.tables.now a.row.now _ h c.if1.false in let k = told a.rec.now a.pattern a.tables.now a.row.now _ e in
-    ((e, c.build-checked.ensures ∙ k.0.1, ap (λ x. x ++ drop row_size a.row.now) n.1 ∙ k.0.2), k.1) in record { value = both.0; numbers = both.1 }
+returns-else-row-lt-ROW c = let a = c.args in let h = sym c.check_tables.ensures.value ∙ c.in-Fits.is in let n = c.count_pattern-states.ensures in
+    let e = ap answer.Counted n.0 ∙ counted_states a.rec.now a.pattern a.tables.now a.row.now _ h c.if-row-lt-ROW.false in let k = told a.rec.now a.pattern a.tables.now a.row.now _ e in
+    record { value = (e, c.build_checked.ensures ∙ k.0.1, ap (λ x. x ++ drop row_size a.row.now) n.1 ∙ k.0.2); numbers = k.1 }

@@ -1,6 +1,5 @@
 -- `tables::visits::ask` meets its contract. Assumes nothing.
 use Rattle.std.proofs.Common.{sym, refl, ◌∙◌, arith, length-set}
-use borrow.Author.Tests.{not-true, not-false}
 use Rattle.tables_worklist.specs.Steps.{permitted_at}
 use Rattle.tables_worklist.proofs.Asking.{asked_never, asked_miss, asked_hit}
 use Rattle.tables_worklist.proofs.visits.ask.Goals as goal
@@ -19,11 +18,11 @@ permits-requires c = let p = c.requires in omega (arith, p.1.known _ p.2, p.0.ac
 
 pub returns-then-not-permits : goal.returns-then-not-permits
 unfolding permitted_at
-returns-then-not-permits c = let p = c.requires in asked_never p.3 p.6 (sym c.permits.ensures ∙ not-true _ c.if-not-permits.true-raw)
+returns-then-not-permits c = let p = c.requires in asked_never p.3 p.6 (sym c.permits.ensures ∙ c.if-not-permits.true)
 
 pub offer_along-v-requires : goal.offer_along-v-requires
 unfolding permitted_at
-offer_along-v-requires c = let p = c.requires in (p.1, p.2, p.3, p.4, p.6.room, p.6.states_few, p.5, sym c.permits.ensures ∙ not-false _ c.if1.false)
+offer_along-v-requires c = let p = c.requires in (p.1, p.2, p.3, p.4, p.6.room, p.6.states_few, p.5, sym c.permits.ensures ∙ c.if-not-permits.false)
 
 pub returns-then-v-entries : goal.returns-then-v-entries
 returns-then-v-entries c = let p = c.requires in asked_miss p.3 p.6 _ c.offer_along-v.ensures c.if-v-entries.true
@@ -33,5 +32,5 @@ put-requires c = let p = c.requires in let a = c.args in let z = length-set a.en
 
 pub returns : goal.returns
 unfolding permitted_at
-returns c = let p = c.requires in let a = c.args in let k = c.slice_known-4-1.given a.i in let z = length-set a.entries.now a.i c.offer_along-v.result in
-    asked_hit p.3 p.6 c.offer_along-v.result (p.1.known _ p.2) (sym c.permits.ensures ∙ not-false _ c.if1.false) (omega (arith, k)) c.offer_along-v.ensures c.if-v-entries.false refl z c.put.ensures
+returns c = let p = c.requires in let a = c.args in let z = length-set a.entries.now a.i c.offer_along-v.result in
+    asked_hit p.3 p.6 c.offer_along-v.result (p.1.known _ p.2) (sym c.permits.ensures ∙ c.if-not-permits.false) (omega arith) c.offer_along-v.ensures c.if-v-entries.false refl z c.put.ensures

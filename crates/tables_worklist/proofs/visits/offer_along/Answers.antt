@@ -1,5 +1,5 @@
 -- `tables::visits::offer_along` meets its contract. Assumes nothing.
-use Rattle.std.proofs.Common.{◌-◌, refl, arith}
+use Rattle.std.proofs.Common.{refl, arith}
 use Rattle.tables_worklist.specs.Steps.{space}
 use Rattle.tables_worklist.proofs.Asking.{offering_start, offering_inside, offering_next, offered_infinite, offered_waits, offered_end}
 use Rattle.tables_worklist.proofs.visits.offer_along.Goals as goal
@@ -35,7 +35,7 @@ pub index_after-j-requires : goal.index_after-j-requires
 index_after-j-requires c = let p = c.requires in (omega (arith, p.0.span _ p.1, p.0.edges_room, c.loop-f-test.true), omega (arith, p.2, p.5), p.6)
 
 pub returns-then-v : goal.returns-then-v
-returns-then-v c = let p = c.requires in let k = c.shared_slice_known-4-1.given c.args.i in offered_infinite p.0 p.1 p.2 p.5 p.7 c.loop-f.invariant c.index_after-j.result c.entry_at-v.result c.index_after-j.ensures c.entry_at-v.ensures c.loop-f-test.true refl (omega (arith, k)) c.if-v.true
+returns-then-v c = let p = c.requires in let k = c.type_inv.entries c.args.i in offered_infinite p.0 p.1 p.2 p.5 p.7 c.loop-f.invariant c.index_after-j.result c.entry_at-v.result c.index_after-j.ensures c.entry_at-v.ensures c.loop-f-test.true refl (omega (arith, k)) c.if-v.true
 
 pub bounds-marks-j : goal.bounds-marks-j
 bounds-marks-j c = let p = c.requires in let h = offering_inside p.0 p.1 p.2 p.5 p.7 c.loop-f.invariant c.index_after-j.result c.entry_at-v.result c.index_after-j.ensures c.entry_at-v.ensures c.loop-f-test.true (omega arith) c.if-v.false in omega (arith, h, p.4)
@@ -62,4 +62,4 @@ pub bounds-edges-e-3 : goal.bounds-edges-e-3
 bounds-edges-e-3 c = let p = c.requires in omega (arith, p.0.edges_room, p.1)
 
 pub returns : goal.returns
-returns c = let p = c.requires in let k = c.shared_slice_known-4-1.given c.args.i in offered_end p.0 p.1 p.2 p.5 p.7 c.loop-f.invariant c.loop-f-test.false (omega (arith, k)) c.raise.ensures
+returns c = let p = c.requires in let k = c.type_inv.entries c.args.i in offered_end p.0 p.1 p.2 p.5 p.7 c.loop-f.invariant c.loop-f-test.false (omega (arith, k)) c.raise.ensures

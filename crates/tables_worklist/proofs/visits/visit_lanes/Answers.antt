@@ -1,9 +1,10 @@
 -- `tables::visits::visit_lanes` meets its contract. Assumes nothing.
-use Rattle.std.proofs.Common.{◌-◌, sym, refl, ◌∙◌, ⊎_elim, arith}
+use Rattle.std.proofs.Common.{sym, refl, ◌∙◌, arith}
 use Rattle.tables_worklist.proofs.Law.{told_moved}
 use Rattle.tables_worklist.proofs.Visiting.{going_none}
 use Rattle.tables_worklist.proofs.Walks.{rows_start, rows_next, rows_end, cells_start, cells_next, cells_as, edges_as, heard_told, above_inside}
 use Rattle.tables_worklist.proofs.visits.visit_lanes.Goals as goal
+use Rattle.tables_worklist.proofs.visits.visit_lanes.Goals.{then-is_above, else-is_above}
 
 pub overflow_mul-said : goal.overflow_mul-said
 overflow_mul-said c = let p = c.requires in omega (arith, p.1.few, p.2)
@@ -36,29 +37,30 @@ pub loop-x-init : goal.loop-x-init
 loop-x-init c = let v = c.loop-y.invariant in (cells_start v.0.going.queue, omega arith, omega arith, omega arith, refl, refl)
 
 pub ask-waiting-requires : goal.ask-waiting-requires
-ask-waiting-requires c = let p = c.requires in let o = c.loop.invariant.0.going.moved.long in let g = c.loop2.invariant.0.going in let l = g.moved.long ∙ o in
+ask-waiting-requires c = let p = c.requires in let o = c.loop-y.invariant.0.going.moved.long in let g = c.loop-x.invariant.0.going in let l = g.moved.long ∙ o in
     (p.0, edges_as (sym l) p.1, p.2, above_inside _ _ _ (sym c.is_above.ensures.0 ∙ c.if-is_above.true), omega (arith, l, p.3), p.4, g.queue)
 
 pub overflow_add-i : goal.overflow_add-i
-overflow_add-i c = let p = c.requires in let v = c.loop2.invariant in let o = c.loop.invariant in record { fits = omega (arith, p.9, v.2, o.2, o.3, v.3) }
+overflow_add-i c = let p = c.requires in let v = c.loop-x.invariant in let o = c.loop-y.invariant in record { fits = omega (arith, p.9, v.2, o.2, o.3, v.3) }
 
 pub overflow_add-x : goal.overflow_add-x
-overflow_add-x c = let v = c.loop2.invariant in record { fits = omega (arith, c.loop2-test.true) }
+overflow_add-x c = let v = c.loop-x.invariant in record { fits = omega (arith, c.loop-x-test.true) }
 
 pub loop-x-smaller : goal.loop-x-smaller
-loop-x-smaller c = omega (arith, c.loop2-test.true)
+loop-x-smaller c = omega (arith, c.loop-x-test.true)
 
 pub loop-x-preserved : goal.loop-x-preserved
-loop-x-preserved c = let p = c.requires in let v = c.loop2.invariant in let o = c.loop.invariant in let g = v.0.going in let l = g.moved.long ∙ o.0.going.moved.long in (
-  ⊎_elim (λ w. cells_as w.11 w.12 w.13 w.14 (cells_next v.0 _ (omega (arith, v.1, o.1)) w.4.ensures.going (λ b f z. w.4.ensures.heard f)))
-      (λ w. cells_as w.1 w.2 w.3 w.4 (cells_next v.0 _ (omega (arith, v.1, o.1)) (going_none g.queue)
-      (λ b f z. heard_told _ _ _ _ _ _ _ _ _ (p.1.weight _ p.2) refl (omega (arith, l, p.6)) b (told_moved g.moved (told_moved o.0.going.moved p.7)) (sym c.is_above.ensures.0 ∙ w.0.left) c.is_above.ensures.1 z)))
-      c.if-is_above.branch,
+loop-x-preserved c = let p = c.requires in let v = c.loop-x.invariant in let o = c.loop-y.invariant in let g = v.0.going in let l = g.moved.long ∙ o.0.going.moved.long in (
+  elim c.if-is_above.branch [
+    | then-is_above w ↦ cells_as w.entries-is w.queue-is w.marks-is w.waiting-is (cells_next v.0 _ (omega (arith, v.1, o.1)) w.ask-waiting.ensures.going (λ b f z. w.ask-waiting.ensures.heard f))
+    | else-is_above w ↦ cells_as w.entries-is w.queue-is w.marks-is w.waiting-is (cells_next v.0 _ (omega (arith, v.1, o.1)) (going_none g.queue)
+        (λ b f z. heard_told _ _ _ _ _ _ _ _ _ (p.1.weight _ p.2) refl (omega (arith, l, p.6)) b (told_moved g.moved (told_moved o.0.going.moved p.7)) (sym c.is_above.ensures.0 ∙ w.if-is_above.false) c.is_above.ensures.1 z))
+  ],
   omega (arith, v.1),
   omega (arith, v.2),
-  omega (arith, c.loop2-test.true),
-  ⊎_elim (λ w. let z = w.4.kept.1.1.1.1.1.1.1.1.1.1.0 in rw w.12 (z ∙ v.4)) (λ w. rw w.2 v.4) c.if-is_above.branch,
-  ⊎_elim (λ w. let z = w.4.kept.1.1.1.1.1.1.1.1.1.1.1.0 in rw w.13 (z ∙ v.5)) (λ w. rw w.3 v.5) c.if-is_above.branch,
+  omega (arith, c.loop-x-test.true),
+  elim c.if-is_above.branch [ then-is_above w ↦ rw w.queue-is (w.ask-waiting.auto.queue ∙ v.4) | else-is_above w ↦ rw w.queue-is v.4 ],
+  elim c.if-is_above.branch [ then-is_above w ↦ rw w.marks-is (w.ask-waiting.auto.marks ∙ v.5) | else-is_above w ↦ rw w.marks-is v.5 ],
 )
 
 pub overflow_add-row : goal.overflow_add-row

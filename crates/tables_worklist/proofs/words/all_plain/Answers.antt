@@ -1,5 +1,5 @@
 -- `all_plain`: the faults gathered so far are none exactly if the cells passed are plain. Assumes nothing.
-use Rattle.std.proofs.Common.{◌≡◌, ◌-◌, get_or, refl, ap, ◌∙◌, arith}
+use Rattle.std.proofs.Common.{◌≡◌, get_or, refl, ap, ◌∙◌, arith}
 use Rattle.task_record.specs.Scan.{all_below}
 use Rattle.task_record.proofs.Scanning.{gathered_next}
 use Rattle.tables_worklist.specs.Squeezed.{plain_cell}

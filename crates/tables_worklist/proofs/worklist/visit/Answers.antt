@@ -1,5 +1,5 @@
 -- `visit`: the rows of the edges that may lead into a state, one by one. Assumes nothing.
-use Rattle.std.proofs.Common.{◌-◌, sym, refl, arith, rules}
+use Rattle.std.proofs.Common.{sym, refl, arith, rules}
 use Rattle.tables_worklist.specs.Waiting.{is}
 use Rattle.tables_worklist.proofs.Law.{told_moved}
 use Rattle.tables_worklist.proofs.Rounds.{rows_start, rows_next, rows_end}
