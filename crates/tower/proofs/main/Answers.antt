@@ -13,4 +13,4 @@ holds : (plan old new : List ℕ) (n m end : ℕ) → length plan ≡ n → leng
 holds plan old new n m end p o k l e = omega arith
 
 pub slice_bounds-out-end : goal.slice_bounds-out-end
-slice_bounds-out-end c = ?
+slice_bounds-out-end c = holds (replicate 65536 0) (replicate 262400 0) c.report_text-end.new.out 65536 262400 _ (length-replicate {A = ℕ} 65536 0) (length-replicate {A = ℕ} 262400 0) c.report_text-end.auto.out (omega arith) c.report_text-end.ensures.4

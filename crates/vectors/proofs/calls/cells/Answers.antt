@@ -1,8 +1,0 @@
--- `cells`: what is lent are parts of the slices. Assumes nothing.
-use borrow.Author.Rules.{rules}
-use mathlib.Core.Path.{sym}
-use lib.Seq.{length-take-le}
-use Rattle.vectors.proofs.calls.cells.Goals as goal
-
-pub slice_bounds-set_cells-end-2 : goal.slice_bounds-set_cells-end-2
-slice_bounds-set_cells-end-2 c = sym (length-take-le _ _ (search rules))
