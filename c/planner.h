@@ -1,6 +1,6 @@
 /* The planner for car-parking towers, for C.
  *
- * Link with target/staticlib/libplanner.a (rt staticlib planner), which has every function below, or with libplan_check.a (rt staticlib
+ * Link with target/staticlib/libplanner.a (.ci/archive planner), which has every function below, or with libplan_check.a (.ci/archive
  * plan_check), which has planner_check_plan alone. Link one of the two. Neither needs another library than C's own, of which they call
  * memcpy and memset at most.
  *
