@@ -1,7 +1,7 @@
 #!/usr/bin/env python3
 """Brings the names of this repository's own definitions and lemmas to today's spelling of Rattle.
 
-usage: python3 tools/spell_names.py [--dry]     at the top of the repository, once, right after the kit's port.py
+usage: python3 tools/spell_names.py [--dry] [--list]     at the top of the repository, once, right after the kit's port.py; --list prints each name and its new one
 
 Words are in snake case. A dash joins two names, and stays where the words on both its sides are names of definitions; elsewhere it becomes `_`.
 Types, facts and modules keep their capitals. Functions of src/, names that Rattle makes and names of the library are left as they are.
@@ -180,8 +180,8 @@ def main(argv):
         for moved, to in MOVED.items():
             if os.path.exists(moved):
                 os.rename(moved, os.path.join(os.path.dirname(moved), to + ".antt"))
-        with open("/tmp/spelled-names.txt", "w", encoding="utf-8") as f:
-            f.writelines(f"{o}\t{n}\n" for o, n in sorted(turn.items()))
+    if "--list" in argv:
+        print("\n".join(f"{old}\t{new}" for old, new in sorted(turn.items())))
     print(f"{len(turn)} names, {changed} files")
     return turn
 

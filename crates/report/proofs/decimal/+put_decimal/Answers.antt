@@ -1,5 +1,4 @@
 -- `report::decimal::put_decimal` meets its contract: a digit is itself, more are the digits before the last and the last. Assumes nothing.
-use mathlib.Core.Path.{sym}
 use Prim.Native.Nat.{◌/◌}
 use native.Mathlib.Omega.{arith}
 use Rattle.report.proofs.Decimals.{decimal_of_digit, decimal_of_more, word_length}

@@ -1,7 +1,6 @@
 -- `report::writing::put_word` meets its contract. The loop's invariant: the first i bytes of the word are written. Assumes nothing.
 use mathlib.Core.Path.{refl, ap, ◌∙◌}
 use native.Mathlib.Nat.{add-zero}
-use Prim.Native.Nat.{◌-◌}
 use native.Mathlib.Omega.{arith}
 use lib.ListN.{length, length-set}
 use Rattle.report.proofs.Stored.{written_nothing, written-more, written_whole}

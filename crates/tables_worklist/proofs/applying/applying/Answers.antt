@@ -1,4 +1,4 @@
--- `tables::applying::applying` meets its contract. Assumes nothing.
+-- `tables_worklist::applying::applying` meets its contract. Assumes nothing.
 use Rattle.std.proofs.Common.{◌/◌, refl, arith}
 use Rattle.tables_worklist.proofs.SetsFilled.{spread_two, spread_four, spread_eight, meet_two, meet_none}
 use Rattle.tables_worklist.proofs.applying.applying.Goals as goal

@@ -1,4 +1,4 @@
--- `tables::applying::enter` meets its contract. The loop's invariant: digits below v are entered. Assumes nothing.
+-- `tables_worklist::applying::enter` meets its contract. The loop's invariant: digits below v are entered. Assumes nothing.
 use Rattle.std.proofs.Common.{sym, refl, ◌∙◌, arith}
 use Rattle.tables_worklist.proofs.SetsFilled.{entering_starts, entering_goes_on, entered}
 use Rattle.tables_worklist.proofs.applying.enter.Goals as goal

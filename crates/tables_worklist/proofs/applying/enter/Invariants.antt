@@ -1,4 +1,4 @@
--- `tables::applying::enter` meets its contract. The loop's invariant: digits below v are entered. Assumes nothing.
+-- `tables_worklist::applying::enter` meets its contract. The loop's invariant: digits below v are entered. Assumes nothing.
 use Rattle.std.proofs.Common.{◌-◌, ◌≤◌}
 use Rattle.tables_worklist.proofs.SetsFilled.{Entering}
 use Rattle.tables_worklist.proofs.applying.enter.Given as goal

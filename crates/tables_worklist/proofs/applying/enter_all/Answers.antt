@@ -1,4 +1,4 @@
--- `tables::applying::enter_all` meets its contract. The loop's invariant: actions below m are entered. Assumes nothing.
+-- `tables_worklist::applying::enter_all` meets its contract. The loop's invariant: actions below m are entered. Assumes nothing.
 use Rattle.std.proofs.Common.{sym, ◌∙◌, arith}
 use Rattle.tables_worklist.specs.Sets.{action_need}
 use Rattle.tables_worklist.proofs.SetsFilled.{slotting_starts, slotting_goes_on, slotted, action_needs}

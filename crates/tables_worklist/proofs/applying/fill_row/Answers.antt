@@ -1,4 +1,4 @@
--- `tables::applying::fill_row` meets its contract. The loop's invariant: the row is filled as far as l. Assumes nothing.
+-- `tables_worklist::applying::fill_row` meets its contract. The loop's invariant: the row is filled as far as l. Assumes nothing.
 use Rattle.std.proofs.Common.{sym, refl, ◌∙◌, arith}
 use Rattle.tables_worklist.specs.Sets.{slot_meet}
 use Rattle.tables_worklist.proofs.SetsFilled.{row_starts, row_goes_on, row_ends}

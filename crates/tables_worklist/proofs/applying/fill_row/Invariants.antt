@@ -1,4 +1,4 @@
--- `tables::applying::fill_row` meets its contract. The loop's invariant: the row is filled as far as l. Assumes nothing.
+-- `tables_worklist::applying::fill_row` meets its contract. The loop's invariant: the row is filled as far as l. Assumes nothing.
 use Rattle.std.proofs.Common.{◌-◌, ◌≤◌}
 use Rattle.tables_worklist.proofs.SetsFilled.{FillingRow}
 use Rattle.tables_worklist.proofs.applying.fill_row.Given as goal

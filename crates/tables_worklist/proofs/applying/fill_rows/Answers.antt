@@ -1,4 +1,4 @@
--- `tables::applying::fill_rows` meets its contract. The loop's invariant: rows below q are filled. Assumes nothing.
+-- `tables_worklist::applying::fill_rows` meets its contract. The loop's invariant: rows below q are filled. Assumes nothing.
 use Rattle.std.proofs.Common.{sym, ◌∙◌, arith}
 use Rattle.tables_worklist.proofs.SetsFilled.{rows_start, rows-go_on, rows_end}
 use Rattle.tables_worklist.proofs.applying.fill_rows.Goals as goal

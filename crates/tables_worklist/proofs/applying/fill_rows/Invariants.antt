@@ -1,4 +1,4 @@
--- `tables::applying::fill_rows` meets its contract. The loop's invariant: rows below q are filled. Assumes nothing.
+-- `tables_worklist::applying::fill_rows` meets its contract. The loop's invariant: rows below q are filled. Assumes nothing.
 use Rattle.std.proofs.Common.{◌≡◌, ◌-◌, ◌*◌, ◌≤◌, length}
 use Rattle.tables_worklist.proofs.SetsFilled.{FillingRows}
 use Rattle.tables_worklist.proofs.applying.fill_rows.Given as goal

@@ -1,4 +1,4 @@
--- `tables::applying::fill_sets` meets its contract. Assumes nothing.
+-- `tables_worklist::applying::fill_sets` meets its contract. Assumes nothing.
 use Rattle.std.proofs.Common.{leb, refl, arith, leb→le}
 use Rattle.planning.proofs.Test.{not_T_false}
 use Rattle.task_record.proofs.Sixteens.{zeros}

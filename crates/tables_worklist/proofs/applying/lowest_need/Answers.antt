@@ -1,4 +1,4 @@
--- `tables::applying::lowest_need` meets its contract. Assumes nothing.
+-- `tables_worklist::applying::lowest_need` meets its contract. Assumes nothing.
 use Rattle.std.proofs.Common.{arith, eq-eqb, ne_eqb}
 use Rattle.tables_worklist.specs.Sets.{lowest_need}
 use Rattle.tables_worklist.proofs.applying.lowest_need.Goals as goal

@@ -1,4 +1,4 @@
--- `tables::applying::spread_of` meets its contract. Assumes nothing.
+-- `tables_worklist::applying::spread_of` meets its contract. Assumes nothing.
 use Rattle.std.proofs.Common.{arith}
 use Rattle.tables_worklist.proofs.SetsFilled.{spread_two, spread_four, spread_eight}
 use Rattle.tables_worklist.proofs.applying.spread_of.Goals as goal

@@ -1,4 +1,4 @@
--- `tables::applying::two_bytes` meets its contract. Assumes nothing.
+-- `tables_worklist::applying::two_bytes` meets its contract. Assumes nothing.
 
 use Rattle.tables_worklist.proofs.applying.two_bytes.Goals as goal
 

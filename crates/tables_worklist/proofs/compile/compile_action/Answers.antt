@@ -1,4 +1,4 @@
--- `tables::compile::compile_action` meets its contract. Assumes nothing.
+-- `tables_worklist::compile::compile_action` meets its contract. Assumes nothing.
 use Rattle.std.proofs.Common.{◌+◌, ◌*◌, drop, refl, arith}
 use Rattle.task_record.specs.Layout.{at_precondition}
 use Rattle.task_record.specs.TaskOf.{action_of}

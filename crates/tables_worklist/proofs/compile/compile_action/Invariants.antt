@@ -1,4 +1,4 @@
--- `tables::compile::compile_action` meets its contract. Assumes nothing.
+-- `tables_worklist::compile::compile_action` meets its contract. Assumes nothing.
 use Rattle.std.proofs.Common.{◌≡◌, ◌+◌, ◌-◌, ◌*◌, ◌≤◌, length}
 use Rattle.task_record.specs.TaskOf.{action_of}
 use Rattle.tables_worklist.proofs.CompiledAction.{Compiling}

@@ -1,4 +1,4 @@
--- `tables::compile::named_digits` meets its contract. Assumes nothing.
+-- `tables_worklist::compile::named_digits` meets its contract. Assumes nothing.
 use Rattle.std.proofs.Common.{◌-◌, ap, ◌∙◌}
 use Rattle.tables_worklist.specs.Packed.{digit_by}
 use Rattle.tables_worklist.proofs.Packing.{left_are_not_named}

@@ -1,4 +1,4 @@
--- `tables::compile::put_head` meets its contract. Assumes nothing.
+-- `tables_worklist::compile::put_head` meets its contract. Assumes nothing.
 use Rattle.std.proofs.Common.{◌∙◌}
 use Rattle.tables_worklist.proofs.compile.put_head.Goals as goal
 

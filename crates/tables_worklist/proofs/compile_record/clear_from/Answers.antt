@@ -1,4 +1,4 @@
--- `tables::compile_record::clear_from` meets its contract. Assumes nothing.
+-- `tables_worklist::compile_record::clear_from` meets its contract. Assumes nothing.
 use Rattle.std.proofs.Common.{◌≡◌, arith}
 use Rattle.tables_worklist.proofs.CompiledRecord.{none_cleared, next_cleared}
 use Rattle.tables_worklist.proofs.compile_record.clear_from.Goals as goal

@@ -1,4 +1,4 @@
--- `tables::compile_record::clear_from` meets its contract. Assumes nothing.
+-- `tables_worklist::compile_record::clear_from` meets its contract. Assumes nothing.
 use Rattle.std.proofs.Common.{◌≡◌, ◌-◌, ◌≤◌, length}
 use Rattle.tables_worklist.specs.Compiling.{Cleared}
 use Rattle.tables_worklist.proofs.compile_record.clear_from.Given as goal

@@ -1,4 +1,4 @@
--- `tables::compile_record::compile_actions` meets its contract. Assumes nothing.
+-- `tables_worklist::compile_record::compile_actions` meets its contract. Assumes nothing.
 use Rattle.std.proofs.Common.{◌≡◌, ◌<◌, arith}
 use Rattle.task_record.specs.Numbers.{action_count}
 use Rattle.task_record.proofs.SoundTask.{actions_right, outcomes_right}

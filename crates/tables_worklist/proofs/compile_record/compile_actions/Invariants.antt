@@ -1,4 +1,4 @@
--- `tables::compile_record::compile_actions` meets its contract. Assumes nothing.
+-- `tables_worklist::compile_record::compile_actions` meets its contract. Assumes nothing.
 use Rattle.std.proofs.Common.{◌≡◌, ◌-◌, ◌≤◌, length}
 use Rattle.tables_worklist.specs.Compiling.{ActionsCompiled}
 use Rattle.tables_worklist.proofs.compile_record.compile_actions.Given as goal

@@ -1,4 +1,4 @@
--- `tables::compile_record::compile_cleared` meets its contract. Assumes nothing.
+-- `tables_worklist::compile_record::compile_cleared` meets its contract. Assumes nothing.
 use Rattle.std.proofs.Common.{drop, rules}
 use Rattle.task_record.specs.Layout.{at_goal}
 use Rattle.tables_worklist.proofs.CompiledRecord.{part_few, record_compiled}

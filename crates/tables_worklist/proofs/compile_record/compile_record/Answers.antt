@@ -1,4 +1,4 @@
--- `tables::compile_record::compile_record` meets its contract. Assumes nothing.
+-- `tables_worklist::compile_record::compile_record` meets its contract. Assumes nothing.
 use Rattle.std.proofs.Common.{arith}
 use Rattle.task_record.proofs.SoundTask.{actions_right}
 use Rattle.tables_worklist.proofs.compile_record.compile_record.Goals as goal

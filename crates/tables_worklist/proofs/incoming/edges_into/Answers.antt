@@ -1,4 +1,4 @@
--- `tables::incoming::edges_into` meets its contract. Assumes nothing.
+-- `tables_worklist::incoming::edges_into` meets its contract. Assumes nothing.
 use Rattle.std.proofs.Common.{◌+◌, ◌≤◌, mul-le-mul, arith}
 use Rattle.tables_worklist.proofs.Rowing.{row_places, row_there}
 use Rattle.tables_worklist.proofs.incoming.edges_into.Goals as goal

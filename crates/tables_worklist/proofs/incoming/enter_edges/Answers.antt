@@ -1,4 +1,4 @@
--- `tables::incoming::enter_edges` meets its contract. The loop's invariant: edges below q are entered, and are the set. Assumes nothing.
+-- `tables_worklist::incoming::enter_edges` meets its contract. The loop's invariant: edges below q are entered, and are the set. Assumes nothing.
 use Rattle.std.proofs.Common.{true, sym, refl, ◌∙◌, arith}
 use Rattle.tables_worklist.specs.Incoming.{edge_need}
 use Rattle.tables_worklist.proofs.Gathering.{gathered_none, gathered_next, gathered_all}

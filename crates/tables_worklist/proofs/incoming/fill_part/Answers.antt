@@ -1,4 +1,4 @@
--- `tables::incoming::fill_part` meets its contract. The loop's invariant: the part is filled below h. Assumes nothing.
+-- `tables_worklist::incoming::fill_part` meets its contract. The loop's invariant: the part is filled below h. Assumes nothing.
 use Rattle.std.proofs.Common.{arith}
 use Rattle.tables_worklist.proofs.Rowing.{place_in, part_to_start, part_to_next, part_to_end}
 use Rattle.tables_worklist.proofs.incoming.fill_part.Goals as goal

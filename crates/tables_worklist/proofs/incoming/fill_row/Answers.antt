@@ -1,4 +1,4 @@
--- `tables::incoming::fill_row` meets its contract. Assumes nothing.
+-- `tables_worklist::incoming::fill_row` meets its contract. Assumes nothing.
 use Rattle.std.proofs.Common.{refl}
 use Rattle.task_record.proofs.Sixteens.{zeros}
 use Rattle.tables_worklist.proofs.Rowing.{row_made}

@@ -1,4 +1,4 @@
--- `tables::incoming::fill_sets` meets its contract. The loop's invariant: the rows below c are filled. Assumes nothing.
+-- `tables_worklist::incoming::fill_sets` meets its contract. The loop's invariant: the rows below c are filled. Assumes nothing.
 use Rattle.std.proofs.Common.{◌+◌, ◌*◌, ◌≤◌, ap, ◌∙◌, mul-le-mul_right, mul-le-mul, arith}
 use Rattle.tables_worklist.proofs.Rowing.{rows_to_start, rows_to_next, incoming_of, incoming_none}
 use Rattle.tables_worklist.proofs.incoming.fill_sets.Goals as goal

@@ -1,4 +1,4 @@
--- `tables::incoming::fill_sets` meets its contract. The loop's invariant: the rows below c are filled. Assumes nothing.
+-- `tables_worklist::incoming::fill_sets` meets its contract. The loop's invariant: the rows below c are filled. Assumes nothing.
 use Rattle.std.proofs.Common.{◌-◌}
 use Rattle.tables_worklist.proofs.Rowing.{RowsTo}
 use Rattle.tables_worklist.proofs.incoming.fill_sets.Given as goal

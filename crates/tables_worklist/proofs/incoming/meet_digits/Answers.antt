@@ -1,4 +1,4 @@
--- `tables::incoming::meet_digits` meets its contract. The loop's invariant: digits below v are met. Assumes nothing.
+-- `tables_worklist::incoming::meet_digits` meets its contract. The loop's invariant: digits below v are met. Assumes nothing.
 use Rattle.std.proofs.Common.{◌∙◌}
 use Rattle.tables_worklist.proofs.Rowing.{meeting_starts, meeting_goes_on, digit_out, digit_in, meeting_ends, meeting_early}
 use Rattle.tables_worklist.proofs.incoming.meet_digits.Goals as goal

@@ -1,4 +1,4 @@
--- `tables::incoming::meet_digits` meets its contract. The loop's invariant: digits below v are met. Assumes nothing.
+-- `tables_worklist::incoming::meet_digits` meets its contract. The loop's invariant: digits below v are met. Assumes nothing.
 use Rattle.std.proofs.Common.{◌-◌}
 use Rattle.tables_worklist.proofs.Rowing.{Meeting}
 use Rattle.tables_worklist.proofs.incoming.meet_digits.Given as goal

@@ -1,4 +1,4 @@
--- `tables::incoming::tested` meets its contract. The loop's invariant: the set of the edges below q. Assumes nothing.
+-- `tables_worklist::incoming::tested` meets its contract. The loop's invariant: the set of the edges below q. Assumes nothing.
 use Rattle.std.proofs.Common.{◌+◌, ◌-◌, ◌*◌, ◌≤◌, eqb}
 use lib.Bits.{bit_and}
 use Rattle.tables_worklist.specs.Edges.{edge_mask, edge_value}

@@ -1,4 +1,4 @@
--- `tables::incoming::upper_part` meets its contract. Assumes nothing.
+-- `tables_worklist::incoming::upper_part` meets its contract. Assumes nothing.
 use Rattle.std.proofs.Common.{arith}
 use Rattle.tables_worklist.proofs.Rowing.{upper_is, upper_fits}
 use Rattle.tables_worklist.proofs.incoming.upper_part.Goals as goal

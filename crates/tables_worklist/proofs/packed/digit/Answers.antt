@@ -1,4 +1,4 @@
--- `tables::packed::digit` meets its contract. Assumes nothing.
+-- `tables_worklist::packed::digit` meets its contract. Assumes nothing.
 use Rattle.std.proofs.Common.{refl, arith, eq-eqb, ne_eqb}
 use Rattle.tables_worklist.specs.Packed.{digit_by}
 use Rattle.tables_worklist.proofs.packed.digit.Goals as goal

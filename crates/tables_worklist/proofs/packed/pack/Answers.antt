@@ -1,4 +1,4 @@
--- `tables::packed::pack` meets its contract. Assumes nothing.
+-- `tables_worklist::packed::pack` meets its contract. Assumes nothing.
 use Rattle.std.proofs.Common.{length, sym, arith}
 use Rattle.tables_worklist.specs.Packed.{digit_by}
 use Rattle.tables_worklist.proofs.Packing.{pack_end, pack_back, pack_room, pack_whole, digit_by_digit}

@@ -1,4 +1,4 @@
--- `tables::packed::pack` meets its contract. Assumes nothing.
+-- `tables_worklist::packed::pack` meets its contract. Assumes nothing.
 use Rattle.std.proofs.Common.{◌≡◌, ◌≤◌, length, drop}
 use Rattle.tables_worklist.specs.Packed.{pack_by, digit_by}
 use Rattle.tables_worklist.proofs.packed.pack.Given as goal

@@ -1,4 +1,4 @@
--- `tables::parts::digits_below` meets its contract. Assumes nothing.
+-- `tables_worklist::parts::digits_below` meets its contract. Assumes nothing.
 use Rattle.std.proofs.Common.{◌%◌, ◌^◌, ◌<◌, ◌≤◌, sym, ap, mod-eq_of_lt, arith}
 use native.Mathlib.Nat.{pow-le-pow_right}
 use Rattle.tables_worklist.proofs.parts.digits_below.Goals as goal

@@ -1,4 +1,4 @@
--- `tables::parts::lower_variables` meets its contract. The loop's invariant: w is the number of states of the variables below v, at most 64. Assumes nothing.
+-- `tables_worklist::parts::lower_variables` meets its contract. The loop's invariant: w is the number of states of the variables below v, at most 64. Assumes nothing.
 use Rattle.std.proofs.Common.{◌-◌, ◌≤◌}
 use Rattle.tables_worklist.proofs.Spacing.{Weighed}
 use Rattle.tables_worklist.proofs.parts.lower_variables.Given as goal

@@ -1,4 +1,4 @@
--- `tables::parts::parts_of` meets its contract. Assumes nothing.
+-- `tables_worklist::parts::parts_of` meets its contract. Assumes nothing.
 use Rattle.tables_worklist.proofs.Parting.{sized_fewer, split_at}
 use Rattle.tables_worklist.proofs.parts.parts_of.Goals as goal
 

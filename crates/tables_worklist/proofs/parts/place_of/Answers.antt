@@ -1,4 +1,4 @@
--- `tables::parts::place_of` meets its contract. Assumes nothing.
+-- `tables_worklist::parts::place_of` meets its contract. Assumes nothing.
 use Rattle.std.proofs.Common.{◌≡◌, suc, ◌+◌, ◌*◌, ◌^◌, ◌≤◌, sym, refl, ap, ◌∙◌, pow-suc, arith}
 use native.Mathlib.Nat.{pow-le-pow_right}
 use Rattle.tables_worklist.proofs.parts.place_of.Goals as goal

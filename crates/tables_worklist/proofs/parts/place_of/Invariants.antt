@@ -1,4 +1,4 @@
--- `tables::parts::place_of` meets its contract. Assumes nothing.
+-- `tables_worklist::parts::place_of` meets its contract. Assumes nothing.
 use Rattle.std.proofs.Common.{◌≡◌, ◌-◌, ◌^◌, ◌≤◌}
 use Rattle.tables_worklist.proofs.parts.place_of.Given as goal
 

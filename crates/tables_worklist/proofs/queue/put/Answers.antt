@@ -1,4 +1,4 @@
--- `tables::queue::put` meets its contract. Assumes nothing.
+-- `tables_worklist::queue::put` meets its contract. Assumes nothing.
 use Rattle.std.proofs.Common.{◌+◌, mod-lt, arith}
 use Rattle.tables_worklist.proofs.Ring.{positive, put_room, put-again, put-new}
 use Rattle.tables_worklist.proofs.queue.put.Goals as goal

@@ -1,4 +1,4 @@
--- `tables::queue::take` meets its contract. Assumes nothing.
+-- `tables_worklist::queue::take` meets its contract. Assumes nothing.
 use Rattle.std.proofs.Common.{arith}
 use Rattle.tables_worklist.proofs.Ring.{first_known, taken}
 use Rattle.tables_worklist.proofs.queue.take.Goals as goal

@@ -1,4 +1,4 @@
--- `tables::queue::wrapped` meets its contract. Assumes nothing.
+-- `tables_worklist::queue::wrapped` meets its contract. Assumes nothing.
 use Rattle.std.proofs.Common.{sym, mod-eq_of_lt, arith}
 use Rattle.tables_worklist.proofs.Ring.{past_ring}
 use Rattle.tables_worklist.proofs.queue.wrapped.Goals as goal

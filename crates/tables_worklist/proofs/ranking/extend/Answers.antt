@@ -1,4 +1,4 @@
--- `tables::ranking::extend` meets its contract. Assumes nothing.
+-- `tables_worklist::ranking::extend` meets its contract. Assumes nothing.
 use Rattle.std.proofs.Common.{refl, arith, length-set}
 use Rattle.tables_worklist.proofs.Spacing.{extended_start, extended_step, extended_end}
 use Rattle.tables_worklist.proofs.ranking.extend.Goals as goal

@@ -1,4 +1,4 @@
--- `tables::ranking::extend` meets its contract. Assumes nothing.
+-- `tables_worklist::ranking::extend` meets its contract. Assumes nothing.
 use Rattle.std.proofs.Common.{◌≡◌, ◌-◌, ◌≤◌, length}
 use Rattle.tables_worklist.specs.Steps.{Extended}
 use Rattle.tables_worklist.proofs.ranking.extend.Given as goal

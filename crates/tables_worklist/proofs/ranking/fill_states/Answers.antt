@@ -1,4 +1,4 @@
--- `tables::ranking::fill_states` meets its contract. Assumes nothing.
+-- `tables_worklist::ranking::fill_states` meets its contract. Assumes nothing.
 use Rattle.std.proofs.Common.{◌≡◌, length, refl, ◌∙◌, arith, rules}
 use Rattle.tables_worklist.proofs.Spacing.{filling_start, filling_small, filling_positive, filling_room, filling_step, filling_end}
 use Rattle.tables_worklist.proofs.ranking.fill_states.Goals as goal

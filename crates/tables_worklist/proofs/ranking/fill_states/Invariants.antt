@@ -1,4 +1,4 @@
--- `tables::ranking::fill_states` meets its contract. Assumes nothing.
+-- `tables_worklist::ranking::fill_states` meets its contract. Assumes nothing.
 use Rattle.std.proofs.Common.{◌≡◌, ◌-◌, length}
 use Rattle.tables_worklist.proofs.Spacing.{Filling}
 use Rattle.tables_worklist.proofs.ranking.fill_states.Given as goal

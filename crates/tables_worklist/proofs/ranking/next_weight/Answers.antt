@@ -1,4 +1,4 @@
--- `tables::ranking::next_weight` meets its contract. Assumes nothing.
+-- `tables_worklist::ranking::next_weight` meets its contract. Assumes nothing.
 use Rattle.std.proofs.Common.{◌*◌, ◌≤◌, ap, mul-le-mul, arith, eq-eqb, ne_eqb}
 use Rattle.tables_worklist.proofs.ranking.next_weight.Goals as goal
 

@@ -1,4 +1,4 @@
--- `tables::ranking::state_count` meets its contract. Assumes nothing.
+-- `tables_worklist::ranking::state_count` meets its contract. Assumes nothing.
 use Rattle.std.proofs.Common.{◌≡◌, length, arith, rules}
 use Rattle.tables_worklist.proofs.Spacing.{weighed_start, weighed_step, weighed_end, weighed_small}
 use Rattle.tables_worklist.proofs.ranking.state_count.Goals as goal

@@ -1,4 +1,4 @@
--- `tables::ranking::state_count` meets its contract. Assumes nothing.
+-- `tables_worklist::ranking::state_count` meets its contract. Assumes nothing.
 use Rattle.std.proofs.Common.{◌-◌}
 use Rattle.tables_worklist.proofs.Spacing.{Weighed}
 use Rattle.tables_worklist.proofs.ranking.state_count.Given as goal

@@ -1,4 +1,4 @@
--- `tables::ranking::weight_in` meets its contract. Assumes nothing.
+-- `tables_worklist::ranking::weight_in` meets its contract. Assumes nothing.
 use Rattle.std.proofs.Common.{eq-eqb, ne_eqb}
 use Rattle.tables_worklist.proofs.ranking.weight_in.Goals as goal
 

@@ -1,4 +1,4 @@
--- `tables::ranking::weights_of` meets its contract. Assumes nothing.
+-- `tables_worklist::ranking::weights_of` meets its contract. Assumes nothing.
 use Rattle.std.proofs.Common.{◌≡◌, length, refl, arith, rules}
 use Rattle.planning.specs.Table.{state_count}
 use Rattle.tables_worklist.specs.Steps.{weights_from}

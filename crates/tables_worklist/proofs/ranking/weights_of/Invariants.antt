@@ -1,4 +1,4 @@
--- `tables::ranking::weights_of` meets its contract. Assumes nothing.
+-- `tables_worklist::ranking::weights_of` meets its contract. Assumes nothing.
 use Rattle.std.proofs.Common.{◌-◌}
 use Rattle.tables_worklist.proofs.Spacing.{Weighing}
 use Rattle.tables_worklist.proofs.ranking.weights_of.Given as goal

@@ -1,4 +1,4 @@
--- `tables::steps::entry_at` meets its contract. Assumes nothing.
+-- `tables_worklist::steps::entry_at` meets its contract. Assumes nothing.
 use Rattle.std.proofs.Common.{sym}
 use lib.ListN.{get_or-eq_default}
 use Rattle.tables_worklist.proofs.Settled.{inside}

@@ -1,4 +1,4 @@
--- `tables::steps::first_entry` meets its contract. Assumes nothing.
+-- `tables_worklist::steps::first_entry` meets its contract. Assumes nothing.
 use Rattle.std.proofs.Common.{sym, ◌∙◌}
 use Rattle.tables_worklist.proofs.steps.first_entry.Goals as goal
 

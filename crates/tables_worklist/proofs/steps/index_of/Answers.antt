@@ -1,4 +1,4 @@
--- `tables::steps::index_of` meets its contract. Assumes nothing.
+-- `tables_worklist::steps::index_of` meets its contract. Assumes nothing.
 use Rattle.std.proofs.Common.{◌≡◌, ◌+◌, ◌*◌, ◌<◌, drop, sym, ◌∙◌, arith}
 use Rattle.tables_worklist.proofs.Stepping.{weigh-zero, weigh_four, digits_left, digits-over}
 use Rattle.tables_worklist.proofs.steps.index_of.Goals as goal

@@ -1,4 +1,4 @@
--- `tables::steps::index_of` meets its contract. Assumes nothing.
+-- `tables_worklist::steps::index_of` meets its contract. Assumes nothing.
 use Rattle.std.proofs.Common.{◌≡◌, ◌+◌, ◌-◌, ◌*◌, ◌^◌, ◌<◌, ◌≤◌, drop}
 use Rattle.tables_worklist.specs.Steps.{weigh}
 use Rattle.tables_worklist.proofs.steps.index_of.Given as goal

@@ -1,4 +1,4 @@
--- `tables::steps::joined` meets its contract. Assumes nothing.
+-- `tables_worklist::steps::joined` meets its contract. Assumes nothing.
 
 use Rattle.tables_worklist.proofs.steps.joined.Goals as goal
 

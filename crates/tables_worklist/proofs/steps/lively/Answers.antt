@@ -1,4 +1,4 @@
--- `tables::steps::lively` meets its contract. Assumes nothing.
+-- `tables_worklist::steps::lively` meets its contract. Assumes nothing.
 use Rattle.std.proofs.Common.{ℕ, Bool, not, arith}
 use Rattle.tables_worklist.specs.Steps.{idles}
 use Rattle.tables_worklist.proofs.Gathering.{gathered_none, gathered_next, gathered_all}

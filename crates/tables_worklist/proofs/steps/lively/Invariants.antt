@@ -1,4 +1,4 @@
--- `tables::steps::lively` meets its contract. Assumes nothing.
+-- `tables_worklist::steps::lively` meets its contract. Assumes nothing.
 use Rattle.std.proofs.Common.{◌-◌, ◌≤◌, not}
 use Rattle.tables_worklist.specs.Steps.{idles}
 use Rattle.tables_worklist.proofs.Gathering.{Gathered}

@@ -1,4 +1,4 @@
--- `tables::steps::may_idle` meets its contract. Assumes nothing.
+-- `tables_worklist::steps::may_idle` meets its contract. Assumes nothing.
 use Rattle.std.proofs.Common.{◌≡◌, ◌-◌, ◌≤◌}
 use Rattle.tables_worklist.specs.Packed.{outcome_count}
 use Rattle.tables_worklist.proofs.Stepping.{Idling}

@@ -1,4 +1,4 @@
--- `tables::steps::permits` meets its contract. Assumes nothing.
+-- `tables_worklist::steps::permits` meets its contract. Assumes nothing.
 use Rattle.std.proofs.Common.{rules}
 use Rattle.tables_worklist.specs.Steps.{permitted}
 use Rattle.tables_worklist.proofs.steps.permits.Goals as goal

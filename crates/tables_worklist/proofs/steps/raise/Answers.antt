@@ -1,4 +1,4 @@
--- `tables::steps::raise` meets its contract. Assumes nothing.
+-- `tables_worklist::steps::raise` meets its contract. Assumes nothing.
 use Rattle.std.proofs.Common.{◌+◌, arith, le-ltb, lt-ltb}
 use Rattle.tables_worklist.specs.Steps.{raised}
 use Rattle.tables_worklist.proofs.steps.raise.Goals as goal

@@ -1,4 +1,4 @@
--- `tables::steps::start` meets its contract. Assumes nothing.
+-- `tables_worklist::steps::start` meets its contract. Assumes nothing.
 use Rattle.std.proofs.Common.{length, refl, arith, length-set}
 use Rattle.tables_worklist.proofs.Stepping.{started-more, started-done}
 use Rattle.tables_worklist.proofs.steps.start.Goals as goal

@@ -1,4 +1,4 @@
--- `tables::steps::start` meets its contract. Assumes nothing.
+-- `tables_worklist::steps::start` meets its contract. Assumes nothing.
 use Rattle.std.proofs.Common.{◌≡◌, ◌-◌, ◌≤◌, length}
 use Rattle.tables_worklist.proofs.Stepping.{StartedTo}
 use Rattle.tables_worklist.proofs.steps.start.Given as goal

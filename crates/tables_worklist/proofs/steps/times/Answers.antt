@@ -1,4 +1,4 @@
--- `tables::steps::times` meets its contract. Assumes nothing.
+-- `tables_worklist::steps::times` meets its contract. Assumes nothing.
 use Rattle.std.proofs.Common.{◌*◌, ◌≤◌, ap, mul-le-mul, arith}
 use Rattle.tables_worklist.proofs.steps.times.Goals as goal
 

@@ -1,4 +1,4 @@
--- `tables::visits::visit_free` meets its contract. Assumes nothing.
+-- `tables_worklist::visits::visit_free` meets its contract. Assumes nothing.
 use Rattle.std.proofs.Common.{sym, refl, ◌∙◌, inl, inr, ⊎_elim, arith}
 use Rattle.tables_worklist.proofs.Law.{told_moved}
 use Rattle.tables_worklist.proofs.Walks.{edges_as, choices_as, choices_next, freed_none, freed_skip, choosing_start, choosing_next, choosing_end}

@@ -1,4 +1,4 @@
--- `tables::visits::weigh_from` meets its contract. Assumes nothing.
+-- `tables_worklist::visits::weigh_from` meets its contract. Assumes nothing.
 use Rattle.std.proofs.Common.{drop, sym, ap, ◌∙◌, arith}
 use Rattle.tables_worklist.specs.Steps.{weigh}
 use Rattle.tables_worklist.proofs.Stepping.{weigh-zero, weigh_step}

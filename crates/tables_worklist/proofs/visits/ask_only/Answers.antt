@@ -1,4 +1,4 @@
--- `tables::visits::ask_only` meets its contract. Assumes nothing.
+-- `tables_worklist::visits::ask_only` meets its contract. Assumes nothing.
 use Rattle.std.proofs.Common.{sym, refl, ◌∙◌, arith, length-set}
 use Rattle.tables_worklist.specs.Steps.{permitted_at}
 use Rattle.tables_worklist.proofs.Asking.{offered_only, asked_never, asked_miss, asked_hit}

@@ -1,4 +1,4 @@
--- `tables::visits::index_after` meets its contract. Assumes nothing.
+-- `tables_worklist::visits::index_after` meets its contract. Assumes nothing.
 use Rattle.std.proofs.Common.{◌≡◌, ◌+◌, arith}
 use lib.Bits.{bit_and}
 use Rattle.tables_worklist.specs.Steps.{weigh}

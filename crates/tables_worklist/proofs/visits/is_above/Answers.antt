@@ -1,4 +1,4 @@
--- `tables::visits::is_above` meets its contract. Assumes nothing.
+-- `tables_worklist::visits::is_above` meets its contract. Assumes nothing.
 use Rattle.std.proofs.Common.{arith, le-ltb, lt-ltb}
 use Rattle.tables_worklist.specs.Visits.{above}
 use Rattle.tables_worklist.proofs.visits.is_above.Goals as goal

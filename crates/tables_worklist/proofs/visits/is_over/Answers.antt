@@ -1,4 +1,4 @@
--- `tables::visits::is_over` meets its contract. Assumes nothing.
+-- `tables_worklist::visits::is_over` meets its contract. Assumes nothing.
 use Rattle.std.proofs.Common.{sym, inl, inr, arith, leb-false, leb-true}
 use Rattle.tables_worklist.proofs.Stepping.{false_true}
 use Rattle.tables_worklist.proofs.visits.is_over.Goals as goal

@@ -1,4 +1,4 @@
--- `tables::visits::lane_sum` meets its contract. Assumes nothing.
+-- `tables_worklist::visits::lane_sum` meets its contract. Assumes nothing.
 use Rattle.std.proofs.Common.{◌/◌, ◌%◌, ◌^◌, refl, arith}
 use Rattle.tables_worklist.specs.Edges.{lane_digit, lane_sum}
 use Rattle.tables_worklist.proofs.Asking.{lane_low}

@@ -1,4 +1,4 @@
--- `tables::visits::offer_along` meets its contract. Assumes nothing.
+-- `tables_worklist::visits::offer_along` meets its contract. Assumes nothing.
 use Rattle.std.proofs.Common.{refl, arith}
 use Rattle.tables_worklist.specs.Steps.{space}
 use Rattle.tables_worklist.proofs.Asking.{offering_start, offering_inside, offering_next, offered_infinite, offered_waits, offered_end}

@@ -1,4 +1,4 @@
--- `tables::visits::visit_edge` meets its contract. Assumes nothing.
+-- `tables_worklist::visits::visit_edge` meets its contract. Assumes nothing.
 use Rattle.std.proofs.Common.{sym, refl, ◌∙◌, arith}
 use Rattle.tables_worklist.specs.Edges.{way_back}
 use Rattle.tables_worklist.proofs.Visiting.{going_none}

@@ -1,4 +1,4 @@
--- `tables::visits::visit_lanes` meets its contract. Assumes nothing.
+-- `tables_worklist::visits::visit_lanes` meets its contract. Assumes nothing.
 use Rattle.std.proofs.Common.{◌≡◌, ◌+◌, ◌-◌, ◌*◌, ◌≤◌, length}
 use Rattle.tables_worklist.specs.Steps.{space}
 use Rattle.tables_worklist.proofs.Walks.{Rows, Cells}

@@ -1,4 +1,4 @@
--- `tables::worklist::is_level` meets its contract. Assumes nothing.
+-- `tables_worklist::worklist::is_level` meets its contract. Assumes nothing.
 use Rattle.std.proofs.Common.{◌≤◌, get_or, arith, leb-true}
 use Rattle.tables_worklist.proofs.Starting.{seen_none, seen_next, seen_level}
 use Rattle.tables_worklist.proofs.worklist.is_level.Goals as goal

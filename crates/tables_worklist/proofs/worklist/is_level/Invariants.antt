@@ -1,4 +1,4 @@
--- `tables::worklist::is_level` meets its contract. Assumes nothing.
+-- `tables_worklist::worklist::is_level` meets its contract. Assumes nothing.
 use Rattle.std.proofs.Common.{◌-◌, length}
 use Rattle.tables_worklist.proofs.Starting.{Seen}
 use Rattle.tables_worklist.proofs.worklist.is_level.Given as goal

@@ -1,4 +1,4 @@
--- `tables::worklist::put_goals` meets its contract. Assumes nothing.
+-- `tables_worklist::worklist::put_goals` meets its contract. Assumes nothing.
 use Rattle.std.proofs.Common.{refl, ◌∙◌, arith}
 use Rattle.tables_worklist.proofs.Starting.{goals_none, goals_put, goals_pass, goals_all}
 use Rattle.tables_worklist.proofs.worklist.put_goals.Goals as goal

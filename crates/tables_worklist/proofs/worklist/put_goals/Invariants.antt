@@ -1,4 +1,4 @@
--- `tables::worklist::put_goals` meets its contract. Assumes nothing.
+-- `tables_worklist::worklist::put_goals` meets its contract. Assumes nothing.
 use Rattle.std.proofs.Common.{◌≡◌, ◌-◌, length}
 use Rattle.tables_worklist.proofs.Starting.{GoalsTo}
 use Rattle.tables_worklist.proofs.worklist.put_goals.Given as goal

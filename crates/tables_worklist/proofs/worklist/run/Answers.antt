@@ -1,4 +1,4 @@
--- `tables::worklist::run` meets its contract. Assumes nothing.
+-- `tables_worklist::worklist::run` meets its contract. Assumes nothing.
 use Rattle.std.proofs.Common.{◌<◌, length, refl, ◌∙◌, arith}
 use Rattle.tables_worklist.proofs.Starting.{running_start, running_marks, running_sum, running_some, running_queue, running_next, running_end, running_level}
 use Rattle.tables_worklist.proofs.worklist.run.Goals as goal

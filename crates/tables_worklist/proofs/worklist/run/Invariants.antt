@@ -1,4 +1,4 @@
--- `tables::worklist::run` meets its contract. Assumes nothing.
+-- `tables_worklist::worklist::run` meets its contract. Assumes nothing.
 use Rattle.std.proofs.Common.{◌≡◌, ◌+◌, length}
 use Rattle.tables_worklist.specs.Steps.{space, total}
 use Rattle.tables_worklist.proofs.Starting.{Running}
