@@ -13,7 +13,7 @@ ghost use Rattle.tables.specs.Packed.{pack_by, low, compiled};
 ghost use Rattle.tables.specs.RecordTables.{Buildable, table_build, built_over, tables_built, tables_prepared, words_prepared, sets_prepared, start_prepared};
 
 use crate::applying::fill_sets;
-use crate::build::build_table;
+use crate::builder::{ProvedWorklist, TableBuilder, Tested};
 use crate::compile_record::{compile_cleared, compile_record};
 use crate::packed::{LOW, pack};
 use crate::ranking::{state_count, wide};
@@ -31,7 +31,7 @@ pub enum TableBuild {
 }
 
 // The table of pattern p, from entry `begin` on; the entries before and after it stay. Answers where it ends.
-fn build_one(
+fn build_one<B: TableBuilder>(
     rec: &[u8],
     task: &[u64; 1282],
     sizes: [u8; 16],
@@ -46,24 +46,24 @@ fn build_one(
     let actions = wide(action_count(rec));
     let pattern = state_of(pattern_cells(rec, p));
     let end = begin + state_count(sizes, pattern, n);
-    build_table(task, actions, n, sizes, pattern, &mut tables[begin..end]);
+    B::build_table(task, actions, n, sizes, pattern, &mut tables[begin..end]);
     end
 }
 
 // Each table begins where the one before ends.
-fn build_all(rec: &[u8], task: &[u64; 1282], tables: &mut [u16])
+fn build_all<B: TableBuilder>(rec: &[u8], task: &[u64; 1282], tables: &mut [u16])
     requires { (Buildable rec.now (length tables.old)) × (task.now ≡ compiled (task_of rec.now)) }
     ensures { tables.new ≡ built_over rec.now tables.old }
 {
     let sizes = sizes_of(rec);
     let mut begin = 0usize;
     for p in 0..pattern_count(rec) {
-        begin = build_one(rec, task, sizes, p, begin, tables);
+        begin = build_one::<B>(rec, task, sizes, p, begin, tables);
     }
 }
 
 // The compiled task is needed only while the tables are built, and not at all without patterns.
-pub(crate) fn build_checked(rec: &[u8], tables: &mut [u16])
+pub(crate) fn build_checked<B: TableBuilder>(rec: &[u8], tables: &mut [u16])
     requires { Buildable rec.now (length tables.old) }
     ensures { tables.new ≡ built_over rec.now tables.old }
 {
@@ -72,7 +72,21 @@ pub(crate) fn build_checked(rec: &[u8], tables: &mut [u16])
     }
     let mut task = [0u64; 1282];
     compile_cleared(rec, &mut task);
-    build_all(rec, &task, tables);
+    build_all::<B>(rec, &task, tables);
+}
+
+// The tables of the task's patterns, one after the other; entries after the last stay.
+fn build_tables_with<B: TableBuilder>(rec: &[u8], tables: &mut [u16]) -> TableBuild
+    ensures value { (result ≡ table_build rec.now (length tables.old)) × (tables.new ≡ tables_built rec.now tables.old) }
+    ensures numbers { table_build_numbers result ≡ tables_by_lines rec.now (length tables.old) }
+{
+    match check_tables(rec, tables.len()) {
+        TableCheck::Refused(number, second) => TableBuild::Refused(number, second),
+        TableCheck::Fits(n) => {
+            build_checked::<B>(rec, tables);
+            TableBuild::Built(n)
+        }
+    }
 }
 
 // The tables of the task's patterns, one after the other; entries after the last stay. Needs less than 430 KiB of stack, most of it for the worklist
@@ -81,13 +95,15 @@ pub fn build_tables(rec: &[u8], tables: &mut [u16]) -> TableBuild
     ensures value { (result ≡ table_build rec.now (length tables.old)) × (tables.new ≡ tables_built rec.now tables.old) }
     ensures numbers { table_build_numbers result ≡ tables_by_lines rec.now (length tables.old) }
 {
-    match check_tables(rec, tables.len()) {
-        TableCheck::Refused(number, second) => TableBuild::Refused(number, second),
-        TableCheck::Fits(n) => {
-            build_checked(rec, tables);
-            TableBuild::Built(n)
-        }
-    }
+    build_tables_with::<Tested>(rec, tables)
+}
+
+// The same by the worklist that is proved. Needs less than 170 KiB of stack.
+pub fn build_tables_by_worklist(rec: &[u8], tables: &mut [u16]) -> TableBuild
+    ensures value { (result ≡ table_build rec.now (length tables.old)) × (tables.new ≡ tables_built rec.now tables.old) }
+    ensures numbers { table_build_numbers result ≡ tables_by_lines rec.now (length tables.old) }
+{
+    build_tables_with::<ProvedWorklist>(rec, tables)
 }
 
 // The start as a word.
@@ -101,8 +117,8 @@ fn start_word(rec: &[u8]) -> u64
 }
 
 // All that a search needs before it starts: patterns that are additive, their tables, the compiled task, its sets of applying actions, and the
-// start as a word. The record is checked once for all of it. No entry of the product: `search` calls it. Needs less than 420 KiB of stack.
-pub fn prepare(
+// start as a word. The record is checked once for all of it.
+fn prepare_with<B: TableBuilder>(
     rec: &[u8],
     tables: &mut [u16],
     task: &mut [u64; 1282],
@@ -118,7 +134,7 @@ pub fn prepare(
         EstimateCheck::Refused(number, second) => EstimateCheck::Refused(number, second),
         EstimateCheck::Ready => {
             compile_record(rec, task);
-            build_all(rec, task, tables);
+            build_all::<B>(rec, task, tables);
             let actions = wide(action_count(rec));
             let bytes = (wide(variable_count(rec)) + 1) / 2;
             fill_sets(task, 18446744073709551615, actions, bytes, sets);
@@ -126,4 +142,36 @@ pub fn prepare(
             EstimateCheck::Ready
         }
     }
+}
+
+// All that a search needs before it starts. No entry of the product: `search` calls it. Needs less than 420 KiB of stack.
+pub fn prepare(
+    rec: &[u8],
+    tables: &mut [u16],
+    task: &mut [u64; 1282],
+    sets: &mut [u64; 2048],
+    start: &mut u64,
+) -> EstimateCheck
+    ensures value { (result ≡ estimate_check rec.now (length tables.old)) × (tables.new ≡ tables_prepared rec.now tables.old) × (task.new ≡ words_prepared rec.now (length tables.old) task.old) }
+    ensures sets { sets.new ≡ sets_prepared rec.now (length tables.old) sets.old }
+    ensures start { start.new ≡ start_prepared rec.now (length tables.old) start.old }
+    ensures numbers { estimate_numbers result ≡ estimate_by_lines rec.now (length tables.old) }
+{
+    prepare_with::<Tested>(rec, tables, task, sets, start)
+}
+
+// The same, with tables by the worklist that is proved. Needs less than 160 KiB of stack.
+pub fn prepare_by_worklist(
+    rec: &[u8],
+    tables: &mut [u16],
+    task: &mut [u64; 1282],
+    sets: &mut [u64; 2048],
+    start: &mut u64,
+) -> EstimateCheck
+    ensures value { (result ≡ estimate_check rec.now (length tables.old)) × (tables.new ≡ tables_prepared rec.now tables.old) × (task.new ≡ words_prepared rec.now (length tables.old) task.old) }
+    ensures sets { sets.new ≡ sets_prepared rec.now (length tables.old) sets.old }
+    ensures start { start.new ≡ start_prepared rec.now (length tables.old) start.old }
+    ensures numbers { estimate_numbers result ≡ estimate_by_lines rec.now (length tables.old) }
+{
+    prepare_with::<ProvedWorklist>(rec, tables, task, sets, start)
 }

@@ -7,8 +7,7 @@ use Rattle.task_record.specs.Numbers.{variable_count, action_count}
 use Rattle.task_record.specs.TaskOf.{cells_at, task_of}
 use Rattle.task_record.proofs.Cellwise.{state_cells_whole}
 use Rattle.patterns.proofs.Sizes.{sizes_taken, pattern_whole}
-use Rattle.tables.proofs.SoundPacked.{sound_readable}
-use Rattle.tables.proofs.Building.{sound_lookable}
+use Rattle.tables.proofs.Ready.{sound_ready}
 use Rattle.tables.proofs.TableChain.{pattern_sized, built_is_table, part_back, part_length}
 use Rattle.tables.proofs.record_tables.build_one.Goals as goal
 use Rattle.tables.proofs.record_tables.build_one.Goals.{After-wide-n, After-wide-actions, After-state_of-pattern, After-state_count}
@@ -34,27 +33,25 @@ states-known c = let r = c.args.rec.now in let p = c.args.p in
     (c.state_of-pattern.ensures ∙ ap state_cells c.pattern_cells.ensures ∙ sym (state_cells_whole (cells_at r (at_pattern p)) (pattern_whole r c.requires.0 p c.requires.3)))
 
 pub state_count-requires : goal.state_count-requires
-state_count-requires c = let v = (goal.at.state_count-requires c).After-wide-n in let q = (goal.at.state_count-requires c).After-state_of-pattern in let r = c.args.rec.now in
+state_count-requires g c = let v = (goal.at.state_count-requires c).After-wide-n in let q = (goal.at.state_count-requires c).After-state_of-pattern in let r = c.args.rec.now in
     rw (variables-known v, pattern_known q) (pattern_sized r c.requires.0 c.args.sizes c.requires.2 (cells_at r (at_pattern c.args.p)) c.requires.4)
 
 pub overflow_add-end : goal.overflow_add-end
-overflow_add-end c = let s = (goal.at.overflow_add-end c).After-state_count in let e = states-known s in omega (arith, c.requires.5)
+overflow_add-end g c = let s = (goal.at.overflow_add-end c).After-state_count in let e = states-known s in omega (arith, c.requires.5)
 
 pub slice_bounds-build_table-end : goal.slice_bounds-build_table-end
-slice_bounds-build_table-end c = let s = (goal.at.slice_bounds-build_table-end c).After-state_count in let e = states-known s in omega (arith, c.requires.5)
+slice_bounds-build_table-end g c = let s = (goal.at.slice_bounds-build_table-end c).After-state_count in let e = states-known s in omega (arith, c.requires.5)
 
 pub build_table-requires : goal.build_table-requires
-build_table-requires c = let v = (goal.at.build_table-requires c).After-wide-n in let b = (goal.at.build_table-requires c).After-wide-actions in let q = (goal.at.build_table-requires c).After-state_of-pattern in let s = (goal.at.build_table-requires c).After-state_count in let r = c.args.rec.now in
+build_table-requires g c = let v = (goal.at.build_table-requires c).After-wide-n in let b = (goal.at.build_table-requires c).After-wide-actions in let q = (goal.at.build_table-requires c).After-state_of-pattern in let s = (goal.at.build_table-requires c).After-state_count in let r = c.args.rec.now in
     let p = cells_at r (at_pattern c.args.p) in let e = states-known s in
     rw (c.requires.1, actions-known b, pattern_known q, sizes-known v, variables-known v) (
-      sound_readable r c.requires.0,
-      sound_lookable r c.requires.0 p,
-      pattern_sized r c.requires.0 c.args.sizes c.requires.2 p c.requires.4,
+      sound_ready r c.requires.0 c.args.p c.requires.3 c.args.sizes c.requires.2 c.requires.4,
       part_length c.args.tables.now c.args.begin c.state_count.result (omega (arith, c.requires.5)) ∙ e,
     )
 
 pub returns : goal.returns
-returns c = let v = (goal.at.returns c).After-wide-n in let b = (goal.at.returns c).After-wide-actions in let q = (goal.at.returns c).After-state_of-pattern in let s = (goal.at.returns c).After-state_count in let r = c.args.rec.now in let p = cells_at r (at_pattern c.args.p) in
+returns g c = let v = (goal.at.returns c).After-wide-n in let b = (goal.at.returns c).After-wide-actions in let q = (goal.at.returns c).After-state_of-pattern in let s = (goal.at.returns c).After-state_count in let r = c.args.rec.now in let p = cells_at r (at_pattern c.args.p) in
     let d = rw (c.requires.1, actions-known b, pattern_known q, variables-known v) at c.build_table.ensures in
     let e = states-known s in (
       omega arith,
