@@ -16,14 +16,15 @@ use task_record::cells::{
     action_count, outcome_cells, outcome_count, pattern_cells, pattern_count,
 };
 use task_record::layout::{ACTION_SIZE, AT_ACTIONS, IN_OUTCOMES};
-use task_record::record::{RecordCheck, check_record};
+use task_record::record::check_record;
+use task_record::refusal::Refusal;
 
-// The lowest action that affects two patterns, with the lowest two; or number and second number of the refusal.
-#[derive(Clone, Copy)]
-pub enum Additivity {
-    Additive,
-    Conflict(u64, u64, u64),
-    Refused(u64, u64),
+// The lowest action that affects two patterns, with the lowest two.
+#[derive(Clone, Copy, PartialEq, Eq)]
+pub struct Conflict {
+    pub action: u64,
+    pub lower: u64,
+    pub upper: u64,
 }
 
 fn digit(x: u8) -> u8
@@ -139,23 +140,25 @@ fn is_additive(rec: &[u8]) -> bool
 
 // The affected patterns of an action are found once; `left` holds those from the current pattern on. After the first that is affected the
 // next one makes the conflict, and where there is none there is no other pair.
-fn scan(rec: &[u8]) -> Additivity
+fn scan(rec: &[u8]) -> Option<Conflict>
     requires { Sound rec.now }
     ensures { result ≡ additivity_of (verdict (task_of rec.now) (patterns_of rec.now)) }
 {
     let members = member_sets(rec);
     let actions = action_count(rec);
     let patterns = pattern_count(rec);
-    let mut answer = Additivity::Additive;
-    'scan: for m in 0..actions {
+    for m in 0..actions {
         let mut left = affected_set(rec, members, m);
         for p in 0..patterns {
             if left % 2 == 1 {
                 for q in p + 1..patterns {
                     left = left / 2;
                     if left % 2 == 1 {
-                        answer = Additivity::Conflict(m as u64, p as u64, q as u64);
-                        break 'scan;
+                        return Some(Conflict {
+                            action: u64::from(m),
+                            lower: u64::from(p),
+                            upper: u64::from(q),
+                        });
                     }
                 }
                 break;
@@ -163,27 +166,26 @@ fn scan(rec: &[u8]) -> Additivity
             left = left / 2;
         }
     }
-    answer
+    None
 }
 
 // The same, scanned for a conflict only where there is one.
-pub(crate) fn decide(rec: &[u8]) -> Additivity
+pub(crate) fn decide(rec: &[u8]) -> Option<Conflict>
     requires { Sound rec.now }
     ensures { result ≡ additivity_of (verdict (task_of rec.now) (patterns_of rec.now)) }
 {
     if is_additive(rec) {
-        return Additivity::Additive;
+        return None;
     }
     scan(rec)
 }
 
-// Whether the task's patterns are additive.
-pub fn additive(rec: &[u8]) -> Additivity
+// The first conflict of the task's patterns, or none where they are additive.
+#[tactic(auto, unfolding(task_record::specs::Record::Sound))]
+pub fn additive(rec: &[u8]) -> Result<Option<Conflict>, Refusal>
     ensures value { result ≡ additivity rec.now }
     ensures numbers { additivity_numbers result ≡ additivity_by_lines rec.now }
 {
-    match check_record(rec) {
-        RecordCheck::Refused(number, second) => Additivity::Refused(number, second),
-        RecordCheck::Sound => scan(rec),
-    }
+    check_record(rec)?;
+    Ok(scan(rec))
 }

@@ -16,13 +16,7 @@ use crate::columns::{actions_fit, front_fits, patterns_fit, state_fits};
 use crate::layout::{
     ACTION_SIZE, AT_ACTIONS, AT_GOAL, AT_PATTERNS, AT_SIZES, AT_START, RECORD_SIZE,
 };
-
-// Number and second number of the refusal.
-#[derive(Clone, Copy)]
-pub enum RecordCheck {
-    Sound,
-    Refused(u64, u64),
-}
+use crate::refusal::Refusal;
 
 fn head_bad(rec: &[u8]) -> usize
     ensures { result ≡ first_from (cell_ok rec.now) 0 at_sizes }
@@ -207,55 +201,46 @@ fn is_sound(rec: &[u8]) -> bool
 }
 
 // The answer of every call that is lent a record, tested before all else.
-pub fn check_record(rec: &[u8]) -> RecordCheck
+pub fn check_record(rec: &[u8]) -> Result<(), Refusal>
     ensures value { result ≡ record_check rec.now }
     ensures numbers { record_numbers result ≡ record_by_lines rec.now }
 {
     if rec.len() < RECORD_SIZE {
-        return RecordCheck::Refused(5, rec.len() as u64);
+        return Err(Refusal::ShortRecord(rec.len() as u64));
     }
     if is_sound(rec) {
-        return RecordCheck::Sound;
+        return Ok(());
     }
     let k = first_bad(rec);
     if k < RECORD_SIZE {
-        return RecordCheck::Refused(6, k as u64);
+        return Err(Refusal::WrongCell(k as u64));
     }
-    RecordCheck::Sound
+    Ok(())
 }
 
-// Number and second number of the refusal.
-#[derive(Clone, Copy)]
-pub enum StateCheck {
-    Good,
-    Refused(u64, u64),
-}
-
-fn judge_state(rec: &[u8], state: &[u8]) -> StateCheck
+fn judge_state(rec: &[u8], state: &[u8]) -> Result<(), Refusal>
     requires { Sound rec.now }
     ensures { result ≡ judge_state rec.now state.now }
 {
     if state.len() != 16 {
-        return StateCheck::Refused(10, 16);
+        return Err(Refusal::WrongState(16));
     }
     let sizes = sizes_of(rec);
     if state_fits(state, sizes) {
-        return StateCheck::Good;
+        return Ok(());
     }
     let k = state_bad(rec, sizes, state, 0);
     if k < 16 {
-        return StateCheck::Refused(10, k as u64);
+        return Err(Refusal::WrongState(k as u64));
     }
-    StateCheck::Good
+    Ok(())
 }
 
 // Whether `state` is a state of the task that `rec` holds.
-pub fn check_state(rec: &[u8], state: &[u8]) -> StateCheck
+pub fn check_state(rec: &[u8], state: &[u8]) -> Result<(), Refusal>
     ensures value { result ≡ state_check rec.now state.now }
     ensures numbers { state_numbers result ≡ state_by_lines rec.now state.now }
 {
-    match check_record(rec) {
-        RecordCheck::Refused(number, second) => StateCheck::Refused(number, second),
-        RecordCheck::Sound => judge_state(rec, state),
-    }
+    check_record(rec)?;
+    judge_state(rec, state)
 }

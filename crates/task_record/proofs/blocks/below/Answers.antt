@@ -1,5 +1,5 @@
 -- `below`: the cells passed are right. Assumes nothing.
-use Rattle.std.proofs.Common.{◌-◌, cond, ltb, arith, length-set}
+use Rattle.std.proofs.Common.{cond, ltb, arith, length-set}
 use Rattle.task_record.proofs.Sixteens.{filled_next}
 use Rattle.task_record.proofs.blocks.below.Goals as goal
 

@@ -1,5 +1,5 @@
 -- `block`: the faults gathered so far are none exactly if the cells passed fit. Assumes nothing.
-use Rattle.std.proofs.Common.{◌≡◌, ◌-◌, refl, ap, ◌∙◌, arith, rules}
+use Rattle.std.proofs.Common.{◌≡◌, refl, ap, ◌∙◌, arith, rules}
 use Rattle.task_record.specs.Scan.{all_below}
 use Rattle.task_record.specs.Window.{block_fits}
 use Rattle.task_record.proofs.Scanning.{gathered_next}

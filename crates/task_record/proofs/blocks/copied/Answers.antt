@@ -1,5 +1,5 @@
 -- `copied`: the cells passed are right. Assumes nothing.
-use Rattle.std.proofs.Common.{◌-◌, get_or, refl, arith, length-set, ext_get_or}
+use Rattle.std.proofs.Common.{get_or, refl, arith, length-set, ext_get_or}
 use Rattle.task_record.proofs.Sixteens.{filled_next}
 use Rattle.task_record.proofs.blocks.copied.Goals as goal
 

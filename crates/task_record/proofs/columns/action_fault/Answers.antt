@@ -1,6 +1,6 @@
 -- `action_fault`: the used cells passed, moved up by 1, are at most the highest, and the others at least what they have in common.
 -- Assumes nothing.
-use Rattle.std.proofs.Common.{ℕ, ◌+◌, ◌-◌, ◌*◌, ◌%◌, get_or, arith, le-leb}
+use Rattle.std.proofs.Common.{ℕ, ◌+◌, ◌*◌, ◌%◌, get_or, arith, le-leb}
 use lib.Bits.{bit_and, and_le_l, and_le_r}
 use Rattle.task_record.specs.Window.{fits}
 use Rattle.task_record.proofs.ColumnLaws.{raised, lowered, or_zero_left, or_zero_right}

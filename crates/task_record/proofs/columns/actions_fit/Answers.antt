@@ -1,5 +1,5 @@
 -- `actions_fit`: the scan of the actions passed found nothing. Assumes nothing.
-use Rattle.std.proofs.Common.{◌≡◌, ℕ, ◌+◌, ◌-◌, ◌*◌, sym, ◌∙◌, arith}
+use Rattle.std.proofs.Common.{◌≡◌, ℕ, ◌+◌, ◌*◌, sym, ◌∙◌, arith}
 use borrow.Author.Tests.{not-false}
 use Rattle.task_record.specs.Layout.{at_action, action_size}
 use Rattle.task_record.specs.Record.{cell_ok}

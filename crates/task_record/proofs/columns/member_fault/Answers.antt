@@ -1,5 +1,5 @@
 -- `member_fault`: the cells passed are at most what was gathered of them. Assumes nothing.
-use Rattle.std.proofs.Common.{ℕ, ◌+◌, ◌-◌, ◌*◌, get_or, arith}
+use Rattle.std.proofs.Common.{ℕ, ◌+◌, ◌*◌, get_or, arith}
 use lib.Bits.{bit_or}
 use Rattle.task_record.proofs.ColumnLaws.{raised, or_zero_left, or_zero_right, or_ge_left, or_ge_right}
 use Rattle.task_record.proofs.columns.member_fault.Goals as goal

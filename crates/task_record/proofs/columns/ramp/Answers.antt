@@ -1,5 +1,5 @@
 -- `ramp`: the cells passed are 255, and those from 16 on stay 0. Assumes nothing.
-use Rattle.std.proofs.Common.{ℕ, ◌-◌, List, length, get_or, refl, ap, ◌∙◌, arith, length-set, get_or-set_other}
+use Rattle.std.proofs.Common.{ℕ, List, length, get_or, refl, ap, ◌∙◌, arith, length-set, get_or-set_other}
 use lib.ListN.{length-replicate}
 use Rattle.task_record.proofs.Sixteens.{filled_next, zeros}
 use Rattle.task_record.proofs.columns.ramp.Goals as goal

@@ -1,5 +1,5 @@
 -- `unnamed_fault`: the cells passed are at least what they have in common. Assumes nothing.
-use Rattle.std.proofs.Common.{ℕ, ◌+◌, ◌-◌, ◌*◌, get_or, arith}
+use Rattle.std.proofs.Common.{ℕ, ◌+◌, ◌*◌, get_or, arith}
 use lib.Bits.{bit_and, and_le_l, and_le_r}
 use Rattle.task_record.proofs.ColumnLaws.{lowered}
 use Rattle.task_record.proofs.columns.unnamed_fault.Goals as goal

@@ -1,14 +1,15 @@
 -- `check_record`: the length, then all cells at once, then the lowest bad offset; in numbers lines 5 and 6. Assumes nothing.
-use Rattle.std.proofs.Common.{◌≡◌, ℕ, List, sym, refl, ap, ◌∙◌, le-ltb, lt-ltb}
+use Rattle.std.proofs.Common.{◌≡◌, ℕ, List, sym, ap, ◌∙◌, le-ltb, lt-ltb, Result, Ok}
 use Rattle.task_record.specs.Record.{record_check, Sound}
+use Rattle.planning.specs.Numbers.{answered}
 use Rattle.task_record.specs.Answers.{record_numbers, record_by_lines}
-use Rattle.task_record.specs.declared.record.RecordCheck.{RecordCheck}
-use Rattle.task_record.proofs.ByLines.{after_record_lem}
+use Rattle.task_record.specs.declared.refusal.Refusal.{Refusal}
+use Rattle.task_record.proofs.ByLines.{after_record_lem, told_alone}
 use Rattle.task_record.proofs.record.check_record.Goals as goal
 
-told : (r : List ℕ) → (x : RecordCheck) → x ≡ record_check r → (x ≡ record_check r) × (record_numbers x ≡ record_by_lines r)
-unfolding record_numbers record_by_lines
-told r x e = (e, ap record_numbers e ∙ after_record_lem record_numbers (λ t. t) r _ (λ n k. refl) refl)
+told : (r : List ℕ) → (x : Result Unit Refusal) → x ≡ record_check r → (x ≡ record_check r) × (record_numbers x ≡ record_by_lines r)
+unfolding record_by_lines
+told r x e = (e, ap record_numbers e ∙ told_alone _ (record_check r) ∙ after_record_lem (λ u. answered 0 0 0 0) r (λ u. Ok tt))
 
 pub returns-then-rec-lt-RECORD_SIZE : goal.returns-then-rec-lt-RECORD_SIZE
 unfolding record_check
