@@ -13,7 +13,7 @@ ghost use Rattle.patterns.specs.Value.{value_of, read_value, state_value};
 ghost use Rattle.patterns.specs.Answers.{value_numbers, value_by_lines};
 
 use crate::estimate::judge_estimate;
-use crate::places::{place_of, wide};
+use crate::places::place_of;
 use task_record::cells::{pattern_cells, pattern_count, variable_count};
 use task_record::layout::AT_SIZES;
 use task_record::record::check_state;

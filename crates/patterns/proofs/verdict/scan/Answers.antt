@@ -14,13 +14,13 @@ use Rattle.patterns.proofs.verdict.scan.Goals.{else-loop-p-test, then-loop-p-tes
 use Rattle.patterns.proofs.verdict.scan.Goals as goal
 
 pub affected_set-left-requires : goal.affected_set-left-requires
-affected_set-left-requires c = (c.requires, c.member_sets-members.ensures, rw c.loop-m.invariant.2 at c.loop-m-test.true)
+affected_set-left-requires c = rw c.of-members.ensures (rw c.loop-m.invariant.2 at c.loop-m-test.true)
 
 pub loop-m-init : goal.loop-m-init
 loop-m-init c = let r = c.args.rec.now in (verdict-at_start (task_of r) (patterns_of r), omega arith, c.action_count-actions.ensures, c.pattern_count-patterns.ensures)
 
 pub loop-p-init : goal.loop-p-init
-loop-p-init c = (refl, omega arith, rw sub-zero c.affected_set-left.ensures)
+loop-p-init c = (refl, omega arith, rw sub-zero (rw c.of-members.ensures at c.affected_set-left.ensures))
 
 pub loop-q-init : goal.loop-q-init
 loop-q-init c = let r = c.args.rec.now in let s = c.loop-m in let l = c.loop-p in
