@@ -15,9 +15,8 @@ pub used_fits-requires : goal.used_fits-requires
 used_fits-requires c =
     let pre = c.requires in
     let action-count = c.action_count in
-    let wide = c.wide-used in
     let loop-test = c.loop-m-test in
-    let t = loop-test.true in let w = wide.ensures in let n = action-count.ensures in
+    let t = loop-test.true in let n = action-count.ensures in
     (pre.0, omega arith, omega arith)
 
 pub returns-then-not-used_fits : goal.returns-then-not-used_fits
@@ -40,20 +39,18 @@ pub loop-m-2-init : goal.loop-m-2-init
 loop-m-2-init c =
     let pre = c.requires in
     let action-count = c.action_count in
-    let wide = c.wide-used in
     let loop = c.loop-m in
     let loop-test = c.loop-m-test in
-    let t = loop-test.false in let w = wide.ensures in let n = action-count.ensures in let few = pre.1 in
-    let e : loop.m ≡ wide.result = omega arith in
+    let t = loop-test.false in let n = action-count.ensures in let few = pre.1 in
+    let e : loop.m ≡ c.from-used.result = omega arith in
     (omega arith, omega arith, rw e at loop.invariant.1)
 
 pub unused_fits-requires : goal.unused_fits-requires
 unused_fits-requires c =
     let pre = c.requires in
     let action-count = c.action_count in
-    let wide = c.wide-used in
     let loop2-test = c.loop-m-2-test in
-    let t = loop2-test.true in let w = wide.ensures in let n = action-count.ensures in
+    let t = loop2-test.true in let n = action-count.ensures in
     (pre.0.long, pre.0.right, omega arith, omega arith)
 
 pub returns-then-not-unused_fits : goal.returns-then-not-unused_fits

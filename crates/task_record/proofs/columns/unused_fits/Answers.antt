@@ -14,5 +14,5 @@ returns c =
     let if1 = c.if-rec-a-ne0 in
     let nine-unnamed = c.nine_unnamed in
     let r = args.rec.now in let m = args.m in
-    λ t. action_passes r (λ k. omega (arith, shared-slice-known.given k)) pre.1 m 0 (no_rows r m pre.2 (omega (arith, if1.false))) (omega arith)
+    λ t. action_passes r (λ k. omega (arith, shared-slice-known.given k)) pre.1 m 0 (no_rows r m pre.2 (omega (arith, if1.false)))
     (λ v l. record { named = λ j g. absurd (omega arith); unnamed = λ j g h. nine-unnamed.ensures t v l j h })

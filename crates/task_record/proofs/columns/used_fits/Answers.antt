@@ -15,4 +15,4 @@ returns c =
     let shared-slice-known = c.shared_slice_known-1 in
     let rows_fit = c.rows_fit in
     λ t. let f = rows_fit.ensures t in
-    action_told args.rec.now args.sizes (λ k. omega (arith, shared-slice-known.given k)) pre.0 args.m pre.1 f.0 f.1 f.2
+    action_told args.rec.now args.sizes.now (λ k. omega (arith, shared-slice-known.given k)) pre.0 args.m pre.1 f.0 f.1 f.2
