@@ -8,7 +8,7 @@ ghost use Rattle.task_record.specs.TaskOf.{cells_at};
 ghost use Rattle.plan_check.specs.Tower.{tower, values_of};
 ghost use Rattle.plan_check.specs.Refusal.{refusal_at};
 
-use crate::cells::{cells_at, met, wide};
+use crate::cells::{cells_at, met};
 use task_record::layout::{ACTION_SIZE, AT_ACTIONS, IN_PRECONDITION};
 
 // "at most 32 moves depth"
@@ -23,7 +23,10 @@ fn action_met(rec: &[u8], m: u8, state: [u8; 16]) -> bool
     ensures { result ≡ (tower rec.now).enabled m (values_of rec.now state) }
 {
     met(
-        cells_at(rec, AT_ACTIONS + IN_PRECONDITION + ACTION_SIZE * wide(m)),
+        cells_at(
+            rec,
+            AT_ACTIONS + IN_PRECONDITION + ACTION_SIZE * usize::from(m),
+        ),
         state,
     )
 }

@@ -6,7 +6,7 @@ ghost use Rattle.task_record.specs.Record.{Sound};
 ghost use Rattle.task_record.specs.TaskOf.{cells_at};
 ghost use Rattle.plan_check.specs.Stack.{begun_frame, rest_frame};
 
-use crate::cells::{applied, cells_at, wide};
+use crate::cells::{applied, cells_at};
 use task_record::layout::{ACTION_SIZE, AT_ACTIONS, IN_OUTCOMES, ROW_SIZE};
 
 // The state in which the action was taken, the offset of the next outcome's cells, the moves on the path after the action, and how many
@@ -34,12 +34,12 @@ pub(crate) fn begun(rec: &[u8], m: u8, state: [u8; 16], depth: u32) -> Frame
     requires { (Sound rec.now) × (m < action_count rec.now) × (depth < 32) }
     ensures { result ≡ begun_frame rec.now m state depth }
 {
-    let action = AT_ACTIONS + ACTION_SIZE * wide(m);
+    let action = AT_ACTIONS + ACTION_SIZE * usize::from(m);
     Frame {
         state: state,
         next: action + IN_OUTCOMES,
         depth: depth + 1,
-        left: wide(rec[action]) as u32,
+        left: u32::from(rec[action]),
     }
 }
 
