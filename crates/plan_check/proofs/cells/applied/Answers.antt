@@ -13,8 +13,7 @@ loop-i-preserved c =
     let l = c.loop-i in
     let n = l.invariant in
     let here : c.choose.result ≡ changed c.args.cells c.args.state l.i =
-        c.choose.ensures ∙ rw (n.4 l.i (omega arith), any_default c.args.cells l.i 0 255 (omega arith)) in
-    (
+    c.choose.ensures ∙ rw (n.4 l.i (omega arith), any_default c.args.cells l.i 0 255 (omega arith)) in (
       n.0,
       n.1,
       simp length-set n.2,
