@@ -9,7 +9,9 @@ pub(crate) fn cells_at(rec: &[u8], at: usize) -> [u8; 16]
     ensures { result ≡ cells_at rec.now at }
 {
     let mut r = [0u8; 16];
-    r.copy_from_slice(&rec[at..at + 16]);
+    for (i, x) in r.iter_mut().enumerate() {
+        *x = rec[at + i];
+    }
     r
 }
 
