@@ -7,12 +7,12 @@ ghost use Rattle.task_record.specs.Numbers.{size_of, variable_count, action_coun
 ghost use Rattle.task_record.specs.Scan.{first_from};
 ghost use Rattle.task_record.specs.Window.{fits, Sixteen};
 ghost use Rattle.task_record.specs.Record.{cell_ok};
-ghost use Rattle.task_record.specs.Parts.{SizesPassed};
 ghost use Rattle.task_record.specs.Columns.{ActionColumn, MemberColumn, FrontPassed, Ramp};
 
 use crate::blocks::misfit;
 use crate::cells::{action_count, pattern_count, variable_count};
 use crate::layout::{ACTION_SIZE, AT_ACTIONS, AT_GOAL, AT_PATTERNS, AT_START};
+use crate::measured::Measured;
 
 // A state's cell: below the size, or 255 where the size is 0.
 fn value_fault(x: u8, size: u8) -> u8
@@ -95,20 +95,19 @@ fn eight_fit<const USED: usize>(c: &[u8], sizes: &[u8; 16]) -> bool
 }
 
 // A case for each number of patterns, since the loops of a column are unrolled only where their ends are known.
-pub(crate) fn patterns_fit(rec: &[u8], sizes: &[u8; 16]) -> bool
-    requires { SizesPassed rec.now sizes.now }
-    ensures { result ≡ true → first_from (cell_ok rec.now) (at_pattern 0) (at_action 0 - at_pattern 0) ≡ at_action 0 }
+pub(crate) fn patterns_fit(record: &Measured) -> bool
+    ensures { result ≡ true → first_from (cell_ok record.now.rec.now) (at_pattern 0) (at_action 0 - at_pattern 0) ≡ at_action 0 }
 {
-    match pattern_count(rec) {
-        0 => eight_fit::<0>(rec, sizes),
-        1 => eight_fit::<1>(rec, sizes),
-        2 => eight_fit::<2>(rec, sizes),
-        3 => eight_fit::<3>(rec, sizes),
-        4 => eight_fit::<4>(rec, sizes),
-        5 => eight_fit::<5>(rec, sizes),
-        6 => eight_fit::<6>(rec, sizes),
-        7 => eight_fit::<7>(rec, sizes),
-        8 => eight_fit::<8>(rec, sizes),
+    match pattern_count(record.rec) {
+        0 => eight_fit::<0>(record.rec, &record.sizes),
+        1 => eight_fit::<1>(record.rec, &record.sizes),
+        2 => eight_fit::<2>(record.rec, &record.sizes),
+        3 => eight_fit::<3>(record.rec, &record.sizes),
+        4 => eight_fit::<4>(record.rec, &record.sizes),
+        5 => eight_fit::<5>(record.rec, &record.sizes),
+        6 => eight_fit::<6>(record.rec, &record.sizes),
+        7 => eight_fit::<7>(record.rec, &record.sizes),
+        8 => eight_fit::<8>(record.rec, &record.sizes),
         _ => false,
     }
 }
@@ -182,37 +181,37 @@ fn nine_unnamed(c: &[u8], a: usize) -> bool
     bad == 0
 }
 
-fn used_fits(rec: &[u8], sizes: &[u8; 16], m: usize) -> bool
-    requires { (SizesPassed rec.now sizes.now) × (m < action_count rec.now) × (m < 64) }
-    ensures { result ≡ true → first_from (cell_ok rec.now) (at_action m) action_size ≡ at_action (m + 1) }
+fn used_fits(record: &Measured, m: usize) -> bool
+    requires { (m < action_count record.now.rec.now) × (m < 64) }
+    ensures { result ≡ true → first_from (cell_ok record.now.rec.now) (at_action m) action_size ≡ at_action (m + 1) }
 {
     let a = AT_ACTIONS + ACTION_SIZE * m;
-    rows_fit(rec, sizes, a + 1, rec[a])
+    rows_fit(record.rec, &record.sizes, a + 1, record.rec[a])
 }
 
-fn unused_fits(rec: &[u8], m: usize) -> bool
-    requires { (record_size ≤ length rec.now) × (first_from (cell_ok rec.now) at_sizes 16 ≡ at_goal) × (action_count rec.now ≤ m) × (m < 64) }
-    ensures { result ≡ true → first_from (cell_ok rec.now) (at_action m) action_size ≡ at_action (m + 1) }
+fn unused_fits(record: &Measured, m: usize) -> bool
+    requires { (action_count record.now.rec.now ≤ m) × (m < 64) }
+    ensures { result ≡ true → first_from (cell_ok record.now.rec.now) (at_action m) action_size ≡ at_action (m + 1) }
 {
     let a = AT_ACTIONS + ACTION_SIZE * m;
-    if rec[a] != 0 {
+    if record.rec[a] != 0 {
         return false;
     }
-    nine_unnamed(rec, a + 1)
+    nine_unnamed(record.rec, a + 1)
 }
 
-pub(crate) fn actions_fit(rec: &[u8], sizes: &[u8; 16]) -> bool
-    requires { (SizesPassed rec.now sizes.now) × (action_count rec.now ≤ 64) }
-    ensures { result ≡ true → first_from (cell_ok rec.now) (at_action 0) (record_size - at_action 0) ≡ record_size }
+pub(crate) fn actions_fit(record: &Measured) -> bool
+    requires { action_count record.now.rec.now ≤ 64 }
+    ensures { result ≡ true → first_from (cell_ok record.now.rec.now) (at_action 0) (record_size - at_action 0) ≡ record_size }
 {
-    let used = usize::from(action_count(rec));
+    let used = usize::from(action_count(record.rec));
     for m in 0..used {
-        if !used_fits(rec, sizes, m) {
+        if !used_fits(record, m) {
             return false;
         }
     }
     for m in used..64 {
-        if !unused_fits(rec, m) {
+        if !unused_fits(record, m) {
             return false;
         }
     }

@@ -6,7 +6,6 @@ ghost use Rattle.task_record.specs.Numbers.{size_of, pattern_count};
 ghost use Rattle.task_record.specs.Scan.{scan};
 ghost use Rattle.task_record.specs.Window.{Sixteen, used_blocks};
 ghost use Rattle.task_record.specs.Record.{cell_ok, state_cell_ok, record_check, Sound};
-ghost use Rattle.task_record.specs.Parts.{SizesPassed};
 ghost use Rattle.task_record.specs.State.{judge_state, state_check};
 ghost use Rattle.task_record.specs.Answers.{record_numbers, state_numbers, record_by_lines, state_by_lines};
 
@@ -17,6 +16,7 @@ use crate::layout::{
     ACTION_SIZE, AT_ACTION_COUNT, AT_ACTIONS, AT_BUDGET, AT_GOAL, AT_LIMIT, AT_PATTERN_COUNT,
     AT_PATTERNS, AT_SIZES, AT_START, AT_VARIABLES, RECORD_SIZE,
 };
+use crate::measured::Measured;
 use crate::refusal::Refusal;
 
 fn scan_head(rec: &[u8]) -> Result<(), usize>
@@ -65,13 +65,13 @@ fn sizes_of(rec: &[u8]) -> [u8; 16]
 }
 
 // The cells of a state from offset `a` of `c` on: a used one is at most the highest value; an unused one is 255, which moved up by 1 is 0.
-fn scan_state(rec: &[u8], sizes: &[u8; 16], c: &[u8], a: usize) -> Result<(), usize>
-    requires { (SizesPassed rec.now sizes.now) × (a + 16 ≤ length c.now) × (a ≤ at_start) }
-    ensures { result ≡ scan (state_cell_ok rec.now c.now a) a 16 }
+fn scan_state(record: &Measured, c: &[u8], a: usize) -> Result<(), usize>
+    requires { (a + 16 ≤ length c.now) × (a ≤ at_start) }
+    ensures { result ≡ scan (state_cell_ok record.now.rec.now c.now a) a 16 }
 {
     let windows = Windows {
-        shift: below(variable_count(rec), 0, 1),
-        top: highest(*sizes),
+        shift: below(variable_count(record.rec), 0, 1),
+        top: highest(record.sizes),
     };
     windows.scan(c, a, 1)
 }
@@ -125,26 +125,25 @@ fn used_blocks(rec: &[u8], m: usize) -> Option<usize>
     Some(0)
 }
 
-fn scan_action(rec: &[u8], sizes: &[u8; 16], m: usize) -> Result<(), usize>
-    requires { (SizesPassed rec.now sizes.now) × (m < 64) }
-    ensures { result ≡ scan (cell_ok rec.now) (at_action m) action_size }
+fn scan_action(record: &Measured, m: usize) -> Result<(), usize>
+    requires { m < 64 }
+    ensures { result ≡ scan (cell_ok record.now.rec.now) (at_action m) action_size }
 {
     let a = AT_ACTIONS + ACTION_SIZE * m;
-    match used_blocks(rec, m) {
+    match used_blocks(record.rec, m) {
         None => Err(a),
         Some(used) => {
-            named(sizes).scan(rec, a + 1, used)?;
-            named(&[0; 16]).scan(rec, a + 1 + 16 * used, 9 - used)
+            named(&record.sizes).scan(record.rec, a + 1, used)?;
+            named(&[0; 16]).scan(record.rec, a + 1 + 16 * used, 9 - used)
         }
     }
 }
 
-fn scan_actions(rec: &[u8], sizes: &[u8; 16]) -> Result<(), usize>
-    requires { SizesPassed rec.now sizes.now }
-    ensures { result ≡ scan (cell_ok rec.now) (at_action 0) (record_size - at_action 0) }
+fn scan_actions(record: &Measured) -> Result<(), usize>
+    ensures { result ≡ scan (cell_ok record.now.rec.now) (at_action 0) (record_size - at_action 0) }
 {
     for m in 0..64usize {
-        scan_action(rec, sizes, m)?;
+        scan_action(record, m)?;
     }
     Ok(())
 }
@@ -155,11 +154,14 @@ fn scan_cells(rec: &[u8]) -> Result<(), usize>
 {
     scan_head(rec)?;
     scan_sizes(rec)?;
-    let sizes = sizes_of(rec);
-    named(&sizes).scan(rec, AT_GOAL, 1)?;
-    scan_state(rec, &sizes, rec, AT_START)?;
+    let record = Measured {
+        rec: rec,
+        sizes: sizes_of(rec),
+    };
+    named(&record.sizes).scan(rec, AT_GOAL, 1)?;
+    scan_state(&record, rec, AT_START)?;
     scan_patterns(rec)?;
-    scan_actions(rec, &sizes)
+    scan_actions(&record)
 }
 
 // Whether the record passes the test by columns, which tells no offset but is many times as fast as the search for one.
@@ -174,10 +176,14 @@ fn is_sound(rec: &[u8]) -> bool
     if !front_fits(rec, &sizes) {
         return false;
     }
-    if !patterns_fit(rec, &sizes) {
+    let record = Measured {
+        rec: rec,
+        sizes: sizes,
+    };
+    if !patterns_fit(&record) {
         return false;
     }
-    actions_fit(rec, &sizes)
+    actions_fit(&record)
 }
 
 // The answer of every call that is lent a record, tested before all else.
@@ -208,7 +214,11 @@ fn judge_state(rec: &[u8], state: &[u8]) -> Result<(), Refusal>
     if state_fits(state, &sizes) {
         return Ok(());
     }
-    match scan_state(rec, &sizes, state, 0) {
+    let record = Measured {
+        rec: rec,
+        sizes: sizes,
+    };
+    match scan_state(&record, state, 0) {
         Ok(()) => Ok(()),
         Err(offset) => Err(Refusal::WrongState(offset as u64)),
     }

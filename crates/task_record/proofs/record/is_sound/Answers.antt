@@ -21,14 +21,6 @@ front_fits-requires c =
 pub returns-then-not-front_fits : goal.returns-then-not-front_fits
 returns-then-not-front_fits c = λ t. let z : ◌≡◌ {A = ℕ} 0 1 = cc in absurd (omega arith)
 
-pub patterns_fit-requires : goal.patterns_fit-requires
-patterns_fit-requires c =
-    let pre = c.requires in
-    let sizes-of = c.sizes_of-sizes in
-    let front_fits = c.front_fits in
-    let if2 = c.if-not-front_fits in
-    record { long = pre; right = (front_fits.ensures (not-false _ if2.false-raw)).sizes; read = sizes-of.ensures }
-
 pub returns-then-not-patterns_fit : goal.returns-then-not-patterns_fit
 returns-then-not-patterns_fit c = λ t. let z : ◌≡◌ {A = ℕ} 0 1 = cc in absurd (omega arith)
 
@@ -42,7 +34,7 @@ actions_fit-requires c =
     let if2 = c.if-not-front_fits in
     let r = args.rec.now in
     let h = scan_passed (cell_ok r) 0 at_sizes (sym c.scan_head.ensures ∙ no_fault c.scan_head.result (sym c.is_err.ensures.value ∙ c.if-is_err.false)) in
-    (record { long = pre; right = (front_fits.ensures (not-false _ if2.false-raw)).sizes; read = sizes-of.ensures }, head_actions r (λ k. omega (arith, shared-slice-known.given k)) h)
+    head_actions r (λ k. omega (arith, shared-slice-known.given k)) h
 
 pub returns : goal.returns
 returns c =

@@ -21,10 +21,10 @@ returns-then-state_fits c =
     let e : first_bad_value r s ≡ 16 = state_passes r (λ k. omega (arith, c.shared_slice_known-1.given k)) (sound_sizes r c.requires) s (λ k. omega (arith, c.shared_slice_known-2-1.given k)) (λ v l. rw (z.cell v l) at (c.state_fits.ensures c.if-state_fits.true v l)) in
     rw (eq-eqb _ _ c.if-state-ne16.false, e)
 
-pub scan_state-requires : goal.scan_state-requires
-scan_state-requires c =
+pub invariant_of-record : goal.invariant_of-record
+invariant_of-record c =
     let r = c.args.rec.now in
-    (record { long = sound_length r c.requires; right = sound_sizes r c.requires; read = c.sizes_of-sizes.ensures }, omega (arith, c.if-state-ne16.false), omega arith)
+    record { passed = record { long = sound_length r c.requires; byte = λ k. omega (arith, c.shared_slice_known-1.given k); right = sound_sizes r c.requires; read = c.sizes_of-sizes.ensures } }
 
 pub returns-in-Ok : goal.returns-in-Ok
 unfolding judge_state first_bad_value

@@ -6,7 +6,7 @@ use Rattle.task_record.specs.Record.{cell_ok}
 use Rattle.task_record.proofs.record.scan_actions.Given as goal
 
 abbrev pub invariant-loop-m : goal.invariant-loop-m
-invariant-loop-m l = (l.m ≤ 64) × (scan (cell_ok l.rec) (at_action 0) (record_size - at_action 0) ≡ scan (cell_ok l.rec) (at_action l.m) (action_size * (64 - l.m)))
+invariant-loop-m l = (l.m ≤ 64) × (scan (cell_ok l.record.rec.now) (at_action 0) (record_size - at_action 0) ≡ scan (cell_ok l.record.rec.now) (at_action l.m) (action_size * (64 - l.m)))
 
 abbrev pub decreases-loop-m : goal.decreases-loop-m
 decreases-loop-m l = 64 - l.m

@@ -36,25 +36,25 @@ returns-in_err-scan c =
     let r = c.args.rec.now in
     let right = sym c.scan_sizes.ensures ∙ c.in_ok-scan_sizes.was in
     let l = scan_passed (cell_ok r) at_sizes 16 right in let m = first_le (cell_ok r) at_sizes 16 in
-    let p : SizesPassed r c.sizes_of-sizes.result = record { long = c.requires; right = omega arith; read = c.sizes_of-sizes.ensures } in
+    let p : SizesPassed r c.sizes_of.result = record { long = c.requires; byte = λ k. omega (arith, c.shared_slice_known-1.given k); right = omega arith; read = c.sizes_of.ensures } in
     let goal-is = goal_scan r (λ k. omega (arith, c.shared_slice_known-1.given k)) p.right c.named.result.shift c.named.result.top c.named.ensures.0 (rw c.named.ensures.1 p.read) in
     let q = err_from_is_err_and c.from_residual-in_err-scan.result c.from_residual-in_err-scan.ensures.1 in
     q.1 ∙ ap Err q.2 ∙ ends r 24 16 _ (omega arith) (on r 8 16 (omega arith) (on r 0 8 (omega arith) refl (sym c.scan_head.ensures ∙ c.in_ok-scan_head.was)) (sym c.scan_sizes.ensures ∙ c.in_ok-scan_sizes.was)) (sym goal-is ∙ sym c.scan.ensures ∙ c.in_err-scan.was)
 
-pub scan_state-requires : goal.scan_state-requires
-scan_state-requires c =
+pub invariant_of-record : goal.invariant_of-record
+invariant_of-record c =
     let r = c.args.rec.now in
     let right = sym c.scan_sizes.ensures ∙ c.in_ok-scan_sizes.was in
     let l = scan_passed (cell_ok r) at_sizes 16 right in let m = first_le (cell_ok r) at_sizes 16 in
-    let p : SizesPassed r c.sizes_of-sizes.result = record { long = c.requires; right = omega arith; read = c.sizes_of-sizes.ensures } in
-    (p, omega (arith, p.long), omega arith)
+    let p : SizesPassed r c.sizes_of.result = record { long = c.requires; byte = λ k. omega (arith, c.shared_slice_known-1.given k); right = omega arith; read = c.sizes_of.ensures } in
+    record { passed = p }
 
 pub returns-in_err-scan_state : goal.returns-in_err-scan_state
 returns-in_err-scan_state c =
     let r = c.args.rec.now in
     let right = sym c.scan_sizes.ensures ∙ c.in_ok-scan_sizes.was in
     let l = scan_passed (cell_ok r) at_sizes 16 right in let m = first_le (cell_ok r) at_sizes 16 in
-    let p : SizesPassed r c.sizes_of-sizes.result = record { long = c.requires; right = omega arith; read = c.sizes_of-sizes.ensures } in
+    let p : SizesPassed r c.sizes_of.result = record { long = c.requires; byte = λ k. omega (arith, c.shared_slice_known-1.given k); right = omega arith; read = c.sizes_of.ensures } in
     let goal-is = goal_scan r (λ k. omega (arith, c.shared_slice_known-1.given k)) p.right c.named.result.shift c.named.result.top c.named.ensures.0 (rw c.named.ensures.1 p.read) in
     let q = err_from_is_err_and c.from_residual-in_err-scan_state.result c.from_residual-in_err-scan_state.ensures.1 in
     q.1 ∙ ap Err q.2 ∙ ends r 40 16 _ (omega arith) (on r 24 16 (omega arith) (on r 8 16 (omega arith) (on r 0 8 (omega arith) refl (sym c.scan_head.ensures ∙ c.in_ok-scan_head.was)) (sym c.scan_sizes.ensures ∙ c.in_ok-scan_sizes.was)) (sym goal-is ∙ sym c.scan.ensures ∙ c.in_ok-scan.was)) (sym (start_scan r (λ k. omega (arith, c.shared_slice_known-1.given k))) ∙ sym c.scan_state.ensures ∙ c.in_err-scan_state.was)
@@ -69,24 +69,16 @@ returns-in_err-scan_patterns c =
     let r = c.args.rec.now in
     let right = sym c.scan_sizes.ensures ∙ c.in_ok-scan_sizes.was in
     let l = scan_passed (cell_ok r) at_sizes 16 right in let m = first_le (cell_ok r) at_sizes 16 in
-    let p : SizesPassed r c.sizes_of-sizes.result = record { long = c.requires; right = omega arith; read = c.sizes_of-sizes.ensures } in
+    let p : SizesPassed r c.sizes_of.result = record { long = c.requires; byte = λ k. omega (arith, c.shared_slice_known-1.given k); right = omega arith; read = c.sizes_of.ensures } in
     let goal-is = goal_scan r (λ k. omega (arith, c.shared_slice_known-1.given k)) p.right c.named.result.shift c.named.result.top c.named.ensures.0 (rw c.named.ensures.1 p.read) in
     let q = err_from_is_err_and c.from_residual-in_err-scan_patterns.result c.from_residual-in_err-scan_patterns.ensures.1 in
     q.1 ∙ ap Err q.2 ∙ ends r 56 128 _ (omega arith) (on r 40 16 (omega arith) (on r 24 16 (omega arith) (on r 8 16 (omega arith) (on r 0 8 (omega arith) refl (sym c.scan_head.ensures ∙ c.in_ok-scan_head.was)) (sym c.scan_sizes.ensures ∙ c.in_ok-scan_sizes.was)) (sym goal-is ∙ sym c.scan.ensures ∙ c.in_ok-scan.was)) (sym (start_scan r (λ k. omega (arith, c.shared_slice_known-1.given k))) ∙ sym c.scan_state.ensures ∙ c.in_ok-scan_state.was)) (sym c.scan_patterns.ensures ∙ c.in_err-scan_patterns.was)
-
-pub scan_actions-requires : goal.scan_actions-requires
-scan_actions-requires c =
-    let r = c.args.rec.now in
-    let right = sym c.scan_sizes.ensures ∙ c.in_ok-scan_sizes.was in
-    let l = scan_passed (cell_ok r) at_sizes 16 right in let m = first_le (cell_ok r) at_sizes 16 in
-    let p : SizesPassed r c.sizes_of-sizes.result = record { long = c.requires; right = omega arith; read = c.sizes_of-sizes.ensures } in
-    p
 
 pub returns : goal.returns
 returns c =
     let r = c.args.rec.now in
     let right = sym c.scan_sizes.ensures ∙ c.in_ok-scan_sizes.was in
     let l = scan_passed (cell_ok r) at_sizes 16 right in let m = first_le (cell_ok r) at_sizes 16 in
-    let p : SizesPassed r c.sizes_of-sizes.result = record { long = c.requires; right = omega arith; read = c.sizes_of-sizes.ensures } in
+    let p : SizesPassed r c.sizes_of.result = record { long = c.requires; byte = λ k. omega (arith, c.shared_slice_known-1.given k); right = omega arith; read = c.sizes_of.ensures } in
     let goal-is = goal_scan r (λ k. omega (arith, c.shared_slice_known-1.given k)) p.right c.named.result.shift c.named.result.top c.named.ensures.0 (rw c.named.ensures.1 p.read) in
     c.scan_actions.ensures ∙ sym (on r 56 128 (omega arith) (on r 40 16 (omega arith) (on r 24 16 (omega arith) (on r 8 16 (omega arith) (on r 0 8 (omega arith) refl (sym c.scan_head.ensures ∙ c.in_ok-scan_head.was)) (sym c.scan_sizes.ensures ∙ c.in_ok-scan_sizes.was)) (sym goal-is ∙ sym c.scan.ensures ∙ c.in_ok-scan.was)) (sym (start_scan r (λ k. omega (arith, c.shared_slice_known-1.given k))) ∙ sym c.scan_state.ensures ∙ c.in_ok-scan_state.was)) (sym c.scan_patterns.ensures ∙ c.in_ok-scan_patterns.was))
