@@ -15,7 +15,7 @@ use Rattle.planning.proofs.Test.{by_test}
 use Rattle.task_record.specs.Record.{record_check}
 use Rattle.task_record.specs.TaskOf.{task_of, patterns_of}
 use Rattle.task_record.specs.declared.record.RecordCheck.{RecordCheck}
-use Rattle.task_record.specs.declared.record.RecordCheck.TheVariants as of_record
+use Rattle.task_record.specs.declared.record.RecordCheck.TheVariants as of-record
 use Rattle.patterns.specs.Additivity.{additivity_of}
 use Rattle.patterns.specs.Space.{first_large, entries_needed, judge_tables}
 use Rattle.patterns.specs.Estimate.{after_verdict, after_tables, after_record, judge_estimate, estimate_check}
@@ -44,11 +44,11 @@ module _ (r : List ℕ) (lent : ℕ) where
     where
       by : (a : RecordCheck) → record_check r ≡ a → (t : TableCheck) → judge_tables (task_of r).sizes (patterns_of r) lent ≡ t → (v : Verdict) →
           after_record a (after_tables t (after_verdict (additivity_of v))) ≡ of-estimate.Refused n x → 5 ≤ n
-      by of_record.Sound e (of-tables.Fits m) f additive h = let z : ◌≡◌ {A = ℕ} 0 1 = cc in absurd (omega arith)
-      by of_record.Sound e (of-tables.Fits m) f (conflict i p q) h = let z : 9 ≡ n = cc in omega arith
-      by of_record.Sound e (of-tables.Refused m y) f v h =
+      by of-record.Sound e (of-tables.Fits m) f additive h = let z : ◌≡◌ {A = ℕ} 0 1 = cc in absurd (omega arith)
+      by of-record.Sound e (of-tables.Fits m) f (conflict i p q) h = let z : 9 ≡ n = cc in omega arith
+      by of-record.Sound e (of-tables.Refused m y) f v h =
           let z : m ≡ n = cc in let l = room_refused (task_of r).sizes (patterns_of r) lent m y f in omega arith
-      by (of_record.Refused m y) e t f v h = let z : m ≡ n = cc in let l = record_refused r m y e in omega arith
+      by (of-record.Refused m y) e t f v h = let z : m ≡ n = cc in let l = record_refused r m y e in omega arith
 
   search-refused : (size n x : ℕ) → search_answer r lent size ≡ outcome.Refused n x → 5 ≤ n
   unfolding search_answer after_estimate search_of

@@ -27,8 +27,8 @@ module _ (t : Task) (w : WellFormed t) (ps : List (List ℕ)) (A : Additive t ps
   found_is_optimal p d c e = let r = rw e at answer_right in (r.0, r.1, r.2)
 
   -- "An answer 'over' means that every strong plan from the start costs more than the limit".
-  pub over_means_above_limit : (c : ℕ) → answer t ps budget limit s ≡ over c → (q : Plan) → Strong (system t) q s → limit < cost (system t) q
-  over_means_above_limit c e = let r = rw e at answer_right in r.0
+  pub over_means_above-limit : (c : ℕ) → answer t ps budget limit s ≡ over c → (q : Plan) → Strong (system t) q s → limit < cost (system t) q
+  over_means_above-limit c e = let r = rw e at answer_right in r.0
 
   -- "'spent' that every one costs at least the round reported"; and the whole budget was used.
   pub spent_means_at_least : (d c : ℕ) → answer t ps budget limit s ≡ spent d c → ((q : Plan) → Strong (system t) q s → d ≤ cost (system t) q) × (c ≡ budget)

@@ -162,9 +162,9 @@ module _ {S : Type 0} (Y : System S) (Ok : S → Type 0) (I : Invariant Y Ok) wh
   seen_by_sub_solution f h zero s o = seen_at_first Y s (f s)
   seen_by_sub_solution f h (suc n) s o = seen_lower Y (suc n) s (bellman Y f s) (f s) (h s o) (seen_step n f (seen_by_sub_solution f h n) s o)
 
-  pub sub_solution_below_cost : (f : S → ℕ∞) → ((s : S) → Ok s → f s ≤∞ bellman Y f s) → (s : S) → Ok s → (v : ℕ∞) → IsCost Y s v → f s ≤∞ v
+  pub sub_solution_below-cost : (f : S → ℕ∞) → ((s : S) → Ok s → f s ≤∞ bellman Y f s) → (s : S) → Ok s → (v : ℕ∞) → IsCost Y s v → f s ≤∞ v
   unfolding Seen ◌≤∞◌
-  sub_solution_below_cost f h s o v c d t = seen_by_sub_solution f h (suc d) s o d (rw (← (cost_solvable Y Ok I s o v).0 c d) t)
+  sub_solution_below-cost f h s o v c d t = seen_by_sub_solution f h (suc d) s o d (rw (← (cost_solvable Y Ok I s o v).0 c d) t)
 
   -- What a builder needs that starts with costs nowhere below the true ones c and lowers them by the operator, in any order.
   module _ (c : S → ℕ∞) (cost-c : (s : S) → Ok s → IsCost Y s (c s)) where
@@ -175,7 +175,7 @@ module _ {S : Type 0} (Y : System S) (Ok : S → Type 0) (I : Invariant Y Ok) wh
     -- When no entry is above the operator's value any more, all are the cost.
     pub stable_upper_bound_is_cost : (f : S → ℕ∞) → ((s : S) → Ok s → c s ≤∞ f s) → ((s : S) → Ok s → f s ≤∞ bellman Y f s) → (s : S) → Ok s → f s ≡ c s
     unfolding ◌≤∞◌
-    stable_upper_bound_is_cost f above h s o = ext∞ (f s) (c s) (λ d. bool_iff (f s ≤? d) (c s ≤? d) (above s o d) (sub_solution_below_cost f h s o (c s) (cost-c s o) d))
+    stable_upper_bound_is_cost f above h s o = ext∞ (f s) (c s) (λ d. bool_iff (f s ≤? d) (c s ≤? d) (above s o d) (sub_solution_below-cost f h s o (c s) (cost-c s o) d))
 
   -- As many sweeps as states are enough: what is not below the cost and has seen as many rounds is the cost.
   pub seen_is_cost : (xs : List S) → ((s : S) → Ok s → Some (λ x. x ≡ s) xs) → (n : ℕ) → length xs ≤ n → (s : S) → Ok s → (u v : ℕ∞) → IsCost Y s u → u ≤∞ v → Seen Y n s v → v ≡ u

@@ -31,19 +31,19 @@ module _ {S : Type 0} (Y : System S) (Ok : S → Type 0) (I : Invariant Y Ok) (h
   mutual
     unfolding Strong Strongs cost costs
 
-    estimate_below_plan : (p : Plan) (s : S) → Ok s → Strong Y p s → T (h s ≤? cost Y p)
-    estimate_below_plan arrived s o q = rw (C.at_goal_lem s o q) tt
-    estimate_below_plan (act m ps) s o q = let a = some_all (Y.successors m s) (C.step m s q.0 o q.1) (estimate_below_plans ps (Y.successors m s) (I.closed m s q.0 o q.1) q.2) in
+    estimate-below_plan : (p : Plan) (s : S) → Ok s → Strong Y p s → T (h s ≤? cost Y p)
+    estimate-below_plan arrived s o q = rw (C.at_goal_lem s o q) tt
+    estimate-below_plan (act m ps) s o q = let a = some_all (Y.successors m s) (C.step m s q.0 o q.1) (estimate-below_plans ps (Y.successors m s) (I.closed m s q.0 o q.1) q.2) in
         add_up (h s) (Y.weight m) (h a.0) (costs Y ps) a.1 a.2
 
-    estimate_below_plans : (ps : Plans) (xs : List S) → All Ok xs → Strongs Y ps xs → All (λ x. T (h x ≤? costs Y ps)) xs
-    estimate_below_plans done [] o q = tt
-    estimate_below_plans done (x ∷ xs) o q = absurd q
-    estimate_below_plans (p then ps) [] o q = tt
-    estimate_below_plans (p then ps) (x ∷ xs) o q = (mono? (h x) (cost Y p) _ (omega arith) (estimate_below_plan p x o.0 q.0), weaken h (costs Y ps) _ xs (omega arith) (estimate_below_plans ps xs o.1 q.1))
+    estimate-below_plans : (ps : Plans) (xs : List S) → All Ok xs → Strongs Y ps xs → All (λ x. T (h x ≤? costs Y ps)) xs
+    estimate-below_plans done [] o q = tt
+    estimate-below_plans done (x ∷ xs) o q = absurd q
+    estimate-below_plans (p then ps) [] o q = tt
+    estimate-below_plans (p then ps) (x ∷ xs) o q = (mono? (h x) (cost Y p) _ (omega arith) (estimate-below_plan p x o.0 q.0), weaken h (costs Y ps) _ xs (omega arith) (estimate-below_plans ps xs o.1 q.1))
 
   pub consistent_admissible : Admissible Y Ok h
-  consistent_admissible = estimate_below_plan
+  consistent_admissible = estimate-below_plan
 
 -- Where an admissible estimate is infinite there is no strong plan.
 pub infinite_means_none : {S : Type 0} (Y : System S) (Ok : S → Type 0) (h : S → ℕ∞) → Admissible Y Ok h → (s : S) → Ok s → h s ≡ inf → (p : Plan) → Strong Y p s → ⊥

@@ -16,15 +16,15 @@ use Rattle.planning.proofs.Task.{task_invariant}
 use Rattle.planning.proofs.Projection.{Projection}
 
 -- Keeping a pattern's cells twice is keeping them once.
-keep_cell_twice : (b : Bool) (x z : ℕ) → cond b (cond b x z) z ≡ cond b x z
-keep_cell_twice true x z = refl
-keep_cell_twice false x z = refl
+keep-cell_twice : (b : Bool) (x z : ℕ) → cond b (cond b x z) z ≡ cond b x z
+keep-cell_twice true x z = refl
+keep-cell_twice false x z = refl
 
 pub keep_twice : (z : ℕ) (p l : List ℕ) → keep z p (keep z p l) ≡ keep z p l
 unfolding keep
 keep_twice z p [] = refl
 keep_twice z [] (x ∷ l) = ap (λ k. z ∷ k) (keep_twice z [] l)
-keep_twice z (b ∷ p) (x ∷ l) = rw (keep_cell_twice (eqb b 1) x z, keep_twice z p l)
+keep_twice z (b ∷ p) (x ∷ l) = rw (keep-cell_twice (eqb b 1) x z, keep_twice z p l)
 
 pub project_twice : (p s : List ℕ) → project p (project p s) ≡ project p s
 project_twice p s = keep_twice 0 p s

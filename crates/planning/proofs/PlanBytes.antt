@@ -68,25 +68,25 @@ module _ (outcomes : ℕ → ℕ) where
   mutual
     unfolding Shaped levels encode decode decodes parse_then choose
 
-    decode_encode_levels : (p : Plan) (f : ℕ) (bs : List ℕ) → Shaped p → levels p ≤ f → decode outcomes f (encode p ++ bs) ≡ parsed p bs
-    decode_encode_levels arrived zero bs h l = absurd (omega arith)
-    decode_encode_levels arrived (suc f) bs h l = refl
-    decode_encode_levels (act m ps) zero bs h l = absurd (omega arith)
-    decode_encode_levels (act m ps) (suc f) bs h l = rw (not_equal m 254 (omega (arith, h.0)), decodes_encodes_levels ps (outcomes m) f bs h.1 (omega arith))
+    decode-encode_levels : (p : Plan) (f : ℕ) (bs : List ℕ) → Shaped p → levels p ≤ f → decode outcomes f (encode p ++ bs) ≡ parsed p bs
+    decode-encode_levels arrived zero bs h l = absurd (omega arith)
+    decode-encode_levels arrived (suc f) bs h l = refl
+    decode-encode_levels (act m ps) zero bs h l = absurd (omega arith)
+    decode-encode_levels (act m ps) (suc f) bs h l = rw (not_equal m 254 (omega (arith, h.0)), decodes-encodes_levels ps (outcomes m) f bs h.1 (omega arith))
 
-    decodes_encodes_levels : (ps : Plans) (n f : ℕ) (bs : List ℕ) → ShapedAll ps n → levels_of ps ≤ f → decodes (decode outcomes f) n (encodes ps ++ bs) ≡ parsed ps bs
-    decodes_encodes_levels done zero f bs h l = refl
-    decodes_encodes_levels done (suc n) f bs h l = absurd h
-    decodes_encodes_levels (p then ps) zero f bs h l = absurd h
-    decodes_encodes_levels (p then ps) (suc n) f bs h l = rw (append_assoc (encode p) (encodes ps) bs, decode_encode_levels p f (encodes ps ++ bs) h.0 (omega arith), decodes_encodes_levels ps n f bs h.1 (omega arith))
+    decodes-encodes_levels : (ps : Plans) (n f : ℕ) (bs : List ℕ) → ShapedAll ps n → levels_of ps ≤ f → decodes (decode outcomes f) n (encodes ps ++ bs) ≡ parsed ps bs
+    decodes-encodes_levels done zero f bs h l = refl
+    decodes-encodes_levels done (suc n) f bs h l = absurd h
+    decodes-encodes_levels (p then ps) zero f bs h l = absurd h
+    decodes-encodes_levels (p then ps) (suc n) f bs h l = rw (append_assoc (encode p) (encodes ps) bs, decode-encode_levels p f (encodes ps ++ bs) h.0 (omega arith), decodes-encodes_levels ps n f bs h.1 (omega arith))
 
   -- The bytes of a shaped plan, followed by any bytes, are read as that plan and those bytes: with any first number above its depth, and
   -- with the number of the bytes.
   pub decode-encode : (p : Plan) (f : ℕ) (bs : List ℕ) → Shaped p → depth p < f → decode outcomes f (encode p ++ bs) ≡ parsed p bs
-  decode-encode p f bs h l = decode_encode_levels p f bs h (omega (arith, levels_at_most_depth p))
+  decode-encode p f bs h l = decode-encode_levels p f bs h (omega (arith, levels_at_most_depth p))
 
   pub decode-encode-length : (p : Plan) (bs : List ℕ) → Shaped p → decode outcomes (length (encode p ++ bs)) (encode p ++ bs) ≡ parsed p bs
-  decode-encode-length p bs h = decode_encode_levels p (length (encode p ++ bs)) bs h (omega (arith, levels_at_most_length p, length-append (encode p) bs))
+  decode-encode-length p bs h = decode-encode_levels p (length (encode p ++ bs)) bs h (omega (arith, levels_at_most_length p, length-append (encode p) bs))
 
   -- The bytes determine the tree, and where it ends: no shaped plan's bytes begin another's.
   pub encode_injective : (p q : Plan) (bs cs : List ℕ) → Shaped p → Shaped q → encode p ++ bs ≡ encode q ++ cs → (p ≡ q) × (bs ≡ cs)

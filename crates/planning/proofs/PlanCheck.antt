@@ -168,16 +168,16 @@ module _ {S : Type 0} (Y : System S) (most : ℕ) where
   worst_after (p then ps) k worst = worst_after ps k (max worst (k + cost Y p))
 
   -- With at least one plan it is the larger of what was before and k with the largest of their costs; so it is for the plans of an action.
-  worst_after_some : (p : Plan) (ps : Plans) (k worst : ℕ) → worst_after (p then ps) k worst ≡ max worst (k + costs Y (p then ps))
+  worst-after_some : (p : Plan) (ps : Plans) (k worst : ℕ) → worst_after (p then ps) k worst ≡ max worst (k + costs Y (p then ps))
   unfolding worst_after cost
-  worst_after_some p done k worst = omega arith
-  worst_after_some p (q then qs) k worst = omega (arith, worst_after_some q qs k (max worst (k + cost Y p)))
+  worst-after_some p done k worst = omega arith
+  worst-after_some p (q then qs) k worst = omega (arith, worst-after_some q qs k (max worst (k + cost Y p)))
 
-  worst_after_strong : (ps : Plans) (xs : List S) (k worst : ℕ) → Some (λ x. Unit {0}) xs → Strongs Y ps xs → worst_after ps k worst ≡ max worst (k + costs Y ps)
+  worst-after_strong : (ps : Plans) (xs : List S) (k worst : ℕ) → Some (λ x. Unit {0}) xs → Strongs Y ps xs → worst_after ps k worst ≡ max worst (k + costs Y ps)
   unfolding Strong
-  worst_after_strong done [] k worst o h = absurd o
-  worst_after_strong done (x ∷ xs) k worst o h = absurd h
-  worst_after_strong (p then ps) xs k worst o h = worst_after_some p ps k worst
+  worst-after_strong done [] k worst o h = absurd o
+  worst-after_strong done (x ∷ xs) k worst o h = absurd h
+  worst-after_strong (p then ps) xs k worst o h = worst-after_some p ps k worst
 
   -- The check depends on the values of offset and cost only.
   same_place : (bs : List ℕ) (rest : List (Pending S)) (i j v w : ℕ) → i ≡ j → v ≡ w → check_bytes Y most bs rest i v ≡ check_bytes Y most bs rest j w
@@ -193,7 +193,7 @@ module _ {S : Type 0} (Y : System S) (most : ℕ) where
       check_reads arrived x rest bs i worst h l = check_arrived bs x rest i worst h ∙ same_place bs rest _ _ _ _ (omega arith) (omega arith)
       check_reads (act m ps) x rest bs i worst h l = check_applies (encodes ps ++ bs) x rest i worst m (omega (arith, h.0)) h.0 (omega arith) h.1
           ∙ check_reads_all ps (Y.successors m x.state) (suc x.moves) (x.paid + Y.weight m) rest bs (suc i) worst h.2 (omega arith)
-          ∙ same_place bs rest _ _ _ _ (omega arith) (omega (arith, worst_after_strong ps (Y.successors m x.state) (x.paid + Y.weight m) worst (some_outcome m x.state h.0) h.2))
+          ∙ same_place bs rest _ _ _ _ (omega arith) (omega (arith, worst-after_strong ps (Y.successors m x.state) (x.paid + Y.weight m) worst (some_outcome m x.state h.0) h.2))
 
       pub check_reads_all : (ps : Plans) (xs : List S) (n k : ℕ) (rest : List (Pending S)) (bs : List ℕ) (i worst : ℕ) → Strongs Y ps xs → n + depths ps ≤ most →
           check_bytes Y most (encodes ps ++ bs) (map (λ s. record { state = s; moves = n; paid = k }) xs ++ rest) i worst ≡ check_bytes Y most bs rest (i + length (encodes ps)) (worst_after ps k worst)

@@ -79,15 +79,15 @@ index_projected (z ∷ zs) (b ∷ p) (x ∷ s) = index_horner z zs b p (cond (eq
     (λ e. rw (e, index_projected zs p s)) ∙ sym (index_horner z zs b p x s)
 
 -- The state at an index is an abstract state.
-state_cell_fits : (b : Bool) (i z : ℕ) → 1 ≤ z → T (ltb (cond b (i % z) 0) z)
-state_cell_fits true i z l = lt→ltb (i % z) z (mod-lt i l)
-state_cell_fits false i z l = lt→ltb 0 z l
+state_cell-fits : (b : Bool) (i z : ℕ) → 1 ≤ z → T (ltb (cond b (i % z) 0) z)
+state_cell-fits true i z l = lt→ltb (i % z) z (mod-lt i l)
+state_cell-fits false i z l = lt→ltb 0 z l
 
 state_at-in_sizes : (zs p : List ℕ) → All (λ z. 1 ≤ z) zs → (i : ℕ) → T (in_sizes zs (state_at zs p i))
 unfolding state_at in_sizes
 state_at-in_sizes [] p h i = tt
 state_at-in_sizes (z ∷ zs) [] h i = and_in (ltb 0 z) _ (lt→ltb 0 z h.0) (state_at-in_sizes zs [] h.1 i)
-state_at-in_sizes (z ∷ zs) (b ∷ p) h i = and_in (ltb (cond (eqb b 1) (i % z) 0) z) _ (state_cell_fits (eqb b 1) i z h.0) (state_at-in_sizes zs p h.1 (cond (eqb b 1) (i / z) i))
+state_at-in_sizes (z ∷ zs) (b ∷ p) h i = and_in (ltb (cond (eqb b 1) (i % z) 0) z) _ (state_cell-fits (eqb b 1) i z h.0) (state_at-in_sizes zs p h.1 (cond (eqb b 1) (i / z) i))
 
 state_cell_kept : (b : Bool) (x : ℕ) → cond b (cond b x 0) 0 ≡ cond b x 0
 state_cell_kept true x = refl

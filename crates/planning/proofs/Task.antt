@@ -43,12 +43,12 @@ unfolding system
 task_filled t w m s l = some_map (λ x. Unit {0}) (λ o. apply o s) (action_at t m).outcomes (action_well_formed t w m l).some_outcome
 
 -- "An empty goal makes every state a goal": cells that name no variable are met by every state.
-pub nothing_named_met : (cells s : List ℕ) → All (λ y. y ≡ 255) cells → T (meets cells s)
+pub nothing_named-met : (cells s : List ℕ) → All (λ y. y ≡ 255) cells → T (meets cells s)
 unfolding meets
-nothing_named_met [] s h = tt
-nothing_named_met (y ∷ cells) [] h = tt
-nothing_named_met (y ∷ cells) (x ∷ s) h = rw h.0 (nothing_named_met cells s h.1)
+nothing_named-met [] s h = tt
+nothing_named-met (y ∷ cells) [] h = tt
+nothing_named-met (y ∷ cells) (x ∷ s) h = rw h.0 (nothing_named-met cells s h.1)
 
 pub empty_goal_met : (t : Task) → All (λ y. y ≡ 255) t.goal → (s : List ℕ) → T ((system t).goal s)
 unfolding system
-empty_goal_met t h s = nothing_named_met t.goal s h
+empty_goal_met t h s = nothing_named-met t.goal s h

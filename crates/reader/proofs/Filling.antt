@@ -16,7 +16,7 @@ use Rattle.reader.specs.Grammar.{blank}
 use Rattle.planning.proofs.Test.{by_test}
 use Rattle.task_record.proofs.Tests.{both, both_left, both_right, either, one_of}
 use Rattle.task_record.proofs.Offsets.{size_at, goal_at, start_at, pattern_at, count_at, block_at}
-use Rattle.task_record.proofs.Soundness.{every_cell_sound}
+use Rattle.task_record.proofs.Soundness.{every-cell_sound}
 use Rattle.reader.proofs.StoredCells.{inside_or_outside, blank_whole, blank_front, blank_states, blank_patterns, blank_count, blank_block}
 
 -- The numbers by which rows are judged do not fall from r to e.
@@ -217,9 +217,9 @@ module _ (r : List ℕ) (f : Filled r (variable_count r) (action_count r)) (some
       (λ t. rw t (eq-eqb (size_of r v) 0 (f.given.size_due v l (ltb-false v (variable_count r) t))))
 
   -- the start
-  pub start_cell_right : (v : ℕ) → v < 16 → cell_ok r (at_start + v) ≡ true
+  pub start-cell_right : (v : ℕ) → v < 16 → cell_ok r (at_start + v) ≡ true
   unfolding state_cell_ok
-  start_cell_right v l = let e : at_start + v - at_start ≡ v = omega arith in start_at r v l ∙ rw e (start v l)
+  start-cell_right v l = let e : at_start + v - at_start ≡ v = omega arith in start_at r v l ∙ rw e (start v l)
 
   -- the patterns
   pub pattern_cell_right : (i : ℕ) → i < 128 → cell_ok r (at_pattern 0 + i) ≡ true
@@ -257,8 +257,8 @@ module _ (r : List ℕ) (f : Filled r (variable_count r) (action_count r)) (some
       rw e (count_cell_right m h))
 
   -- every cell of the record
-  pub every_cell_right : (k : ℕ) → k < record_size → cell_ok r k ≡ true
-  every_cell_right k l =
+  pub every-cell_right : (k : ℕ) → k < record_size → cell_ok r k ≡ true
+  every-cell_right k l =
       by_test (ltb k at_sizes)
       (λ t. head_cell_right k (ltb-true k at_sizes t))
       (λ t. let a = ltb-false k at_sizes t in
@@ -272,7 +272,7 @@ module _ (r : List ℕ) (f : Filled r (variable_count r) (action_count r)) (some
       rw e (goal_at r (k - at_goal) (omega arith) ∙ f.rows.goal (k - at_goal) (omega arith)))
       (λ w. let c = ltb-false k at_start w in
       by_test (ltb k (at_pattern 0))
-      (λ x. let d = ltb-true k (at_pattern 0) x in let e : k ≡ at_start + (k - at_start) = omega arith in rw e (start_cell_right (k - at_start) (omega arith)))
+      (λ x. let d = ltb-true k (at_pattern 0) x in let e : k ≡ at_start + (k - at_start) = omega arith in rw e (start-cell_right (k - at_start) (omega arith)))
       (λ x. let d = ltb-false k (at_pattern 0) x in
       by_test (ltb k (at_action 0))
       (λ y. let g = ltb-true k (at_action 0) y in let e : k ≡ at_pattern 0 + (k - at_pattern 0) = omega arith in rw e (pattern_cell_right (k - at_pattern 0) (omega arith)))
@@ -283,4 +283,4 @@ module _ (r : List ℕ) (f : Filled r (variable_count r) (action_count r)) (some
 
   -- so it is sound
   pub filled_sound : Sound r
-  filled_sound = let w = f.whole in every_cell_sound r (omega arith) every_cell_right
+  filled_sound = let w = f.whole in every-cell_sound r (omega arith) every-cell_right

@@ -63,10 +63,10 @@ none_before_mark (x ∷ xs) = go (eqb x colon) (eqb x comma) refl (none_before_m
     go false false e ih = rw e (omega (arith, ih))
 
 -- where the mark is a colon, the first comma comes after it
-comma_after_mark : (s : List ℕ) → mark s < length s → get_or s (mark s) 0 ≡ colon → index_of comma s ≡ suc (mark s) + index_of comma (drop (suc (mark s)) s)
+comma-after_mark : (s : List ℕ) → mark s < length s → get_or s (mark s) 0 ≡ colon → index_of comma s ≡ suc (mark s) + index_of comma (drop (suc (mark s)) s)
 unfolding index_of index_of_either
-comma_after_mark [] h e = absurd (not-suc-le-zero h)
-comma_after_mark (x ∷ xs) h e = go (eqb x colon) (eqb x comma) refl refl (comma_after_mark xs) h e
+comma-after_mark [] h e = absurd (not-suc-le-zero h)
+comma-after_mark (x ∷ xs) h e = go (eqb x colon) (eqb x comma) refl refl (comma-after_mark xs) h e
   where
     go : (t u : Bool) → eqb x colon ≡ t → eqb x comma ≡ u
         → (mark xs < length xs → get_or xs (mark xs) 0 ≡ colon → index_of comma xs ≡ suc (mark xs) + index_of comma (drop (suc (mark xs)) xs))
@@ -104,7 +104,7 @@ pub first_pair_parts : (s : List ℕ) (k n : ℕ) (a b : Option ℕ) → k ≡ m
 first_pair_parts s k n a b e h c f p q =
     let one : k + 1 ≡ suc k = omega arith in
     let whole : index_of comma s ≡ k + 1 + n =
-    rw (← e, ← one, ← f) at (comma_after_mark s (rw e at h) (rw e at c)) in
+    rw (← e, ← one, ← f) at (comma-after_mark s (rw e at h) (rw e at c)) in
     let first : k ≡ index_of colon (take (k + 1 + n) s) = e ∙ sym (colon_at_mark s (k + 1 + n) (omega arith) (rw e at h) (rw e at c)) in
     let rest : drop (k + 1) (take (k + 1 + n) s) ≡ take n (drop (k + 1) s) =
     rw (take-add (k + 1) n s) (drop_at (take (k + 1) s) (take n (drop (k + 1) s)) (k + 1) (length-take-le (k + 1) s (omega arith))) in (

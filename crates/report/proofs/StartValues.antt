@@ -18,7 +18,7 @@ use Rattle.task_record.specs.State.{first_bad_value, judge_state, state_check, G
 use Rattle.task_record.specs.State as of-states
 use Rattle.task_record.specs.TaskOf.{cells_at, task_of, patterns_of, start_of}
 use Rattle.task_record.specs.declared.record.RecordCheck.{RecordCheck}
-use Rattle.task_record.specs.declared.record.RecordCheck.TheVariants as of_record
+use Rattle.task_record.specs.declared.record.RecordCheck.TheVariants as of-record
 use Rattle.task_record.specs.declared.record.StateCheck.TheVariants as of-state
 use Rattle.task_record.proofs.Scanning.{first_none}
 use Rattle.task_record.proofs.Soundness.{sound_cell}
@@ -41,10 +41,10 @@ good_passes r s g =
     let e = first_none (state_cell_ok r s 0) 0 16 (λ i l. rw (zero-add, sub-zero) (g.cell i l)) in
     rw (eq-eqb (length s) 16 g.whole, e)
 
-both_ready : (a : RecordCheck) (j : EstimateCheck) → after_record a j ≡ of-estimate.Ready → (a ≡ of_record.Sound) × (j ≡ of-estimate.Ready)
+both_ready : (a : RecordCheck) (j : EstimateCheck) → after_record a j ≡ of-estimate.Ready → (a ≡ of-record.Sound) × (j ≡ of-estimate.Ready)
 unfolding after_record
-both_ready of_record.Sound j h = (refl, h)
-both_ready (of_record.Refused n x) j h = let z : ◌≡◌ {A = ℕ} 0 1 = cc in absurd (omega arith)
+both_ready of-record.Sound j h = (refl, h)
+both_ready (of-record.Refused n x) j h = let z : ◌≡◌ {A = ℕ} 0 1 = cc in absurd (omega arith)
 
 module _ (r : List ℕ) (lent : ℕ) (ready : estimate_check r lent ≡ of-estimate.Ready) where
   pub ready_sound : Sound r

@@ -43,14 +43,14 @@ sets_nothing : (w : List ℕ) (i : ℕ) → sets [] i w ≡ []
 sets_nothing [] i = refl
 sets_nothing (a ∷ w) i = sets_nothing w (suc i)
 
-sets_after_first : (w l : List ℕ) (x i : ℕ) → sets (x ∷ l) (suc i) w ≡ x ∷ sets l i w
-sets_after_first [] l x i = refl
-sets_after_first (a ∷ w) l x i = sets_after_first w (set l i a) x (suc i)
+sets-after_first : (w l : List ℕ) (x i : ℕ) → sets (x ∷ l) (suc i) w ≡ x ∷ sets l i w
+sets-after_first [] l x i = refl
+sets-after_first (a ∷ w) l x i = sets-after_first w (set l i a) x (suc i)
 
 sets_from_start : (w old : List ℕ) → sets old 0 w ≡ take (length old) w ++ drop (length w) old
 sets_from_start w [] = sets_nothing w 0 ∙ sym (drop-nil (length w))
 sets_from_start [] (x ∷ l) = refl
-sets_from_start (a ∷ w) (x ∷ l) = sets_after_first w l a 0 ∙ ap (λ (t : List ℕ). a ∷ t) (sets_from_start w l)
+sets_from_start (a ∷ w) (x ∷ l) = sets-after_first w l a 0 ∙ ap (λ (t : List ℕ). a ∷ t) (sets_from_start w l)
 
 pub written_all : {w old new : List ℕ} {end : ℕ} → Written w 0 old new end → (end ≡ length w) × (new ≡ overwritten w old)
 unfolding overwritten

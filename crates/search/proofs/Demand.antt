@@ -9,7 +9,7 @@ use Rattle.planning.specs.PlanCheck.{most_moves}
 use Rattle.planning.specs.Search.{found}
 use Rattle.planning.specs.Table.{estimate, Small}
 use Rattle.planning.specs.Task.{system, State}
-use Rattle.planning.proofs.Answer.{found_is_optimal, over_means_above_limit, spent_means_at_least, none_means_no_plan, found_passes}
+use Rattle.planning.proofs.Answer.{found_is_optimal, over_means_above-limit, spent_means_at_least, none_means_no_plan, found_passes}
 use Rattle.planning.proofs.Estimate.{estimate_admissible}
 use Rattle.task_record.specs.Numbers.{limit_of, budget_of}
 use Rattle.task_record.specs.Record.{Sound}
@@ -24,7 +24,7 @@ use Rattle.tables.specs.RecordTables.{tables_built, tables_prepared}
 use Rattle.patterns.specs.Value.{value_of, values_of, state_value}
 use Rattle.patterns.specs.declared.estimate.EstimateCheck.TheVariants as of-estimate
 use Rattle.patterns.specs.declared.value.StateValue.TheVariants as of-value
-use Rattle.tables.proofs.BuiltTables.{buildable_built, prepared_as_built, value_after_build, finite_after_build, infinite_after_build}
+use Rattle.tables.proofs.BuiltTables.{buildable_built, prepared_as_built, value-after_build, finite_after_build, infinite_after_build}
 use Rattle.patterns.proofs.Reading.{actions_length}
 use Rattle.patterns.proofs.Refusals.{checked_ready}
 use Rattle.search.specs.Answer.{buffer_of}
@@ -43,7 +43,7 @@ module _ (r tabs s : List ℕ) where
       entries_needed (task_of r).sizes (patterns_of r) ≤ length tabs →
       state_value r s (tables_built r tabs) ≡ value_of (estimate (task_of r) (patterns_of r) (values_of r s))
   sums_as_defined good add small room =
-      value_after_build r tabs s (entries_needed (task_of r).sizes (patterns_of r))
+      value-after_build r tabs s (entries_needed (task_of r).sizes (patterns_of r))
       (buildable_built r (length tabs) (record { sound = (checked_good r s good).0; small = small; room = room })) good add
 
   -- "and for every state and every strong plan from it, whichever ending each move has, the summed estimate is at most that plan's cost."
@@ -116,7 +116,7 @@ module _ (r tabs buffer : List ℕ) where
       Strong (system (task_of r)) q (start_of r) → limit_of r < cost (system (task_of r)) q
   unfolding task_answer
   over-above-limit c h = let a = answered_means r (length tabs) (length buffer) (is_over_lem c) h in
-      over_means_above_limit (task_of r) (sound_well_formed r (ready_sound a.0)) (patterns_of r) (ready_additive r (length tabs) a.0) (budget_of r) (limit_of r)
+      over_means_above-limit (task_of r) (sound_well_formed r (ready_sound a.0)) (patterns_of r) (ready_additive r (length tabs) a.0) (budget_of r) (limit_of r)
       (start_of r) (sound_start r (ready_sound a.0)) c
       (answer-over (length buffer) (task_answer r) c a.1)
 

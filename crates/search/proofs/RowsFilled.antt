@@ -168,8 +168,8 @@ module _ (zs : List ℕ) (ps : List (List ℕ)) where
       offset_next q (yes e) h = rw e (get_or-set_same offsets p begin 0 (omega (arith, f.long)) ∙ f.begun)
       offset_next q (no k) h = get_or-set_other offsets p q begin 0 k ∙ f.offset q (earlier q p h k)
 
-      pub rows_go_on : state_count zs (get_or ps p []) ≤ 4096 → FillingRows zs ps next (set offsets p begin) (begin + n) (p + 1)
-      rows_go_on s = record {
+      pub rows-go_on : state_count zs (get_or ps p []) ≤ 4096 → FillingRows zs ps next (set offsets p begin) (begin + n) (p + 1)
+      rows-go_on s = record {
         passed = omega arith;
         long = length-set offsets p begin ∙ f.long;
         begun = omega (arith, f.begun, g.states, needed_after zs ps p l);

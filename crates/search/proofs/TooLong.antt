@@ -9,7 +9,7 @@ use Rattle.planning.proofs.Test.{by_test}
 use Rattle.task_record.specs.Record.{record_check}
 use Rattle.task_record.specs.TaskOf.{task_of, patterns_of}
 use Rattle.task_record.specs.declared.record.RecordCheck.{RecordCheck}
-use Rattle.task_record.specs.declared.record.RecordCheck.TheVariants as of_record
+use Rattle.task_record.specs.declared.record.RecordCheck.TheVariants as of-record
 use Rattle.patterns.specs.Additivity.{additivity_of}
 use Rattle.patterns.specs.Space.{first_large, entries_needed, judge_tables}
 use Rattle.patterns.specs.Estimate.{after_verdict, after_tables, after_record, judge_estimate, estimate_check}
@@ -25,18 +25,18 @@ use Rattle.search.specs.declared.entry.SearchAnswer.TheVariants as outcome
 use Rattle.search.proofs.Prepared.{search_ready, plan_ready}
 
 -- The refusals before the search have numbers below 10.
-tables_number : (zs : List ℕ) (ps : List (List ℕ)) (lent n x : ℕ) → judge_tables zs ps lent ≡ of-tables.Refused n x → n < 10
+tables-number : (zs : List ℕ) (ps : List (List ℕ)) (lent n x : ℕ) → judge_tables zs ps lent ≡ of-tables.Refused n x → n < 10
 unfolding judge_tables
-tables_number zs ps lent n x h = by_test (ltb (first_large 0 zs ps) (length ps))
+tables-number zs ps lent n x h = by_test (ltb (first_large 0 zs ps) (length ps))
     (λ e. let g = rw e at h in let k : 7 ≡ n = cc in omega arith)
     (λ e. by_test (ltb lent (entries_needed zs ps))
     (λ f. let g = rw (e, f) at h in let k : 8 ≡ n = cc in omega arith)
     (λ f. let g = rw (e, f) at h in let z : ◌≡◌ {A = ℕ} 0 1 = cc in absurd (omega arith)))
 
-verdict_number : (v : Verdict) (n x : ℕ) → after_verdict (additivity_of v) ≡ of-estimate.Refused n x → n < 10
+verdict-number : (v : Verdict) (n x : ℕ) → after_verdict (additivity_of v) ≡ of-estimate.Refused n x → n < 10
 unfolding after_verdict additivity_of
-verdict_number additive n x h = let z : ◌≡◌ {A = ℕ} 0 1 = cc in absurd (omega arith)
-verdict_number (conflict m p q) n x h = let k : 9 ≡ n = cc in omega arith
+verdict-number additive n x h = let z : ◌≡◌ {A = ℕ} 0 1 = cc in absurd (omega arith)
+verdict-number (conflict m p q) n x h = let k : 9 ≡ n = cc in omega arith
 
 judged_number : (a : TableCheck) (j : EstimateCheck) (n x : ℕ) → (a ≡ of-tables.Refused n x → n < 10) → (j ≡ of-estimate.Refused n x → n < 10) →
     after_tables a j ≡ of-estimate.Refused n x → n < 10
@@ -44,17 +44,17 @@ unfolding after_tables
 judged_number (of-tables.Fits m) j n x f g h = g h
 judged_number (of-tables.Refused m y) j n x f g h = let k : m ≡ n = cc in let l : y ≡ x = cc in f (rw (k, l))
 
-checked_number : (a : RecordCheck) (j : EstimateCheck) (n x : ℕ) → (a ≡ of_record.Refused n x → n < 10) → (j ≡ of-estimate.Refused n x → n < 10) →
+checked_number : (a : RecordCheck) (j : EstimateCheck) (n x : ℕ) → (a ≡ of-record.Refused n x → n < 10) → (j ≡ of-estimate.Refused n x → n < 10) →
     after_record a j ≡ of-estimate.Refused n x → n < 10
 unfolding after_record
-checked_number of_record.Sound j n x f g h = g h
-checked_number (of_record.Refused m y) j n x f g h = let k : m ≡ n = cc in let l : y ≡ x = cc in f (rw (k, l))
+checked_number of-record.Sound j n x f g h = g h
+checked_number (of-record.Refused m y) j n x f g h = let k : m ≡ n = cc in let l : y ≡ x = cc in f (rw (k, l))
 
-pub estimate_number : (r : List ℕ) (lent n x : ℕ) → estimate_check r lent ≡ of-estimate.Refused n x → n < 10
+pub estimate-number : (r : List ℕ) (lent n x : ℕ) → estimate_check r lent ≡ of-estimate.Refused n x → n < 10
 unfolding estimate_check judge_estimate
-estimate_number r lent n x h = checked_number (record_check r) (judge_estimate r lent) n x (record_number r n x)
+estimate-number r lent n x h = checked_number (record_check r) (judge_estimate r lent) n x (record_number r n x)
     (judged_number (judge_tables (task_of r).sizes (patterns_of r) lent) (after_verdict (additivity_of (verdict (task_of r) (patterns_of r)))) n x
-    (tables_number (task_of r).sizes (patterns_of r) lent n x) (verdict_number (verdict (task_of r) (patterns_of r)) n x)) h
+    (tables-number (task_of r).sizes (patterns_of r) lent n x) (verdict-number (verdict (task_of r) (patterns_of r)) n x)) h
 
 -- So 11 comes from the search, and planning's search has found.
 passed-estimate : (e : EstimateCheck) (y : Unit {0} → SearchAnswer) (k : ℕ) → ((n x : ℕ) → e ≡ of-estimate.Refused n x → n < 10) →
@@ -86,7 +86,7 @@ module _ (r tabs buffer : List ℕ) (k : ℕ) (h : search_answer r (length tabs)
   refused_by_search : (estimate_check r (length tabs) ≡ of-estimate.Ready) × (search_of (length buffer) (task_answer r) ≡ outcome.Refused 11 k)
   unfolding search_answer
   refused_by_search = passed-estimate (estimate_check r (length tabs)) (λ u. search_of (length buffer) (task_answer r)) k
-      (estimate_number r (length tabs)) h
+      (estimate-number r (length tabs)) h
 
   -- "bytes needed": more than were lent, and with as many the same search answers found.
   pub too_long_needs : (length buffer < k) × ((d : ℕ) × ((c : ℕ) × (search_answer r (length tabs) k ≡ outcome.Found d c k)))

@@ -21,18 +21,18 @@ mask-cell-fits : (b : Bool) (y z : ℕ) → T (eqb y 255 || ltb y z) → T (eqb 
 mask-cell-fits true y z t = t
 mask-cell-fits false y z t = tt
 
-mask_cell_beyond : (b : Bool) (y : ℕ) → T (eqb y 255) → T (eqb (cond b y 255) 255)
-mask_cell_beyond true y t = t
-mask_cell_beyond false y t = tt
+mask-cell_beyond : (b : Bool) (y : ℕ) → T (eqb y 255) → T (eqb (cond b y 255) 255)
+mask-cell_beyond true y t = t
+mask-cell_beyond false y t = tt
 
-pub mask_cells_fit : (p zs o : List ℕ) → T (all_cells_fit zs o) → T (all_cells_fit zs (mask p o))
+pub mask-cells_fit : (p zs o : List ℕ) → T (all_cells_fit zs o) → T (all_cells_fit zs (mask p o))
 unfolding all_cells_fit keep
-mask_cells_fit p zs [] t = tt
-mask_cells_fit [] [] (y ∷ o) t = mask_cells_fit [] [] o (and_r (eqb y 255) _ t)
-mask_cells_fit (b ∷ p) [] (y ∷ o) t = and_in (eqb (cond (eqb b 1) y 255) 255) _ (mask_cell_beyond (eqb b 1) y (and_l (eqb y 255) _ t)) (mask_cells_fit p [] o (and_r (eqb y 255) _ t))
-mask_cells_fit [] (z ∷ zs) (y ∷ o) t = mask_cells_fit [] zs o (and_r (eqb y 255 || ltb y z) _ t)
-mask_cells_fit (b ∷ p) (z ∷ zs) (y ∷ o) t = and_in (eqb (cond (eqb b 1) y 255) 255 || ltb (cond (eqb b 1) y 255) z) _
-    (mask-cell-fits (eqb b 1) y z (and_l (eqb y 255 || ltb y z) _ t)) (mask_cells_fit p zs o (and_r (eqb y 255 || ltb y z) _ t))
+mask-cells_fit p zs [] t = tt
+mask-cells_fit [] [] (y ∷ o) t = mask-cells_fit [] [] o (and_r (eqb y 255) _ t)
+mask-cells_fit (b ∷ p) [] (y ∷ o) t = and_in (eqb (cond (eqb b 1) y 255) 255) _ (mask-cell_beyond (eqb b 1) y (and_l (eqb y 255) _ t)) (mask-cells_fit p [] o (and_r (eqb y 255) _ t))
+mask-cells_fit [] (z ∷ zs) (y ∷ o) t = mask-cells_fit [] zs o (and_r (eqb y 255 || ltb y z) _ t)
+mask-cells_fit (b ∷ p) (z ∷ zs) (y ∷ o) t = and_in (eqb (cond (eqb b 1) y 255) 255 || ltb (cond (eqb b 1) y 255) z) _
+    (mask-cell-fits (eqb b 1) y z (and_l (eqb y 255 || ltb y z) _ t)) (mask-cells_fit p zs o (and_r (eqb y 255 || ltb y z) _ t))
 
 -- A kept digit of the pattern is not named.
 kept_cell : (b y : ℕ) → bit_and (leaving y) (picking b) ≡ picking b → (eqb b 1 && not (eqb y 255)) ≡ false
@@ -79,7 +79,7 @@ weigh-index w (z ∷ zs) (q ∷ p) (x ∷ s) b o = let d : x % 16 < 16 = omega a
 
 module _ (t : Task) (k : Packable t) (p : List ℕ) (q : Action → ℕ) where
   masked_test : (c s : List ℕ) → T (all_cells_fit t.sizes c) → State t s → eqb (bit_and (pack_by low s) (bit_and (pack_by naming c) (pack_by picking p))) (bit_and (pack_by setting c) (pack_by picking p)) ≡ meets (mask p c) s
-  masked_test c s f o = rw (pack-keep naming naming-digit 255 refl p c, pack-keep setting setting-digit 255 refl p c) (mask_test t.sizes (mask p c) s k.values_few (mask_cells_fit p t.sizes c f) o)
+  masked_test c s f o = rw (pack-keep naming naming-digit 255 refl p c, pack-keep setting setting-digit 255 refl p c) (mask_test t.sizes (mask p c) s k.values_few (mask-cells_fit p t.sizes c f) o)
 
   pub goal_is : (s : List ℕ) → State t s → is_goal (compiled t) (pack_by picking p) (pack_by low s) ≡ (system (abstraction p q t)).goal s
   unfolding is_goal system abstraction

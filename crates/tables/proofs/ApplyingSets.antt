@@ -12,7 +12,7 @@ use Rattle.tables.specs.Sets.{set_from, lowest_need, need_at, action_need, suits
 use Rattle.tables.proofs.Packing.{digits_equal, beyond_naming, pack-keep, naming-digit, setting-digit}
 use Rattle.tables.proofs.Compiled.{pre_mask_is, pre_value_is}
 use Rattle.tables.proofs.Simulating.{packable_action}
-use Rattle.tables.proofs.Abstracted.{mask_cells_fit}
+use Rattle.tables.proofs.Abstracted.{mask-cells_fit}
 use Rattle.tables.proofs.SetWords.{set_same, set_meet, set_whole}
 
 -- A precondition as two words whose digits are whole: 15 where it names a variable, and 0 in both words where it does not.
@@ -129,7 +129,7 @@ module _ (t : Task) (k : Packable t) (n : ℕ) (wide : length t.sizes ≤ n) whe
   pub pattern_parted : (p : List ℕ) → Parted (compiled t) (pack_by picking p) (length t.actions) n
   pattern_parted p = record {
     whole = λ m l. rw (pre_mask_is t k.actions_few m l, pre_value_is t k.actions_few m l, pack-keep naming naming-digit 255 refl p (action_at t m).precondition, pack-keep setting setting-digit 255 refl p (action_at t m).precondition)
-        (whole_cells t.sizes (mask p (action_at t m).precondition) n (mask_cells_fit p t.sizes (action_at t m).precondition (packable_action t k m l).precondition_fits) wide);
+        (whole_cells t.sizes (mask p (action_at t m).precondition) n (mask-cells_fit p t.sizes (action_at t m).precondition (packable_action t k m l).precondition_fits) wide);
   }
 
   -- Every digit counts: the actions that are enabled.

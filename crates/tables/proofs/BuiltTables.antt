@@ -158,11 +158,11 @@ module _ (r tabs : List ℕ) where
         tables_left_lem m.0.0 (judged_built r (length tabs) m.0.0 (checked_good r s a.0).0 m.0.1)
 
     -- "It is the summed estimate of demand 3."
-    pub value_after_build : (n : ℕ) → table_build r (length tabs) ≡ Ok n → state_check r s ≡ Ok tt →
+    pub value-after_build : (n : ℕ) → table_build r (length tabs) ≡ Ok n → state_check r s ≡ Ok tt →
         Additive (task_of r) (patterns_of r) →
         state_value r s (tables_built r tabs) ≡ Ok (value_of (estimate (task_of r) (patterns_of r) (values_of r s)))
     unfolding built_over
-    value_after_build n built good add = rw (tables_left_lem n built)
+    value-after_build n built good add = rw (tables_left_lem n built)
         (call_on_built r s (drop (entries_needed (task_of r).sizes (patterns_of r)) tabs) good (buildable n built).small add)
 
     -- "Demand 3 holds of it for tables just as the build of the same task left them": a finite value is at most the cost of every strong

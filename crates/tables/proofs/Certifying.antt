@@ -18,8 +18,8 @@ pub guessed : (weights states entries : List ℕ) (g z : ℕ) → Indexed weight
 guessed weights states entries g z x l e = let q : weigh weights z ≡ g = rw (sym e) (x.place g l) in rw q (inside entries g 0 65535 l)
 
 -- What is left of a set is less.
-pub set_falls : (w : ℕ) → (w ≡ 0 → ⊥) → bit_and w (w - 1) < w
-set_falls w h = let l = and_le_r w (w - 1) in omega arith
+pub set-falls : (w : ℕ) → (w ≡ 0 → ⊥) → bit_and w (w - 1) < w
+set-falls w h = let l = and_le_r w (w - 1) in omega arith
 
 -- What an action says, judged. A limit that is reached by the largest entry is reached by what the action says of the state.
 pub judged_high : (e w x v : ℕ) → e ≤ 65535 → Below e x v → e ≤ v → Judged (raised w x) e 2

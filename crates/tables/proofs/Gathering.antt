@@ -24,5 +24,5 @@ pub gathered_all : (f : ℕ → Bool) (m n set bit : ℕ) → m ≤ n → n ≤ 
 gathered_all f m n set bit l h g = let e : m ≡ n = omega arith in rw e at g.so_far
 
 -- What is left of a set is less.
-pub set_falls : (w : ℕ) → (w ≡ 0 → ⊥) → bit_and w (w - 1) < w
-set_falls w h = let l = and_le_r w (w - 1) in omega arith
+pub set-falls : (w : ℕ) → (w ≡ 0 → ⊥) → bit_and w (w - 1) < w
+set-falls w h = let l = and_le_r w (w - 1) in omega arith

@@ -133,12 +133,12 @@ pub rows_start : (slots sets : List ℕ) → FillingRows slots sets sets 0
 rows_start slots sets = record { rows = λ p l h. absurd (omega arith); rest = λ i l. refl }
 
 module _ {slots old sets : List ℕ} {q : ℕ} (f : FillingRows slots old sets q) where
-  rows_after : {new : List ℕ} → RowFilled slots sets new q → (p l : ℕ) → Dec (p ≡ q) → p < q + 1 → l < 16 → get_or new (16 * p + l) 0 ≡ slot_meet slots (p / 16) (p % 16) l
-  rows_after g p l (yes e) h i = rw e (g.row l i)
-  rows_after g p l (no n) h i = let k : p < q = omega arith in g.kept (16 * p + l) (omega arith) ∙ f.rows p l k i
+  rows-after : {new : List ℕ} → RowFilled slots sets new q → (p l : ℕ) → Dec (p ≡ q) → p < q + 1 → l < 16 → get_or new (16 * p + l) 0 ≡ slot_meet slots (p / 16) (p % 16) l
+  rows-after g p l (yes e) h i = rw e (g.row l i)
+  rows-after g p l (no n) h i = let k : p < q = omega arith in g.kept (16 * p + l) (omega arith) ∙ f.rows p l k i
 
-  pub rows_go_on : {new : List ℕ} → RowFilled slots sets new q → FillingRows slots old new (q + 1)
-  rows_go_on g = record { rows = λ p l. rows_after g p l (ℕ_discrete p q); rest = λ i h. g.rest i (omega arith) ∙ f.rest i (omega arith) }
+  pub rows-go_on : {new : List ℕ} → RowFilled slots sets new q → FillingRows slots old new (q + 1)
+  rows-go_on g = record { rows = λ p l. rows-after g p l (ℕ_discrete p q); rest = λ i h. g.rest i (omega arith) ∙ f.rest i (omega arith) }
 
   row_of_byte : (bytes b x : ℕ) → 16 * bytes ≤ q → b < bytes → x < 256 → get_or sets (256 * b + x) 0 ≡ slot_meet slots b (x / 16) (x % 16)
   row_of_byte bytes b x l h i = let e : 16 * (16 * b + x / 16) + x % 16 ≡ 256 * b + x = omega arith in let d : (16 * b + x / 16) / 16 ≡ b = omega arith in

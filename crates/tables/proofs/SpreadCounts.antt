@@ -71,8 +71,8 @@ module _ (r tabs row : List ℕ) (p n : ℕ) (counted : table_spread r p (length
   pub none_counted : pattern_count r ≤ p → take row_size left ≡ replicate row_size 0
   none_counted l = counts_left ∙ ap spread (none_named r p l) ∙ law.spread_of_none
 
-  below_number : ltb p (pattern_count r) ≡ true → p < length (patterns_of r)
-  below_number e = rw (patterns_length r) (ltb-true p (pattern_count r) e)
+  below-number : ltb p (pattern_count r) ≡ true → p < length (patterns_of r)
+  below-number e = rw (patterns_length r) (ltb-true p (pattern_count r) e)
 
   few : p < length (patterns_of r) → state_count (task_of r).sizes (get_or (patterns_of r) p []) ≤ 4096
   unfolding Small
@@ -81,7 +81,7 @@ module _ (r tabs row : List ℕ) (p n : ℕ) (counted : table_spread r p (length
   costs_bounded : EntriesBelow (suc most_cost) (costs_named r p)
   unfolding costs_named
   costs_bounded = by_test (ltb p (pattern_count r))
-      (λ e. rw e (light_entries_bounded (task_of r) (unit_weights r) (get_or (patterns_of r) p []) (few (below_number e))))
+      (λ e. rw e (light_entries_bounded (task_of r) (unit_weights r) (get_or (patterns_of r) p []) (few (below-number e))))
       (λ e. rw e (λ i k f. let z : ◌≡◌ {A = ℕ} 0 1 = cc in absurd (omega arith)))
 
   costs_counted : length (costs_named r p) ≡ n

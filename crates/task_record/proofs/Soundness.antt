@@ -30,9 +30,9 @@ module _ (r : List ℕ) (sound : Sound r) where
   sound_sizes = first_none (cell_ok r) at_sizes 16 (λ i l. sound_cell (at_sizes + i) (omega arith))
 
 -- And nothing else.
-pub every_cell_sound : (r : List ℕ) → record_size ≤ length r → ((k : ℕ) → k < record_size → cell_ok r k ≡ true) → Sound r
+pub every-cell_sound : (r : List ℕ) → record_size ≤ length r → ((k : ℕ) → k < record_size → cell_ok r k ≡ true) → Sound r
 unfolding Sound record_check first_bad
-every_cell_sound r long all =
+every-cell_sound r long all =
     let e = first_none (cell_ok r) 0 record_size (λ i l. rw zero-add (all i l)) in
     rw (le-ltb (length r) record_size long, e)
 

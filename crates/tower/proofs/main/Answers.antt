@@ -12,5 +12,5 @@ use Rattle.tower.proofs.main.Goals as goal
 holds : (plan old new : List ℕ) (n m end : ℕ) → length plan ≡ n → length old ≡ m → length new ≡ length old → 4 * n + 256 ≤ m → end ≤ 4 * length plan + 256 → end ≤ length new
 holds plan old new n m end p o k l e = omega arith
 
-pub slice_bounds_out_end : goal.slice_bounds-out-end
-slice_bounds_out_end c = holds (replicate 65536 0) (replicate 262400 0) c.report_text-end.new.out 65536 262400 _ (length-replicate {A = ℕ} 65536 0) (length-replicate {A = ℕ} 262400 0) c.report_text-end.auto.out (omega arith) c.report_text-end.ensures.4
+pub slice_bounds-out-end : goal.slice_bounds-out-end
+slice_bounds-out-end c = holds (replicate 65536 0) (replicate 262400 0) c.report_text-end.new.out 65536 262400 _ (length-replicate {A = ℕ} 65536 0) (length-replicate {A = ℕ} 262400 0) c.report_text-end.auto.out (omega arith) c.report_text-end.ensures.4

@@ -4,8 +4,8 @@ use mathlib.Core.Path.{◌≡◌}
 use lib.ListN.{length}
 use Rattle.tower.proofs.read_full.Given as goal
 
-abbrev pub invariant_loop_done : goal.invariant-loop-done
-invariant_loop_done g l = (length l.buffer ≡ length l.initial.buffer) × (l.done ≤ length l.buffer)
+abbrev pub invariant-loop-done : goal.invariant-loop-done
+invariant-loop-done g l = (length l.buffer ≡ length l.initial.buffer) × (l.done ≤ length l.buffer)
 
-abbrev pub decreases_loop_done : goal.decreases-loop-done
-decreases_loop_done g l = length l.initial.buffer - l.done
+abbrev pub decreases-loop-done : goal.decreases-loop-done
+decreases-loop-done g l = length l.initial.buffer - l.done

@@ -4,8 +4,8 @@ use mathlib.Core.Path.{◌≡◌}
 use lib.ListN.{length}
 use Rattle.vectors.proofs.run_lines.Given as goal
 
-abbrev pub invariant_loop_at : goal.invariant-loop-at
-invariant_loop_at g l = (length l.input ≡ length l.initial.input) × (length l.rec ≡ length l.initial.rec) × (length l.tables ≡ length l.initial.tables) × (length l.plan ≡ length l.initial.plan) × (length l.numbers ≡ length l.initial.numbers)
+abbrev pub invariant-loop-at : goal.invariant-loop-at
+invariant-loop-at g l = (length l.input ≡ length l.initial.input) × (length l.rec ≡ length l.initial.rec) × (length l.tables ≡ length l.initial.tables) × (length l.plan ≡ length l.initial.plan) × (length l.numbers ≡ length l.initial.numbers)
 
-abbrev pub decreases_loop_at : goal.decreases-loop-at
-decreases_loop_at g l = length l.initial.input - l.at
+abbrev pub decreases-loop-at : goal.decreases-loop-at
+decreases-loop-at g l = length l.initial.input - l.at

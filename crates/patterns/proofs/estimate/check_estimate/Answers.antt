@@ -6,8 +6,8 @@ use Rattle.patterns.proofs.ByLines.{estimate_told}
 use borrow.Author.Rules.{rules}
 use Rattle.patterns.proofs.estimate.check_estimate.Goals as goal
 
-pub returns_in_err_check_record_clause_numbers : goal.returns-in_err-check_record-clause-numbers
-returns_in_err_check_record_clause_numbers c = let e : c.from_residual.result ≡ estimate_check c.args.rec.now c.args.lent = search rules in ap estimate_numbers e ∙ estimate_told c.args.rec.now c.args.lent
+pub returns-in_err-check_record-clause-numbers : goal.returns-in_err-check_record-clause-numbers
+returns-in_err-check_record-clause-numbers c = let e : c.from_residual.result ≡ estimate_check c.args.rec.now c.args.lent = search rules in ap estimate_numbers e ∙ estimate_told c.args.rec.now c.args.lent
 
-pub returns_clause_numbers : goal.returns-clause-numbers
-returns_clause_numbers c = let e : c.judge_estimate.result ≡ estimate_check c.args.rec.now c.args.lent = search rules in ap estimate_numbers e ∙ estimate_told c.args.rec.now c.args.lent
+pub returns-clause-numbers : goal.returns-clause-numbers
+returns-clause-numbers c = let e : c.judge_estimate.result ≡ estimate_check c.args.rec.now c.args.lent = search rules in ap estimate_numbers e ∙ estimate_told c.args.rec.now c.args.lent

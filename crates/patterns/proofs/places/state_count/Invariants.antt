@@ -4,8 +4,8 @@ use lib.ListN.{length}
 use Rattle.patterns.proofs.Weights.{Counting}
 use Rattle.patterns.proofs.places.state_count.Given as goal
 
-abbrev pub invariant_loop_v : goal.invariant-loop-v
-invariant_loop_v l = Counting l.sizes l.pattern l.weight l.v × (l.weight ≤ 4096)
+abbrev pub invariant-loop-v : goal.invariant-loop-v
+invariant-loop-v l = Counting l.sizes l.pattern l.weight l.v × (l.weight ≤ 4096)
 
-abbrev pub decreases_loop_v : goal.decreases-loop-v
-decreases_loop_v l = length l.sizes - l.v
+abbrev pub decreases-loop-v : goal.decreases-loop-v
+decreases-loop-v l = length l.sizes - l.v

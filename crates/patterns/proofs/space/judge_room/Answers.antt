@@ -12,38 +12,38 @@ use Rattle.patterns.proofs.Room.{adding_start, adding_small, judged_large, judge
 use Rattle.patterns.proofs.Sizes.{sizes_few, sizes_positive, pattern_whole}
 use Rattle.patterns.proofs.space.judge_room.Goals as goal
 
-pub loop_p_init : goal.loop-p-init
-loop_p_init c = let r = c.args.rec.now in adding_start (task_of r).sizes (patterns_of r)
+pub loop-p-init : goal.loop-p-init
+loop-p-init c = let r = c.args.rec.now in adding_start (task_of r).sizes (patterns_of r)
 
-pub state_count_requires : goal.state_count-requires
-state_count_requires c = let r = c.args.rec.now in let l = c.loop-p in
+pub state_count-requires : goal.state_count-requires
+state_count-requires c = let r = c.args.rec.now in let l = c.loop-p in
     let t : l.p < pattern_count r = rw c.pattern_count-p-end.ensures at c.loop-p-test.true in
     let f = sizes_few r c.requires.0 in let w = pattern_whole r c.requires.0 l.p t in
     rw (c.requires.1, c.pattern_cells.ensures) (sizes_positive r c.requires.0, omega arith)
 
-pub returns_in_default : goal.returns-in_default
-returns_in_default c = let r = c.args.rec.now in let l = c.loop-p in
+pub returns-in_default : goal.returns-in_default
+returns-in_default c = let r = c.args.rec.now in let l = c.loop-p in
     let t : l.p < pattern_count r = rw c.pattern_count-p-end.ensures at c.loop-p-test.true in
     let q : c.pattern_cells.result.now ≡ get_or (patterns_of r) l.p [] = c.pattern_cells.ensures ∙ sym (pattern_at r l.p t) in
     let k = rw (c.requires.1, q) at c.in_default.ensures.large in
     rw c.from.ensures (sym (judged_large (task_of r).sizes (patterns_of r) l.needed l.p l.invariant c.args.lent (rw (patterns_length r) t) k))
 
-pub overflow_add_needed : goal.overflow_add-needed
-overflow_add_needed c = let r = c.args.rec.now in let l = c.loop-p in let k = patterns_right r c.requires.0 in
+pub overflow_add-needed : goal.overflow_add-needed
+overflow_add-needed c = let r = c.args.rec.now in let l = c.loop-p in let k = patterns_right r c.requires.0 in
     let t : l.p < pattern_count r = rw c.pattern_count-p-end.ensures at c.loop-p-test.true in omega (arith, l.invariant.bounded, c.in-Some.ensures.small)
 
-pub loop_p_preserved : goal.loop-p-preserved
-loop_p_preserved c = let r = c.args.rec.now in let l = c.loop-p in
+pub loop-p-preserved : goal.loop-p-preserved
+loop-p-preserved c = let r = c.args.rec.now in let l = c.loop-p in
     let t : l.p < pattern_count r = rw c.pattern_count-p-end.ensures at c.loop-p-test.true in
     let q : c.pattern_cells.result.now ≡ get_or (patterns_of r) l.p [] = c.pattern_cells.ensures ∙ sym (pattern_at r l.p t) in
     let k = rw (c.requires.1, q) at c.in-Some.ensures.small in
     rw k.0 (adding_small (task_of r).sizes (patterns_of r) l.needed l.p l.invariant (rw (patterns_length r) t) (omega (arith, k)))
 
-pub loop_p_smaller : goal.loop-p-smaller
-loop_p_smaller c = rw (← c.pattern_count-p-end.ensures) (omega arith)
+pub loop-p-smaller : goal.loop-p-smaller
+loop-p-smaller c = rw (← c.pattern_count-p-end.ensures) (omega arith)
 
-pub returns_then_lent_needed : goal.returns-then-lent-needed
-returns_then_lent_needed c = let r = c.args.rec.now in let l = c.loop-p in
+pub returns-then-lent-needed : goal.returns-then-lent-needed
+returns-then-lent-needed c = let r = c.args.rec.now in let l = c.loop-p in
     let t : pattern_count r ≤ l.p = rw c.pattern_count-p-end.ensures at c.loop-p-test.false in
     sym (judged_short (task_of r).sizes (patterns_of r) l.needed l.p l.invariant c.args.lent (rw (patterns_length r) t) c.if-lent-needed.true)
 

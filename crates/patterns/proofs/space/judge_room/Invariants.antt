@@ -5,8 +5,8 @@ use Rattle.task_record.specs.TaskOf.{task_of, patterns_of}
 use Rattle.patterns.proofs.Room.{Adding}
 use Rattle.patterns.proofs.space.judge_room.Given as goal
 
-abbrev pub invariant_loop_p : goal.invariant-loop-p
-invariant_loop_p l = Adding (task_of l.rec).sizes (patterns_of l.rec) l.needed l.p
+abbrev pub invariant-loop-p : goal.invariant-loop-p
+invariant-loop-p l = Adding (task_of l.rec).sizes (patterns_of l.rec) l.needed l.p
 
-abbrev pub decreases_loop_p : goal.decreases-loop-p
-decreases_loop_p l = pattern_count l.rec - l.p
+abbrev pub decreases-loop-p : goal.decreases-loop-p
+decreases-loop-p l = pattern_count l.rec - l.p

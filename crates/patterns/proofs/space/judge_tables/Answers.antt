@@ -9,17 +9,17 @@ use Rattle.task_record.proofs.Soundness.{sound_length}
 use Rattle.patterns.proofs.Sizes.{variables_few}
 use Rattle.patterns.proofs.space.judge_tables.Goals as goal
 
-pub slice_bounds_judge_room_end : goal.slice_bounds-judge_room-end
-slice_bounds_judge_room_end c =
+pub slice_bounds-judge_room-end : goal.slice_bounds-judge_room-end
+slice_bounds-judge_room-end c =
     let pre = c.requires in
     let args = c.args in
     let variable-count = c.variable_count in
     let from = c.from-end in
     let r = args.rec.now in let n = sound_length r pre in let f = variables_few r pre in let w = from.ensures ∙ variable-count.ensures in omega arith
 
-pub judge_room_requires : goal.judge_room-requires
+pub judge_room-requires : goal.judge_room-requires
 unfolding task_of
-judge_room_requires c =
+judge_room-requires c =
     let pre = c.requires in
     let args = c.args in
     let variable-count = c.variable_count in

@@ -5,11 +5,11 @@ use Rattle.task_record.proofs.Sixteens.{filled_next}
 use Rattle.patterns.proofs.Sizes.{sixteen_are_sizes}
 use Rattle.patterns.proofs.space.sizes_of.Goals as goal
 
-pub loop_v_init : goal.loop-v-init
-loop_v_init c = (refl, λ k h. absurd (omega arith))
+pub loop-v-init : goal.loop-v-init
+loop-v-init c = (refl, λ k h. absurd (omega arith))
 
-pub loop_v_preserved : goal.loop-v-preserved
-loop_v_preserved c = let l = c.loop-v in let r = c.args.rec.now in
+pub loop-v-preserved : goal.loop-v-preserved
+loop-v-preserved c = let l = c.loop-v in let r = c.args.rec.now in
     (simp length-set l.invariant.0, filled_next (size_of r) l.size-items l.v c.size_of.result (omega arith) c.size_of.ensures l.invariant.1)
 
 pub returns : goal.returns

@@ -3,5 +3,5 @@ use Rattle.std.proofs.Common.{◌≡◌, ℕ, ◌<◌, length, get_or}
 use Rattle.task_record.specs.Numbers.{size_of}
 use Rattle.patterns.proofs.space.sizes_of.Given as goal
 
-abbrev pub invariant_loop_v : goal.invariant-loop-v
-invariant_loop_v l = (length l.size-items ≡ 16) × ((k : ℕ) → k < l.v → get_or l.size-items k 0 ≡ size_of l.rec k)
+abbrev pub invariant-loop-v : goal.invariant-loop-v
+invariant-loop-v l = (length l.size-items ≡ 16) × ((k : ℕ) → k < l.v → get_or l.size-items k 0 ≡ size_of l.rec k)

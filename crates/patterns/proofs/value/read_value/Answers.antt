@@ -16,16 +16,16 @@ use Rattle.patterns.proofs.Room.{fits_small, fits_room}
 use Rattle.patterns.proofs.Sizes.{variables_few}
 use Rattle.patterns.proofs.value.read_value.Goals as goal
 
-pub slice_bounds_sum_entries_end : goal.slice_bounds-sum_entries-end
-slice_bounds_sum_entries_end c =
+pub slice_bounds-sum_entries-end : goal.slice_bounds-sum_entries-end
+slice_bounds-sum_entries-end c =
     let pre = c.requires in
     let args = c.args in
     let variables = c.variable_count in
     let from = c.from-variables in
     let r = args.rec.now in let g = checked_good r args.state.now pre.0 in let n = sound_length r g.0 in let f = variables_few r g.0 in let w = from.ensures ∙ variables.ensures in omega arith
 
-pub slice_bounds_sum_entries_end_2 : goal.slice_bounds-sum_entries-end-2
-slice_bounds_sum_entries_end_2 c =
+pub slice_bounds-sum_entries-end-2 : goal.slice_bounds-sum_entries-end-2
+slice_bounds-sum_entries-end-2 c =
     let pre = c.requires in
     let args = c.args in
     let variables = c.variable_count in
@@ -33,9 +33,9 @@ slice_bounds_sum_entries_end_2 c =
     let r = args.rec.now in let g = checked_good r args.state.now pre.0 in
     sym (length-take-le _ _ (rw (from.ensures, variables.ensures, g.1.whole) (variables_few r g.0)))
 
-pub sum_entries_requires : goal.sum_entries-requires
+pub sum_entries-requires : goal.sum_entries-requires
 unfolding Small task_of
-sum_entries_requires c =
+sum_entries-requires c =
     let pre = c.requires in
     let args = c.args in
     let variables = c.variable_count in

@@ -16,45 +16,45 @@ use Rattle.patterns.proofs.Sizes.{state_length, sizes_few, sizes_positive, patte
 use Rattle.patterns.proofs.Summing.{summing_start, summing_done, place_inside, table_inside, summing_finite, summing_infinite}
 use Rattle.patterns.proofs.value.sum_entries.Goals as goal
 
-pub loop_p_init : goal.loop-p-init
-loop_p_init c = let r = c.args.rec.now in summing_start (task_of r).sizes (patterns_of r) c.args.state.now c.args.tables.now c.requires.4
+pub loop-p-init : goal.loop-p-init
+loop-p-init c = let r = c.args.rec.now in summing_start (task_of r).sizes (patterns_of r) c.args.state.now c.args.tables.now c.requires.4
 
-pub place_of_place_requires : goal.place_of-place-requires
+pub place_of-place-requires : goal.place_of-place-requires
 unfolding Small
-place_of_place_requires c = let r = c.args.rec.now in let s = c.args.state.now in let l = c.loop-p in
+place_of-place-requires c = let r = c.args.rec.now in let s = c.args.state.now in let l = c.loop-p in
     let t : l.p < pattern_count r = rw c.pattern_count-p-end.ensures at c.loop-p-test.true in
     let m : l.p < length (patterns_of r) = rw (patterns_length r) t in
     let f = sizes_few r c.requires.0 in let w = pattern_whole r c.requires.0 l.p t in let n = state_length (task_of r).sizes s c.requires.2 in
     let k = rw (pattern_at r l.p t) at (all_at (λ x. state_count (task_of r).sizes x ≤ 4096) (patterns_of r) [] c.requires.3 l.p m) in
     rw (c.requires.1, c.pattern_cells.ensures) (sizes_positive r c.requires.0, f, omega arith, omega arith, k)
 
-pub overflow_add_at : goal.overflow_add-at
-overflow_add_at c = let r = c.args.rec.now in let s = c.args.state.now in let l = c.loop-p in
+pub overflow_add-at : goal.overflow_add-at
+overflow_add-at c = let r = c.args.rec.now in let s = c.args.state.now in let l = c.loop-p in
     let t : l.p < pattern_count r = rw c.pattern_count-p-end.ensures at c.loop-p-test.true in
     let m : l.p < length (patterns_of r) = rw (patterns_length r) t in
     let q : c.pattern_cells.result.now ≡ get_or (patterns_of r) l.p [] = c.pattern_cells.ensures ∙ sym (pattern_at r l.p t) in
     let i : c.place_of-place.result.index ≡ index (task_of r).sizes (get_or (patterns_of r) l.p []) s = c.place_of-place.ensures.0 ∙ ap₂ (λ z x. index z x s) c.requires.1 q in
     let n = place_inside (task_of r).sizes (patterns_of r) s c.args.tables.now l.sum l.begin l.p l.invariant m c.requires.2 in omega arith
 
-pub offset_bounds_tables_at : goal.offset_bounds-tables-at
-offset_bounds_tables_at c = let r = c.args.rec.now in let s = c.args.state.now in let l = c.loop-p in
+pub offset_bounds-tables-at : goal.offset_bounds-tables-at
+offset_bounds-tables-at c = let r = c.args.rec.now in let s = c.args.state.now in let l = c.loop-p in
     let t : l.p < pattern_count r = rw c.pattern_count-p-end.ensures at c.loop-p-test.true in
     let m : l.p < length (patterns_of r) = rw (patterns_length r) t in
     let q : c.pattern_cells.result.now ≡ get_or (patterns_of r) l.p [] = c.pattern_cells.ensures ∙ sym (pattern_at r l.p t) in
     let i : c.place_of-place.result.index ≡ index (task_of r).sizes (get_or (patterns_of r) l.p []) s = c.place_of-place.ensures.0 ∙ ap₂ (λ z x. index z x s) c.requires.1 q in
     let n = place_inside (task_of r).sizes (patterns_of r) s c.args.tables.now l.sum l.begin l.p l.invariant m c.requires.2 in omega arith
 
-pub bounds_tables_at : goal.bounds-tables-at
-bounds_tables_at c = let r = c.args.rec.now in let s = c.args.state.now in let l = c.loop-p in
+pub bounds-tables-at : goal.bounds-tables-at
+bounds-tables-at c = let r = c.args.rec.now in let s = c.args.state.now in let l = c.loop-p in
     let t : l.p < pattern_count r = rw c.pattern_count-p-end.ensures at c.loop-p-test.true in
     let m : l.p < length (patterns_of r) = rw (patterns_length r) t in
     let q : c.pattern_cells.result.now ≡ get_or (patterns_of r) l.p [] = c.pattern_cells.ensures ∙ sym (pattern_at r l.p t) in
     let i : c.place_of-place.result.index ≡ index (task_of r).sizes (get_or (patterns_of r) l.p []) s = c.place_of-place.ensures.0 ∙ ap₂ (λ z x. index z x s) c.requires.1 q in
     let n = place_inside (task_of r).sizes (patterns_of r) s c.args.tables.now l.sum l.begin l.p l.invariant m c.requires.2 in omega arith
 
-pub returns_then_e_eq65535 : goal.returns-then-e-eq65535
+pub returns-then-e-eq65535 : goal.returns-then-e-eq65535
 unfolding value_of
-returns_then_e_eq65535 c = let r = c.args.rec.now in let s = c.args.state.now in let l = c.loop-p in
+returns-then-e-eq65535 c = let r = c.args.rec.now in let s = c.args.state.now in let l = c.loop-p in
     let t : l.p < pattern_count r = rw c.pattern_count-p-end.ensures at c.loop-p-test.true in
     let m : l.p < length (patterns_of r) = rw (patterns_length r) t in
     let q : c.pattern_cells.result.now ≡ get_or (patterns_of r) l.p [] = c.pattern_cells.ensures ∙ sym (pattern_at r l.p t) in
@@ -62,23 +62,23 @@ returns_then_e_eq65535 c = let r = c.args.rec.now in let s = c.args.state.now in
     let e : c.from-e.result ≡ get_or c.args.tables.now (l.begin + index (task_of r).sizes (get_or (patterns_of r) l.p []) s) 0 = c.from-e.ensures ∙ ap (λ x. get_or c.args.tables.now (l.begin + x) 0) i in
     sym (ap value_of (summing_infinite (task_of r).sizes (patterns_of r) s c.args.tables.now l.sum l.begin l.p l.invariant m c.requires.2 (sym e ∙ c.if-e-eq65535.true)))
 
-pub overflow_add_sum : goal.overflow_add-sum
-overflow_add_sum c = let r = c.args.rec.now in let l = c.loop-p in let k = patterns_right r c.requires.0 in
+pub overflow_add-sum : goal.overflow_add-sum
+overflow_add-sum c = let r = c.args.rec.now in let l = c.loop-p in let k = patterns_right r c.requires.0 in
     let t : l.p < pattern_count r = rw c.pattern_count-p-end.ensures at c.loop-p-test.true in omega (arith, l.invariant.bounded, c.from-e.ensures, c.type_inv.tables (l.begin + c.place_of-place.result.index))
 
-pub overflow_add_begin : goal.overflow_add-begin
-overflow_add_begin c = let r = c.args.rec.now in let s = c.args.state.now in let l = c.loop-p in
+pub overflow_add-begin : goal.overflow_add-begin
+overflow_add-begin c = let r = c.args.rec.now in let s = c.args.state.now in let l = c.loop-p in
     let t : l.p < pattern_count r = rw c.pattern_count-p-end.ensures at c.loop-p-test.true in
     let m : l.p < length (patterns_of r) = rw (patterns_length r) t in
     let q : c.pattern_cells.result.now ≡ get_or (patterns_of r) l.p [] = c.pattern_cells.ensures ∙ sym (pattern_at r l.p t) in
     let j : c.place_of-place.result.states ≡ state_count (task_of r).sizes (get_or (patterns_of r) l.p []) = c.place_of-place.ensures.1 ∙ ap₂ state_count c.requires.1 q in
     let n = table_inside (task_of r).sizes (patterns_of r) s c.args.tables.now l.sum l.begin l.p l.invariant m c.requires.2 in omega arith
 
-pub loop_p_smaller : goal.loop-p-smaller
-loop_p_smaller c = rw (← c.pattern_count-p-end.ensures) (omega arith)
+pub loop-p-smaller : goal.loop-p-smaller
+loop-p-smaller c = rw (← c.pattern_count-p-end.ensures) (omega arith)
 
-pub loop_p_preserved : goal.loop-p-preserved
-loop_p_preserved c = let r = c.args.rec.now in let s = c.args.state.now in let l = c.loop-p in
+pub loop-p-preserved : goal.loop-p-preserved
+loop-p-preserved c = let r = c.args.rec.now in let s = c.args.state.now in let l = c.loop-p in
     let t : l.p < pattern_count r = rw c.pattern_count-p-end.ensures at c.loop-p-test.true in
     let m : l.p < length (patterns_of r) = rw (patterns_length r) t in
     let q : c.pattern_cells.result.now ≡ get_or (patterns_of r) l.p [] = c.pattern_cells.ensures ∙ sym (pattern_at r l.p t) in

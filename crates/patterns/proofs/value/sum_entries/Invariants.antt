@@ -5,8 +5,8 @@ use Rattle.task_record.specs.TaskOf.{task_of, patterns_of}
 use Rattle.patterns.proofs.Summing.{Summing}
 use Rattle.patterns.proofs.value.sum_entries.Given as goal
 
-abbrev pub invariant_loop_p : goal.invariant-loop-p
-invariant_loop_p l = Summing (task_of l.rec).sizes (patterns_of l.rec) l.state l.tables l.sum l.begin l.p
+abbrev pub invariant-loop-p : goal.invariant-loop-p
+invariant-loop-p l = Summing (task_of l.rec).sizes (patterns_of l.rec) l.state l.tables l.sum l.begin l.p
 
-abbrev pub decreases_loop_p : goal.decreases-loop-p
-decreases_loop_p l = pattern_count l.rec - l.p
+abbrev pub decreases-loop-p : goal.decreases-loop-p
+decreases-loop-p l = pattern_count l.rec - l.p

@@ -4,6 +4,6 @@ use lib.Bits.{bit_and, and_le_l, and_le_r}
 use Rattle.task_record.proofs.ColumnLaws.{lowered}
 use Rattle.patterns.proofs.verdict.common_cell.Goals as goal
 
-pub loop_k_preserved : goal.loop-k-preserved
-loop_k_preserved c = let l = c.loop-k in let r = c.args.rec.now in let x = get_or r (c.args.at + 16 * l.k) 0 in
+pub loop-k-preserved : goal.loop-k-preserved
+loop-k-preserved c = let l = c.loop-k in let r = c.args.rec.now in let x = get_or r (c.args.at + 16 * l.k) 0 in
     lowered (λ (i : ℕ). get_or r (c.args.at + 16 * i) 0) 0 l.k l.low (bit_and l.low x) (and_le_l l.low x) (and_le_r l.low x) l.invariant

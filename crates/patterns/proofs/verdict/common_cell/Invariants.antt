@@ -2,5 +2,5 @@
 use Rattle.std.proofs.Common.{ℕ, ◌+◌, ◌*◌, ◌≤◌, ◌<◌, get_or}
 use Rattle.patterns.proofs.verdict.common_cell.Given as goal
 
-abbrev pub invariant_loop_k : goal.invariant-loop-k
-invariant_loop_k l = (i : ℕ) → 0 ≤ i → i < l.k → l.low ≤ get_or l.rec (l.at + 16 * i) 0
+abbrev pub invariant-loop-k : goal.invariant-loop-k
+invariant-loop-k l = (i : ℕ) → 0 ≤ i → i < l.k → l.low ≤ get_or l.rec (l.at + 16 * i) 0

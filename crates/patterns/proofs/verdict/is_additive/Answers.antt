@@ -7,28 +7,28 @@ use Rattle.task_record.proofs.ColumnLaws.{below_next}
 use Rattle.patterns.proofs.LoneSets.{Alone, alone, alone_few, all_alone}
 use Rattle.patterns.proofs.verdict.is_additive.Goals as goal
 
-pub returns_then_pattern_count_lt2 : goal.returns-then-pattern_count-lt2
-returns_then_pattern_count_lt2 c =
+pub returns-then-pattern_count-lt2 : goal.returns-then-pattern_count-lt2
+returns-then-pattern_count-lt2 c =
     let args = c.args in
     let pattern-count = c.pattern_count in
     let if1 = c.if-pattern_count-lt2 in
     let r = args.rec.now in let t = if1.true in let e = pattern-count.ensures in
     λ h. all_alone r (λ m l. alone_few r m l (omega arith))
 
-pub loop_m_init : goal.loop-m-init
-loop_m_init c = (omega arith, λ k l. absurd (omega arith))
+pub loop-m-init : goal.loop-m-init
+loop-m-init c = (omega arith, λ k l. absurd (omega arith))
 
-pub touched_set_requires : goal.touched_set-requires
-touched_set_requires c =
+pub touched_set-requires : goal.touched_set-requires
+touched_set-requires c =
     let action-count = c.action_count-m-end in
     let loop-test = c.loop-m-test in
     rw c.of-members.ensures (omega (arith, loop-test.true, action-count.ensures))
 
-pub returns_then_not_is_lone : goal.returns-then-not-is_lone
-returns_then_not_is_lone c = λ t. let z : ◌≡◌ {A = ℕ} 0 1 = cc in absurd (omega arith)
+pub returns-then-not-is_lone : goal.returns-then-not-is_lone
+returns-then-not-is_lone c = λ t. let z : ◌≡◌ {A = ℕ} 0 1 = cc in absurd (omega arith)
 
-pub loop_m_preserved : goal.loop-m-preserved
-loop_m_preserved c =
+pub loop-m-preserved : goal.loop-m-preserved
+loop-m-preserved c =
     let args = c.args in
     let action-count = c.action_count-m-end in
     let loop = c.loop-m in

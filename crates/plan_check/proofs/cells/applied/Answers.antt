@@ -5,11 +5,11 @@ use Rattle.task_record.proofs.Sixteens.{filled_next, any_default}
 use Rattle.task_record.proofs.Cellwise.{changed, apply-length, apply_cell_lem}
 use Rattle.plan_check.proofs.cells.applied.Goals as goal
 
-pub loop_i_init : goal.loop-i-init
-loop_i_init c = (search rules, search rules, search rules, λ k h. absurd (omega arith), λ k h. refl)
+pub loop-i-init : goal.loop-i-init
+loop-i-init c = (search rules, search rules, search rules, λ k h. absurd (omega arith), λ k h. refl)
 
-pub loop_i_preserved : goal.loop-i-preserved
-loop_i_preserved c =
+pub loop-i-preserved : goal.loop-i-preserved
+loop-i-preserved c =
     let l = c.loop-i in
     let n = l.invariant in
     let here : c.choose.result ≡ changed c.args.cells c.args.state l.i =

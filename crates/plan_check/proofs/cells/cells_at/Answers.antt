@@ -5,11 +5,11 @@ use Rattle.task_record.proofs.Sixteens.{filled_next}
 use Rattle.task_record.proofs.SoundTask.{cell_of_part, length_of_part}
 use Rattle.plan_check.proofs.cells.cells_at.Goals as goal
 
-pub loop_i_init : goal.loop-i-init
-loop_i_init c = (search rules, λ k h. absurd (omega arith))
+pub loop-i-init : goal.loop-i-init
+loop-i-init c = (search rules, λ k h. absurd (omega arith))
 
-pub loop_i_preserved : goal.loop-i-preserved
-loop_i_preserved c =
+pub loop-i-preserved : goal.loop-i-preserved
+loop-i-preserved c =
     let a = c.args in
     let l = c.loop-i in
     (simp length-set l.invariant.0, filled_next (λ k. get_or a.rec.now (a.at + k) 0) l.x-items l.i _ (omega arith) refl l.invariant.1)

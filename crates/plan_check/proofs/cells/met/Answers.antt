@@ -22,11 +22,11 @@ none_there [] xs e = refl
 none_there (y ∷ cs) [] e = refl
 none_there (y ∷ cs) (x ∷ xs) e = absurd (omega arith)
 
-pub loop_y_init : goal.loop-y-init
-loop_y_init c = search rules
+pub loop-y-init : goal.loop-y-init
+loop-y-init c = search rules
 
-pub loop_y_preserved : goal.loop-y-preserved
-loop_y_preserved c =
+pub loop-y-preserved : goal.loop-y-preserved
+loop-y-preserved c =
     let s = c.in-Some.ensures.steps in
     cell_passed _ _ _ _ _ _ _ c.misses-bad.ensures (rw (s.0, s.1) at c.loop-y.invariant)
 

@@ -46,24 +46,24 @@ taken c =
           (reading_arrives _ _ c.requires _ _ _ _ _ _ c.loop-at.invariant c.loop-at-test.true good _ _ l split)
     ]
 
-pub loop_at_init : goal.loop-at-init
-loop_at_init c = rw c.new-stack.ensures (reading_begins _ _ c.requires c.args.start)
+pub loop-at-init : goal.loop-at-init
+loop-at-init c = rw c.new-stack.ensures (reading_begins _ _ c.requires c.args.start)
 
-pub returns_in_err_judge_byte : goal.returns-in_err-judge_byte
-returns_in_err_judge_byte c =
+pub returns-in_err-judge_byte : goal.returns-in_err-judge_byte
+returns-in_err-judge_byte c =
     let q = err_from_is_err_and c.from_residual.result c.from_residual.ensures.1 in
     let read = rw c.of-task.ensures at c.judge_byte.ensures in
     q.1 ∙ ap Err q.2 ∙ sym (reading_refused _ _ c.requires _ _ _ _ _ _ c.loop-at.invariant c.loop-at-test.true _ (sym read ∙ c.in_err-judge_byte.was))
 
-pub begun_frame_requires : goal.begun-frame-requires
-begun_frame_requires c =
+pub begun-frame-requires : goal.begun-frame-requires
+begun-frame-requires c =
     let read = rw c.of-task.ensures at c.judge_byte.ensures in
     let kind = rw c.of-task.ensures at c.has_action.ensures in
     let l = ltb-true _ _ (sym kind ∙ c.if-has_action.true) in
     rw c.of-task.ensures (rw tower_actions at l, (reading_acts _ _ c.requires _ _ _ _ _ _ c.loop-at.invariant c.loop-at-test.true (sym read ∙ c.in_ok-judge_byte.was) l).0)
 
-pub returns_in_None : goal.returns-in-None
-returns_in_None c =
+pub returns-in-None : goal.returns-in-None
+returns-in-None c =
     let read = rw c.of-task.ensures at c.judge_byte.ensures in
     let kind = rw c.of-task.ensures at c.has_action.ensures in
     let l = ltb-false _ _ (sym kind ∙ c.if-has_action.false) in
@@ -71,20 +71,20 @@ returns_in_None c =
     let ends = reading_ends _ _ c.requires _ _ _ _ _ _ c.loop-at.invariant c.loop-at-test.true (sym read ∙ c.in_ok-judge_byte.was) l empty in
     c.ended.ensures ∙ ap answer_of (rw (c.max-worst.ensures, max_is) (sym ends))
 
-pub next_state_state_requires : goal.next_state-state-requires
-next_state_state_requires c =
+pub next_state-state-requires : goal.next_state-state-requires
+next_state-state-requires c =
     let w = (taken (goal.at.next_state-state-requires c).Joined-has_action).frame in
     let long = sound_length _ c.requires in
     omega (arith, w.some, w.inside)
 
-pub rest_requires : goal.rest-requires
-rest_requires c = let w = (taken (goal.at.rest-requires c).Joined-has_action).frame in (omega (arith, w.inside), w.some)
+pub rest-requires : goal.rest-requires
+rest-requires c = let w = (taken (goal.at.rest-requires c).Joined-has_action).frame in (omega (arith, w.inside), w.some)
 
-pub push_requires : goal.push-requires
-push_requires c = let w = (taken (goal.at.push-requires c).Joined-has_action).frame in omega (arith, w.deep, w.shallow)
+pub push-requires : goal.push-requires
+push-requires c = let w = (taken (goal.at.push-requires c).Joined-has_action).frame in omega (arith, w.deep, w.shallow)
 
-pub loop_at_preserved : goal.loop-at-preserved
-loop_at_preserved c =
+pub loop-at-preserved : goal.loop-at-preserved
+loop-at-preserved c =
     let t = taken (goal.at.loop-at-preserved c).Joined-has_action in
     elim c.if-frame-ne1.branch [
       | then-frame-ne1 w ↦ rw (w.stack-is, w.push.ensures, w.rest.ensures, c.next_state-state.ensures) (taken_first _ _ c.requires _ _ _ _ _ t w.if-frame-ne1.true)

@@ -5,5 +5,5 @@ use Rattle.plan_check.specs.Tower.{tower, values_of}
 use Rattle.plan_check.proofs.Reading.{Reading}
 use Rattle.plan_check.proofs.check.check_bytes.Given as goal
 
-abbrev pub invariant_loop_at : goal.invariant-loop-at
-invariant_loop_at l = Reading l.rec l.plan (check_plan (tower l.rec) most_moves (values_of l.rec l.fn.start) l.plan) l.stack l.state l.depth l.worst l.at
+abbrev pub invariant-loop-at : goal.invariant-loop-at
+invariant-loop-at l = Reading l.rec l.plan (check_plan (tower l.rec) most_moves (values_of l.rec l.fn.start) l.plan) l.stack l.state l.depth l.worst l.at

@@ -31,17 +31,17 @@ read_after : (r s plan : List ℕ) → state_check r s ≡ Ok tt → answer_of (
 unfolding plan_check_of
 read_after r s plan h = rw h
 
-pub returns_in_err_check_state : goal.returns-in_err-check_state
-returns_in_err_check_state c =
+pub returns-in_err-check_state : goal.returns-in_err-check_state
+returns-in_err-check_state c =
     let q = err_from_is_err_and c.from_residual.result c.from_residual.ensures.1 in
     let e = q.1 ∙ ap Err q.2 ∙ refused_before _ _ c.args.plan.now _ (sym c.check_state.ensures.value ∙ c.in_err-check_state.was) in
     record { value = e; numbers = told _ _ _ _ e }
 
-pub cells_at_requires : goal.cells_at-requires
-cells_at_requires c = let whole = (checked_good _ _ (sym c.check_state.ensures.value ∙ c.in_ok-check_state.was)).1.whole in omega arith
+pub cells_at-requires : goal.cells_at-requires
+cells_at-requires c = let whole = (checked_good _ _ (sym c.check_state.ensures.value ∙ c.in_ok-check_state.was)).1.whole in omega arith
 
-pub check_bytes_requires : goal.check_bytes-requires
-check_bytes_requires c = (checked_good _ _ (sym c.check_state.ensures.value ∙ c.in_ok-check_state.was)).0
+pub check_bytes-requires : goal.check_bytes-requires
+check_bytes-requires c = (checked_good _ _ (sym c.check_state.ensures.value ∙ c.in_ok-check_state.was)).0
 
 pub returns : goal.returns
 returns c =

@@ -4,11 +4,11 @@ use Rattle.planning.specs.Numbers.{refusal, answered}
 use Rattle.plan_check.specs.ForC.{numbers_of, five_numbers}
 use Rattle.plan_check.proofs.for_c.planner_check_plan.Goals as goal
 
-pub returns_in_Err : goal.returns-in-Err
+pub returns-in-Err : goal.returns-in-Err
 unfolding five_numbers refusal
-returns_in_Err c =
+returns-in-Err c =
     ap five_numbers c.numbers-number.ensures ∙ ap (λ x. five_numbers (numbers_of x)) (sym c.in-Err.is ∙ c.check_plan.ensures.value)
 
-pub returns_in_Ok : goal.returns-in-Ok
+pub returns-in-Ok : goal.returns-in-Ok
 unfolding five_numbers answered
-returns_in_Ok c = ap (λ x. five_numbers (numbers_of x)) (sym c.in-Ok.is ∙ c.check_plan.ensures.value)
+returns-in-Ok c = ap (λ x. five_numbers (numbers_of x)) (sym c.in-Ok.is ∙ c.check_plan.ensures.value)

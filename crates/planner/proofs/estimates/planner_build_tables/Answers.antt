@@ -4,10 +4,10 @@ use Rattle.tables.specs.Answers.{table_build_numbers}
 use Rattle.planner.specs.ForC.{five_numbers}
 use Rattle.planner.proofs.estimates.planner_build_tables.Goals as goal
 
-pub returns_in_Refused : goal.returns-in-Refused
+pub returns-in-Refused : goal.returns-in-Refused
 unfolding table_build_numbers
-returns_in_Refused c = (c.refuse.ensures ∙ ap (λ x. five_numbers (table_build_numbers x)) (sym c.in-Refused.is ∙ c.build_tables.ensures.value.0), c.build_tables.ensures.value.1)
+returns-in-Refused c = (c.refuse.ensures ∙ ap (λ x. five_numbers (table_build_numbers x)) (sym c.in-Refused.is ∙ c.build_tables.ensures.value.0), c.build_tables.ensures.value.1)
 
-pub returns_in_Built : goal.returns-in-Built
+pub returns-in-Built : goal.returns-in-Built
 unfolding table_build_numbers
-returns_in_Built c = (c.reply.ensures ∙ ap (λ x. five_numbers (table_build_numbers x)) (sym c.in-Built.is ∙ c.build_tables.ensures.value.0), c.build_tables.ensures.value.1)
+returns-in-Built c = (c.reply.ensures ∙ ap (λ x. five_numbers (table_build_numbers x)) (sym c.in-Built.is ∙ c.build_tables.ensures.value.0), c.build_tables.ensures.value.1)

@@ -4,12 +4,12 @@ use Rattle.tables.specs.Answers.{spread_numbers}
 use Rattle.planner.specs.ForC.{five_numbers}
 use Rattle.planner.proofs.estimates.planner_spread.Goals as goal
 
-pub returns_in_Refused : goal.returns-in-Refused
+pub returns-in-Refused : goal.returns-in-Refused
 unfolding spread_numbers
-returns_in_Refused c = let s = c.spread.ensures.value in
+returns-in-Refused c = let s = c.spread.ensures.value in
     (c.refuse.ensures ∙ ap (λ x. five_numbers (spread_numbers x)) (sym c.in-Refused.is ∙ s.0), s.1, s.2)
 
-pub returns_in_Counted : goal.returns-in-Counted
+pub returns-in-Counted : goal.returns-in-Counted
 unfolding spread_numbers
-returns_in_Counted c = let s = c.spread.ensures.value in
+returns-in-Counted c = let s = c.spread.ensures.value in
     (c.reply.ensures ∙ ap (λ x. five_numbers (spread_numbers x)) (sym c.in-Counted.is ∙ s.0), s.1, s.2)

@@ -4,10 +4,10 @@ use Rattle.plan_check.specs.ForC.{numbers_of}
 use Rattle.planner.specs.ForC.{five_numbers}
 use Rattle.planner.proofs.plans.planner_check_plan.Goals as goal
 
-pub returns_in_Refused : goal.returns-in-Refused
+pub returns-in-Refused : goal.returns-in-Refused
 unfolding numbers_of
-returns_in_Refused c = c.refuse.ensures ∙ ap (λ x. five_numbers (numbers_of x)) (sym c.in-Refused.is ∙ c.check_plan.ensures.value)
+returns-in-Refused c = c.refuse.ensures ∙ ap (λ x. five_numbers (numbers_of x)) (sym c.in-Refused.is ∙ c.check_plan.ensures.value)
 
-pub returns_in_Passed : goal.returns-in-Passed
+pub returns-in-Passed : goal.returns-in-Passed
 unfolding numbers_of
-returns_in_Passed c = c.reply.ensures ∙ ap (λ x. five_numbers (numbers_of x)) (sym c.in-Passed.is ∙ c.check_plan.ensures.value)
+returns-in-Passed c = c.reply.ensures ∙ ap (λ x. five_numbers (numbers_of x)) (sym c.in-Passed.is ∙ c.check_plan.ensures.value)

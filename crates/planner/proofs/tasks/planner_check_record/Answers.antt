@@ -4,10 +4,10 @@ use Rattle.task_record.specs.Answers.{record_numbers}
 use Rattle.planner.specs.ForC.{five_numbers}
 use Rattle.planner.proofs.tasks.planner_check_record.Goals as goal
 
-pub returns_in_Refused : goal.returns-in-Refused
+pub returns-in-Refused : goal.returns-in-Refused
 unfolding record_numbers
-returns_in_Refused c = c.refuse.ensures ∙ ap (λ x. five_numbers (record_numbers x)) (sym c.in-Refused.is ∙ c.check_record.ensures.value)
+returns-in-Refused c = c.refuse.ensures ∙ ap (λ x. five_numbers (record_numbers x)) (sym c.in-Refused.is ∙ c.check_record.ensures.value)
 
-pub returns_in_Sound : goal.returns-in-Sound
+pub returns-in-Sound : goal.returns-in-Sound
 unfolding record_numbers
-returns_in_Sound c = c.reply.ensures ∙ ap (λ x. five_numbers (record_numbers x)) (sym c.in-Sound.is ∙ c.check_record.ensures.value)
+returns-in-Sound c = c.reply.ensures ∙ ap (λ x. five_numbers (record_numbers x)) (sym c.in-Sound.is ∙ c.check_record.ensures.value)

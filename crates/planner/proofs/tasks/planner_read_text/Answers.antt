@@ -4,10 +4,10 @@ use Rattle.reader.specs.Answers.{read_numbers}
 use Rattle.planner.specs.ForC.{five_numbers}
 use Rattle.planner.proofs.tasks.planner_read_text.Goals as goal
 
-pub returns_in_Refused : goal.returns-in-Refused
+pub returns-in-Refused : goal.returns-in-Refused
 unfolding read_numbers
-returns_in_Refused c = (c.refuse.ensures ∙ ap (λ x. five_numbers (read_numbers x)) (sym c.in-Refused.is ∙ c.read_text.ensures.value.0), c.read_text.ensures.value.1)
+returns-in-Refused c = (c.refuse.ensures ∙ ap (λ x. five_numbers (read_numbers x)) (sym c.in-Refused.is ∙ c.read_text.ensures.value.0), c.read_text.ensures.value.1)
 
-pub returns_in_Read : goal.returns-in-Read
+pub returns-in-Read : goal.returns-in-Read
 unfolding read_numbers
-returns_in_Read c = (c.reply.ensures ∙ ap (λ x. five_numbers (read_numbers x)) (sym c.in-Read.is ∙ c.read_text.ensures.value.0), c.read_text.ensures.value.1)
+returns-in-Read c = (c.reply.ensures ∙ ap (λ x. five_numbers (read_numbers x)) (sym c.in-Read.is ∙ c.read_text.ensures.value.0), c.read_text.ensures.value.1)

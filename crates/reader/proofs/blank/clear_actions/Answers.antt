@@ -7,11 +7,11 @@ use Rattle.reader.specs.Stores.{clear_actions}
 use Rattle.reader.proofs.Stores.{clear_none, clear_step}
 use Rattle.reader.proofs.blank.clear_actions.Goals as goal
 
-pub loop_m_init : goal.loop-m-init
-loop_m_init c = (refl, refl)
+pub loop-m-init : goal.loop-m-init
+loop-m-init c = (refl, refl)
 
-pub loop_m_preserved : goal.loop-m-preserved
-loop_m_preserved c =
+pub loop-m-preserved : goal.loop-m-preserved
+loop-m-preserved c =
     let p = c.put in
     let m = c.loop-m.m in
     (ap length p.ensures ∙ simp length-set c.loop-m.invariant.0, c.loop-m.invariant.1 ∙ clear_step m c.loop-m.r (search rules) ∙ ap (clear_actions (m - 1)) (sym (p.ensures ∙ rw c.at_action.ensures)))

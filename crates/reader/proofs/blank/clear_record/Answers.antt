@@ -14,11 +14,11 @@ whole : length all_unnamed ≡ record_size
 unfolding all_unnamed
 whole = refl
 
-pub fill_requires : goal.fill-requires
-fill_requires c = let n = ap length c.requires ∙ whole in omega (arith, n)
+pub fill-requires : goal.fill-requires
+fill-requires c = let n = ap length c.requires ∙ whole in omega (arith, n)
 
-pub fill_requires_2 : goal.fill-requires-2
-fill_requires_2 c = let n = ap length c.requires ∙ whole in
+pub fill-requires-2 : goal.fill-requires-2
+fill-requires-2 c = let n = ap length c.requires ∙ whole in
     let k = c.fill.auto.r in
     omega (arith, n, k, c.at_pattern.ensures, c.at_action.ensures, c.at_pattern-2.ensures)
 

@@ -4,12 +4,12 @@ use Rattle.reader.specs.Text.{number_of, well_formed}
 use Rattle.reader.proofs.Decimals.{framed_short}
 use Rattle.reader.proofs.decimal.number.Goals as goal
 
-pub value_of_requires : goal.value_of-requires
-value_of_requires c = framed_short c.args.s.now (sym c.is_framed.ensures ∙ c.if-is_framed.true)
+pub value_of-requires : goal.value_of-requires
+value_of-requires c = framed_short c.args.s.now (sym c.is_framed.ensures ∙ c.if-is_framed.true)
 
-pub returns_then_is_framed : goal.returns-then-is_framed
+pub returns-then-is_framed : goal.returns-then-is_framed
 unfolding number_of well_formed
-returns_then_is_framed c = rw (sym c.is_framed.ensures ∙ c.if-is_framed.true) c.value_of.ensures
+returns-then-is_framed c = rw (sym c.is_framed.ensures ∙ c.if-is_framed.true) c.value_of.ensures
 
 pub returns : goal.returns
 unfolding number_of well_formed

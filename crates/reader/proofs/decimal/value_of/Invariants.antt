@@ -6,5 +6,5 @@ use mathlib.Core.Path.{◌≡◌}
 use Rattle.reader.specs.Text.{digits, value}
 use Rattle.reader.proofs.decimal.value_of.Given as goal
 
-abbrev pub invariant_loop_b : goal.invariant-loop-b
-invariant_loop_b l = (l.v < 10 ^ l.b-index) × (digits l.s ≡ digits (drop l.b-index l.s)) × (value 0 l.s ≡ value l.v (drop l.b-index l.s))
+abbrev pub invariant-loop-b : goal.invariant-loop-b
+invariant-loop-b l = (l.v < 10 ^ l.b-index) × (digits l.s ≡ digits (drop l.b-index l.s)) × (value 0 l.s ≡ value l.v (drop l.b-index l.s))

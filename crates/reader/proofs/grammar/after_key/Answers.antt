@@ -3,8 +3,8 @@ use mathlib.Core.Path.{◌∙◌, refl, sym}
 use Rattle.reader.proofs.Keys.{key_prefix}
 use Rattle.reader.proofs.grammar.after_key.Goals as goal
 
-pub returns_in_Some : goal.returns-in-Some
-returns_in_Some c = (sym (key_prefix c.args.key.now c.args.line.now) ∙ c.in-Some.ensures.cases.0, c.in-Some.ensures.cases.1)
+pub returns-in-Some : goal.returns-in-Some
+returns-in-Some c = (sym (key_prefix c.args.key.now c.args.line.now) ∙ c.in-Some.ensures.cases.0, c.in-Some.ensures.cases.1)
 
-pub returns_in_None : goal.returns-in-None
-returns_in_None c = (sym (key_prefix c.args.key.now c.args.line.now) ∙ c.in-None.ensures.cases, refl)
+pub returns-in-None : goal.returns-in-None
+returns-in-None c = (sym (key_prefix c.args.key.now c.args.line.now) ∙ c.in-None.ensures.cases, refl)

@@ -3,9 +3,9 @@ use Rattle.std.proofs.lemmas.Result.{err_from_is_err_and}
 use Rattle.reader.specs.Grammar.{list_line}
 use Rattle.reader.proofs.grammar.list_line.Goals as goal
 
-pub returns_in_err_value : goal.returns-in_err-value
+pub returns-in_err-value : goal.returns-in_err-value
 unfolding list_line
-returns_in_err_value c = let q = err_from_is_err_and c.from_residual.result c.from_residual.ensures.1 in
+returns-in_err-value c = let q = err_from_is_err_and c.from_residual.result c.from_residual.ensures.1 in
     rw (list_line, c.in_err-value.ensures.0, q.1, q.2, c.in_err-value.ensures.1)
 
 pub returns : goal.returns

@@ -7,13 +7,13 @@ use Rattle.reader.specs.Grammar.{go_on, take_budget, taken}
 use Rattle.reader.specs.declared.order.Due.{Due}
 use Rattle.reader.proofs.grammar.take_budget.Goals as goal
 
-pub returns_then_n_gt1000000 : goal.returns-then-n-gt1000000
+pub returns-then-n-gt1000000 : goal.returns-then-n-gt1000000
 unfolding take_budget
-returns_then_n_gt1000000 c = ap (take_budget c.args.rec.now c.args.due) c.in-Some.is ∙ simp (lt-leb _ _ c.if-n-gt1000000.true)
+returns-then-n-gt1000000 c = ap (take_budget c.args.rec.now c.args.due) c.in-Some.is ∙ simp (lt-leb _ _ c.if-n-gt1000000.true)
 
-pub returns_in_default : goal.returns-in_default
+pub returns-in_default : goal.returns-in_default
 unfolding take_budget
-returns_in_default c = ap (take_budget c.args.rec.now c.args.due) c.in_default.is
+returns-in_default c = ap (take_budget c.args.rec.now c.args.due) c.in_default.is
 
 pub returns : goal.returns
 unfolding take_budget

@@ -7,20 +7,20 @@ use Rattle.reader.specs.Grammar.{go_on, take_number, taken}
 use Rattle.reader.specs.declared.order.Due.{Due}
 use Rattle.reader.proofs.grammar.take_number.Goals as goal
 
-pub returns_then_n_from : goal.returns-then-n-from
+pub returns-then-n-from : goal.returns-then-n-from
 unfolding take_number
-returns_then_n_from c = let a = c.args in
+returns-then-n-from c = let a = c.args in
     ap (take_number a.rec.now a.due a.field.low a.field.high a.field.at) c.in-Some.is ∙ simp (lt-leb _ _ (rw c.from.ensures at c.if-n-from.true))
 
-pub returns_then_from_n : goal.returns-then-from-n
+pub returns-then-from-n : goal.returns-then-from-n
 unfolding take_number
-returns_then_from_n c = let a = c.args in
+returns-then-from-n c = let a = c.args in
     ap (take_number a.rec.now a.due a.field.low a.field.high a.field.at) c.in-Some.is
     ∙ simp (le-leb _ _ (rw c.from.ensures at c.if-n-from.false), lt-leb _ _ (rw c.from-2.ensures at c.if-from-n.true))
 
-pub returns_in_default : goal.returns-in_default
+pub returns-in_default : goal.returns-in_default
 unfolding take_number
-returns_in_default c = let a = c.args in ap (take_number a.rec.now a.due a.field.low a.field.high a.field.at) c.in_default.is
+returns-in_default c = let a = c.args in ap (take_number a.rec.now a.due a.field.low a.field.high a.field.at) c.in_default.is
 
 pub returns : goal.returns
 unfolding take_number

@@ -5,13 +5,13 @@ use native.Mathlib.Omega.{arith}
 use Rattle.reader.specs.Lists.{pair_fits}
 use Rattle.reader.proofs.lists.allowed.Goals as goal
 
-pub returns_then_v_next : goal.returns-then-v-next
+pub returns-then-v-next : goal.returns-then-v-next
 unfolding pair_fits
-returns_then_v_next c = record { value = simp (lt-leb _ _ c.if-v-next.true); v_bound = λ e. absurd (false≢true e) }
+returns-then-v-next c = record { value = simp (lt-leb _ _ c.if-v-next.true); v_bound = λ e. absurd (false≢true e) }
 
-pub returns_then_n_v : goal.returns-then-n-v
+pub returns-then-n-v : goal.returns-then-n-v
 unfolding pair_fits
-returns_then_n_v c = record { value = simp (le-leb _ _ c.if-v-next.false, le-ltb _ _ (rw c.cell_at-n.ensures.0 at c.if-n-v.true)); v_bound = λ e. absurd (false≢true e) }
+returns-then-n-v c = record { value = simp (le-leb _ _ c.if-v-next.false, le-ltb _ _ (rw c.cell_at-n.ensures.0 at c.if-n-v.true)); v_bound = λ e. absurd (false≢true e) }
 
 pub returns : goal.returns
 unfolding pair_fits

@@ -20,20 +20,20 @@ found s k n e = e ∙ ap (index_of comma) (part_rest s (k + 1))
 within : (s : List ℕ) (k n : ℕ) → n ≡ index_of comma (drop (k + 1) s) → k < length s → k + 1 + n ≤ length s
 within s k n e h = omega (arith, e, index_le comma (drop (k + 1) s), length-drop (k + 1) s)
 
-pub returns_then_s_k : goal.returns-then-s-k
-returns_then_s_k c = first_pair_none c.args.s.now c.find_either-k.result c.find_either-k.ensures (λ h e. omega (arith, c.if-s-k.true))
+pub returns-then-s-k : goal.returns-then-s-k
+returns-then-s-k c = first_pair_none c.args.s.now c.find_either-k.result c.find_either-k.ensures (λ h e. omega (arith, c.if-s-k.true))
 
-pub returns_then_s_k_ne_COLON : goal.returns-then-s-k-ne-COLON
-returns_then_s_k_ne_COLON c = first_pair_none c.args.s.now c.find_either-k.result c.find_either-k.ensures (λ h e. c.if-s-k-ne-COLON.true e)
+pub returns-then-s-k-ne-COLON : goal.returns-then-s-k-ne-COLON
+returns-then-s-k-ne-COLON c = first_pair_none c.args.s.now c.find_either-k.result c.find_either-k.ensures (λ h e. c.if-s-k-ne-COLON.true e)
 
-pub slice_bounds_number_end : goal.slice_bounds-number-end
-slice_bounds_number_end c = sym (length-take-le _ _ (search rules))
+pub slice_bounds-number-end : goal.slice_bounds-number-end
+slice_bounds-number-end c = sym (length-take-le _ _ (search rules))
 
-pub slice_bounds_number_end_2 : goal.slice_bounds-number-end-2
-slice_bounds_number_end_2 c = sym (length-take-le _ _ (rw (part_rest c.args.s.now (c.find_either-k.result + 1), length-drop) (omega (arith, within c.args.s.now c.find_either-k.result c.find-e.result (found c.args.s.now c.find_either-k.result c.find-e.result c.find-e.ensures) c.if-s-k.false))))
+pub slice_bounds-number-end-2 : goal.slice_bounds-number-end-2
+slice_bounds-number-end-2 c = sym (length-take-le _ _ (rw (part_rest c.args.s.now (c.find_either-k.result + 1), length-drop) (omega (arith, within c.args.s.now c.find_either-k.result c.find-e.result (found c.args.s.now c.find_either-k.result c.find-e.result c.find-e.ensures) c.if-s-k.false))))
 
-pub overflow_add_result_2 : goal.overflow_add-result-2
-overflow_add_result_2 c = omega (arith, within c.args.s.now c.find_either-k.result c.find-e.result (found c.args.s.now c.find_either-k.result c.find-e.result c.find-e.ensures) c.if-s-k.false)
+pub overflow_add-result-2 : goal.overflow_add-result-2
+overflow_add-result-2 c = omega (arith, within c.args.s.now c.find_either-k.result c.find-e.result (found c.args.s.now c.find_either-k.result c.find-e.result c.find-e.ensures) c.if-s-k.false)
 
 pub returns : goal.returns
 returns c =

@@ -26,46 +26,46 @@ found v at n e = e ∙ ap (index_of comma) (part_rest v at)
 within : (v : List ℕ) (at n : ℕ) → n ≡ index_of comma (drop at v) → at ≤ length v → at + n ≤ length v
 within v at n e h = omega (arith, e, index_le comma (drop at v), length-drop at v)
 
-list_begins : (r : List ℕ) (kind : Kind) (v : List ℕ) (g : Gathered) → g ≡ no_items kind → listed (is_values kind) v ≡ pieces comma v
+list-begins : (r : List ℕ) (kind : Kind) (v : List ℕ) (g : Gathered) → g ≡ no_items kind → listed (is_values kind) v ≡ pieces comma v
     → list_of r kind v ≡ list_from r kind g (left comma 0 v)
 unfolding list_of
-list_begins r kind v g e f = rw (e, f, leb-zero (length v))
+list-begins r kind v g e f = rw (e, f, leb-zero (length v))
 
-empty_list : (r : List ℕ) (kind : Kind) (v : List ℕ) (g : Gathered) → g ≡ no_items kind → is_values kind ≡ false → length v ≡ 0 → g ≡ list_of r kind v
+empty-list : (r : List ℕ) (kind : Kind) (v : List ℕ) (g : Gathered) → g ≡ no_items kind → is_values kind ≡ false → length v ≡ 0 → g ≡ list_of r kind v
 unfolding list_of list_from
-empty_list r kind v g e f h = rw (e, f, listed_none v h)
+empty-list r kind v g e f h = rw (e, f, listed_none v h)
 
-pub returns_then_not_is_values : goal.returns-then-not-is_values
-returns_then_not_is_values c =
+pub returns-then-not-is_values : goal.returns-then-not-is_values
+returns-then-not-is_values c =
     let a = c.args in
-    empty_list a.rec.now a.kind a.text.now c.new-gathered.result c.new-gathered.ensures (sym c.is_values.ensures ∙ c.if-not-is_values.true) c.if-text-eq0.true
+    empty-list a.rec.now a.kind a.text.now c.new-gathered.result c.new-gathered.ensures (sym c.is_values.ensures ∙ c.if-not-is_values.true) c.if-text-eq0.true
 
-pub loop_at_init : goal.loop-at-init
-loop_at_init c =
+pub loop-at-init : goal.loop-at-init
+loop-at-init c =
     let a = c.args in (
       search rules,
-      list_begins a.rec.now a.kind a.text.now c.new-gathered.result c.new-gathered.ensures
+      list-begins a.rec.now a.kind a.text.now c.new-gathered.result c.new-gathered.ensures
           (elim c.if-text-eq0.branch [
             | then-text-eq0+else-not-is_values w ↦ ap (λ b. listed b a.text.now) (sym w.is_values.ensures ∙ w.if-not-is_values.false) ∙ listed_values a.text.now
             | else-text-eq0 w ↦ listed_some (is_values a.kind) a.text.now w.if-text-eq0.false
           ]),
     )
 
-pub overflow_add_at : goal.overflow_add-at
-overflow_add_at c = let e = found c.args.text.now c.loop-at.at c.first_item-item.result.len c.first_item-item.ensures.1 in
+pub overflow_add-at : goal.overflow_add-at
+overflow_add-at c = let e = found c.args.text.now c.loop-at.at c.first_item-item.result.len c.first_item-item.ensures.1 in
     omega (arith, within c.args.text.now c.loop-at.at c.first_item-item.result.len e c.loop-at-test.true)
 
-pub overflow_add_at_in_loop_at : goal.overflow_add-at-in-loop-at
-overflow_add_at_in_loop_at c = let e = found c.args.text.now c.loop-at.at c.first_item-item.result.len c.first_item-item.ensures.1 in
+pub overflow_add-at-in-loop-at : goal.overflow_add-at-in-loop-at
+overflow_add-at-in-loop-at c = let e = found c.args.text.now c.loop-at.at c.first_item-item.result.len c.first_item-item.ensures.1 in
     omega (arith, within c.args.text.now c.loop-at.at c.first_item-item.result.len e c.loop-at-test.true)
 
-pub loop_at_smaller : goal.loop-at-smaller
-loop_at_smaller c = let e = found c.args.text.now c.loop-at.at c.first_item-item.result.len c.first_item-item.ensures.1 in
+pub loop-at-smaller : goal.loop-at-smaller
+loop-at-smaller c = let e = found c.args.text.now c.loop-at.at c.first_item-item.result.len c.first_item-item.ensures.1 in
     omega (arith, within c.args.text.now c.loop-at.at c.first_item-item.result.len e c.loop-at-test.true)
 
-pub loop_at_preserved : goal.loop-at-preserved
+pub loop-at-preserved : goal.loop-at-preserved
 unfolding list_from
-loop_at_preserved c =
+loop-at-preserved c =
     let k = c.first_item-item.result.len in
     let a = c.args in
     let g = c.loop-at.gathered in

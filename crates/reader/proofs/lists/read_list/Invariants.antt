@@ -8,9 +8,9 @@ use Rattle.reader.specs.Text.{comma}
 use Rattle.reader.proofs.Split.{left}
 use Rattle.reader.proofs.lists.read_list.Given as goal
 
-abbrev pub invariant_loop_at : goal.invariant-loop-at
-invariant_loop_at l =
+abbrev pub invariant-loop-at : goal.invariant-loop-at
+invariant-loop-at l =
     (l.at ≤ length l.text + 1) × (list_of l.rec l.kind l.text ≡ list_from l.rec l.kind l.gathered (left comma l.at l.text))
 
-abbrev pub decreases_loop_at : goal.decreases-loop-at
-decreases_loop_at l = length l.text + 1 - l.at
+abbrev pub decreases-loop-at : goal.decreases-loop-at
+decreases-loop-at l = length l.text + 1 - l.at

@@ -4,9 +4,9 @@ use mathlib.Core.Path.{◌∙◌}
 use Rattle.reader.specs.Grammar.{next_due}
 use Rattle.reader.proofs.order.after_eff.Goals as goal
 
-pub returns_then_k_n : goal.returns-then-k-n
+pub returns-then-k-n : goal.returns-then-k-n
 unfolding next_due
-returns_then_k_n c =
+returns-then-k-n c =
     let n = rw c.at_action.ensures at c.cell_at-n.ensures.0 in
     rw c.from-k.ensures (simp (← n, lt-ltb _ _ (rw c.from-k.ensures at c.if-k-n.true)))
 

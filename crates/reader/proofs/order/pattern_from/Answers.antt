@@ -2,8 +2,8 @@
 use borrow.Author.Tests.{le-ltb, lt-ltb}
 use Rattle.reader.proofs.order.pattern_from.Goals as goal
 
-pub returns_then_p_n : goal.returns-then-p-n
-returns_then_p_n c = simp (← c.cell_at-n.ensures.0, lt-ltb _ _ c.if-p-n.true)
+pub returns-then-p-n : goal.returns-then-p-n
+returns-then-p-n c = simp (← c.cell_at-n.ensures.0, lt-ltb _ _ c.if-p-n.true)
 
-pub returns_else_p_n : goal.returns-else-p-n
-returns_else_p_n c = simp (← c.cell_at-n.ensures.0, le-ltb _ _ c.if-p-n.false)
+pub returns-else-p-n : goal.returns-else-p-n
+returns-else-p-n c = simp (← c.cell_at-n.ensures.0, le-ltb _ _ c.if-p-n.false)

@@ -5,5 +5,5 @@ use mathlib.Core.Path.{◌≡◌}
 use Rattle.reader.specs.Text.{index_of}
 use Rattle.reader.proofs.pieces.find.Given as goal
 
-abbrev pub invariant_loop_i : goal.invariant-loop-i
-invariant_loop_i l = index_of l.b l.s ≡ l.i + index_of l.b (drop l.i l.s)
+abbrev pub invariant-loop-i : goal.invariant-loop-i
+invariant-loop-i l = index_of l.b l.s ≡ l.i + index_of l.b (drop l.i l.s)

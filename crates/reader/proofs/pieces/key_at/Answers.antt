@@ -9,11 +9,11 @@ use Rattle.reader.specs.Text.{has_key}
 use Rattle.reader.proofs.Keys.{and-true, key_at_step, key_end, key_gather}
 use Rattle.reader.proofs.pieces.key_at.Goals as goal
 
-pub loop_i_init : goal.loop-i-init
-loop_i_init c = (search rules, refl)
+pub loop-i-init : goal.loop-i-init
+loop-i-init c = (search rules, refl)
 
-pub loop_i_preserved : goal.loop-i-preserved
-loop_i_preserved c = let a = c.args in
+pub loop-i-preserved : goal.loop-i-preserved
+loop-i-preserved c = let a = c.args in
     let l = c.loop-i in (
       search rules,
       l.invariant.1 ∙ ap (λ (b : Bool). eqb l.bad 0 && b) (key_at_step a.key.now a.text.now a.at l.i (search rules) (search rules))

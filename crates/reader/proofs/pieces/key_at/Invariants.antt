@@ -7,8 +7,8 @@ use mathlib.Core.Path.{◌≡◌}
 use Rattle.reader.specs.Text.{has_key}
 use Rattle.reader.proofs.pieces.key_at.Given as goal
 
-abbrev pub invariant_loop_i : goal.invariant-loop-i
-invariant_loop_i l = (l.i ≤ length l.key) × (has_key l.key (drop l.at l.text) ≡ (eqb l.bad 0 && has_key (drop l.i l.key) (drop l.i (drop l.at l.text))))
+abbrev pub invariant-loop-i : goal.invariant-loop-i
+invariant-loop-i l = (l.i ≤ length l.key) × (has_key l.key (drop l.at l.text) ≡ (eqb l.bad 0 && has_key (drop l.i l.key) (drop l.i (drop l.at l.text))))
 
-abbrev pub decreases_loop_i : goal.decreases-loop-i
-decreases_loop_i l = length l.key - l.i
+abbrev pub decreases-loop-i : goal.decreases-loop-i
+decreases-loop-i l = length l.key - l.i

@@ -4,11 +4,11 @@ use native.Mathlib.Omega.{arith}
 use Rattle.reader.proofs.QuickNumbers.{pair_at}
 use Rattle.reader.proofs.quick_items.quick_pair.Goals as goal
 
-pub returns_then_k_eq0 : goal.returns-then-k-eq0
-returns_then_k_eq0 c = record { variable_bound = search rules; at_lt_end = λ h. absurd (omega arith) }
+pub returns-then-k-eq0 : goal.returns-then-k-eq0
+returns-then-k-eq0 c = record { variable_bound = search rules; at_lt_end = λ h. absurd (omega arith) }
 
-pub returns_then_text_k_ne_COLON : goal.returns-then-text-k-ne-COLON
-returns_then_text_k_ne_COLON c = record { variable_bound = search rules; at_lt_end = λ h. absurd (omega arith) }
+pub returns-then-text-k-ne-COLON : goal.returns-then-text-k-ne-COLON
+returns-then-text-k-ne-COLON c = record { variable_bound = search rules; at_lt_end = λ h. absurd (omega arith) }
 
 pub returns : goal.returns
 returns c = let e = c.args in record {

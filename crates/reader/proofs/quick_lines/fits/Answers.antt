@@ -7,11 +7,11 @@ use native.Mathlib.Omega.{arith}
 use Rattle.reader.specs.Lists.{pair_fits}
 use Rattle.reader.proofs.quick_lines.fits.Goals as goal
 
-pub returns_then_v_next : goal.returns-then-v-next
-returns_then_v_next c = λ e. absurd (false≢true e)
+pub returns-then-v-next : goal.returns-then-v-next
+returns-then-v-next c = λ e. absurd (false≢true e)
 
-pub returns_then_n_v : goal.returns-then-n-v
-returns_then_n_v c = λ e. absurd (false≢true e)
+pub returns-then-n-v : goal.returns-then-n-v
+returns-then-n-v c = λ e. absurd (false≢true e)
 
 pub returns : goal.returns
 unfolding pair_fits

@@ -19,40 +19,40 @@ cleared : (rec new : List ℕ) (row u : ℕ) (kind : Kind) → new ≡ sets rec 
     → new ≡ sets rec row (replicate 16 (unnamed kind))
 cleared rec new row u kind e f = e ∙ ap (λ (u : ℕ). sets rec row (replicate 16 u)) f
 
-pub overflow_add_result : goal.overflow_add-result
-overflow_add_result c = let e = c.is_empty.ensures c.if-is_empty.true in search rules
+pub overflow_add-result : goal.overflow_add-result
+overflow_add-result c = let e = c.is_empty.ensures c.if-is_empty.true in search rules
 
-pub returns_then_is_empty : goal.returns-then-is_empty
-returns_then_is_empty c = let a = c.args in let e = c.is_empty.ensures c.if-is_empty.true in record { upper_bound = omega arith; list_at = λ h. subst (λ (r : List ℕ). ListAt a.text.now a.at (a.at + 1) a.kind a.rec.now a.row r) (sym (cleared a.rec.now c.fill.new.r a.row c.unnamed_of.result a.kind c.fill.ensures c.unnamed_of.ensures)) (list_empty a.text.now a.at a.kind a.rec.now a.row e.0 e.1 e.2) }
+pub returns-then-is_empty : goal.returns-then-is_empty
+returns-then-is_empty c = let a = c.args in let e = c.is_empty.ensures c.if-is_empty.true in record { upper_bound = omega arith; list_at = λ h. subst (λ (r : List ℕ). ListAt a.text.now a.at (a.at + 1) a.kind a.rec.now a.row r) (sym (cleared a.rec.now c.fill.new.r a.row c.unnamed_of.result a.kind c.fill.ensures c.unnamed_of.ensures)) (list_empty a.text.now a.at a.kind a.rec.now a.row e.0 e.1 e.2) }
 
-pub loop_i_init : goal.loop-i-init
-loop_i_init c = let a = c.args in
+pub loop-i-init : goal.loop-i-init
+loop-i-init c = let a = c.args in
     (refl, omega arith, search rules, omega arith, λ r e. subst (λ (x : List ℕ). Listing a.text.now a.at a.at a.kind r a.row x 0) (sym e) (list_begun a.text.now a.at a.kind r a.row))
 
-pub returns_then_e_eq0 : goal.returns-then-e-eq0
-returns_then_e_eq0 c = record { upper_bound = search rules; list_at = λ h. absurd (omega arith) }
+pub returns-then-e-eq0 : goal.returns-then-e-eq0
+returns-then-e-eq0 c = record { upper_bound = search rules; list_at = λ h. absurd (omega arith) }
 
-pub fits_requires : goal.fits-requires
-fits_requires c = let a = c.args in let l = c.loop-i.invariant.4 a.rec.now (cleared a.rec.now c.fill.new.r a.row c.unnamed_of.result a.kind c.fill.ensures c.unnamed_of.ensures) in
+pub fits-requires : goal.fits-requires
+fits-requires c = let a = c.args in let l = c.loop-i.invariant.4 a.rec.now (cleared a.rec.now c.fill.new.r a.row c.unnamed_of.result a.kind c.fill.ensures c.unnamed_of.ensures) in
     (search rules, c.requires.3 ∙ sym (front_kept a.rec.now c.loop-i.rec a.row l.cells 0 l.stored (omega arith)), c.requires.4)
 
-pub returns_then_not_fits : goal.returns-then-not-fits
-returns_then_not_fits c = record { upper_bound = search rules; list_at = λ h. absurd (omega arith) }
+pub returns-then-not-fits : goal.returns-then-not-fits
+returns-then-not-fits c = record { upper_bound = search rules; list_at = λ h. absurd (omega arith) }
 
-pub overflow_add_row : goal.overflow_add-row
-overflow_add_row c = let f = c.fits.ensures c.if-not-fits.false in search rules
+pub overflow_add-row : goal.overflow_add-row
+overflow_add-row c = let f = c.fits.ensures c.if-not-fits.false in search rules
 
-pub overflow_cast_x : goal.overflow_cast-x
-overflow_cast_x c = let f = c.fits.ensures c.if-not-fits.false in search rules
+pub overflow_cast-x : goal.overflow_cast-x
+overflow_cast-x c = let f = c.fits.ensures c.if-not-fits.false in search rules
 
-pub store_requires : goal.store-requires
-store_requires c = let f = c.fits.ensures c.if-not-fits.false in search rules
+pub store-requires : goal.store-requires
+store-requires c = let f = c.fits.ensures c.if-not-fits.false in search rules
 
-pub overflow_add_v : goal.overflow_add-v
-overflow_add_v c = let f = c.fits.ensures c.if-not-fits.false in search rules
+pub overflow_add-v : goal.overflow_add-v
+overflow_add-v c = let f = c.fits.ensures c.if-not-fits.false in search rules
 
-pub returns_then_is_whole : goal.returns-then-is_whole
-returns_then_is_whole c = let a = c.args in
+pub returns-then-is_whole : goal.returns-then-is_whole
+returns-then-is_whole c = let a = c.args in
     let o = c.loop-i in
     let l = c.loop-i.invariant.4 a.rec.now (cleared a.rec.now c.fill.new.r a.row c.unnamed_of.result a.kind c.fill.ensures c.unnamed_of.ensures) in
     let f = c.fits.ensures c.if-not-fits.false in
@@ -65,20 +65,20 @@ returns_then_is_whole c = let a = c.args in
           (ap (λ (n : ℕ). whole_list n a.kind (q.variable + 1)) (sym c.requires.3) ∙ sym c.is_whole.ensures ∙ c.if-is_whole.true));
     }
 
-pub returns_then_text_e_eq_LINE_BREAK : goal.returns-then-text-e-eq-LINE_BREAK
-returns_then_text_e_eq_LINE_BREAK c = record { upper_bound = search rules; list_at = λ h. absurd (omega arith) }
+pub returns-then-text-e-eq-LINE_BREAK : goal.returns-then-text-e-eq-LINE_BREAK
+returns-then-text-e-eq-LINE_BREAK c = record { upper_bound = search rules; list_at = λ h. absurd (omega arith) }
 
-pub returns_then_text_e_ne_COMMA : goal.returns-then-text-e-ne-COMMA
-returns_then_text_e_ne_COMMA c = record { upper_bound = search rules; list_at = λ h. absurd (omega arith) }
+pub returns-then-text-e-ne-COMMA : goal.returns-then-text-e-ne-COMMA
+returns-then-text-e-ne-COMMA c = record { upper_bound = search rules; list_at = λ h. absurd (omega arith) }
 
-pub overflow_add_next : goal.overflow_add-next
-overflow_add_next c = let f = c.fits.ensures c.if-not-fits.false in search rules
+pub overflow_add-next : goal.overflow_add-next
+overflow_add-next c = let f = c.fits.ensures c.if-not-fits.false in search rules
 
-pub loop_i_smaller : goal.loop-i-smaller
-loop_i_smaller c = let t = (c.quick_item-item.ensures.at_lt_end (omega arith)).0 in omega (arith, t)
+pub loop-i-smaller : goal.loop-i-smaller
+loop-i-smaller c = let t = (c.quick_item-item.ensures.at_lt_end (omega arith)).0 in omega (arith, t)
 
-pub loop_i_preserved : goal.loop-i-preserved
-loop_i_preserved c = let a = c.args in
+pub loop-i-preserved : goal.loop-i-preserved
+loop-i-preserved c = let a = c.args in
     let o = c.loop-i in
     let f = c.fits.ensures c.if-not-fits.false in
     let q = c.quick_item-item.result in

@@ -9,9 +9,9 @@ use Rattle.reader.specs.Lists.{unnamed}
 use Rattle.reader.proofs.QuickLists.{Listing}
 use Rattle.reader.proofs.quick_lines.quick_list.Given as goal
 
-abbrev pub invariant_loop_i : goal.invariant-loop-i
-invariant_loop_i l = (length l.rec ≡ length l.initial.rec) × (l.at ≤ l.i) × (l.i ≤ length l.text) × (l.next ≤ 16)
+abbrev pub invariant-loop-i : goal.invariant-loop-i
+invariant-loop-i l = (length l.rec ≡ length l.initial.rec) × (l.at ≤ l.i) × (l.i ≤ length l.text) × (l.next ≤ 16)
     × ((r : List ℕ) → l.initial.rec ≡ sets r l.row (replicate 16 (unnamed l.kind)) → Listing l.text l.at l.i l.kind r l.row l.rec l.next)
 
-abbrev pub decreases_loop_i : goal.decreases-loop-i
-decreases_loop_i l = length l.text + 6 - l.i
+abbrev pub decreases-loop-i : goal.decreases-loop-i
+decreases-loop-i l = length l.text + 6 - l.i

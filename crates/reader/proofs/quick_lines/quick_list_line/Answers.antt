@@ -6,11 +6,11 @@ use native.Mathlib.Omega.{arith}
 use Rattle.reader.specs.Quick.{ListAt}
 use Rattle.reader.proofs.quick_lines.quick_list_line.Goals as goal
 
-pub returns_then_a_eq0 : goal.returns-then-a-eq0
-returns_then_a_eq0 c = record { upper_bound = search rules; text_value = λ h. absurd (omega arith) }
+pub returns-then-a-eq0 : goal.returns-then-a-eq0
+returns-then-a-eq0 c = record { upper_bound = search rules; text_value = λ h. absurd (omega arith) }
 
-pub quick_list_requires : goal.quick_list-requires
-quick_list_requires c = let e = c.behind-a.ensures (omega arith) in let p = c.requires in
+pub quick_list-requires : goal.quick_list-requires
+quick_list-requires c = let e = c.behind-a.ensures (omega arith) in let p = c.requires in
     (omega (arith, e.0, e.2, p.5), p.1, p.2, p.3, p.4)
 
 pub returns : goal.returns

@@ -7,29 +7,29 @@ use native.Mathlib.Omega.{arith}
 use Rattle.reader.proofs.QuickLines.{number_at}
 use Rattle.reader.proofs.quick_lines.quick_number_line.Goals as goal
 
-pub returns_then_a_eq0 : goal.returns-then-a-eq0
-returns_then_a_eq0 c = record { upper_bound = search rules; text_value = λ h. absurd (omega arith) }
+pub returns-then-a-eq0 : goal.returns-then-a-eq0
+returns-then-a-eq0 c = record { upper_bound = search rules; text_value = λ h. absurd (omega arith) }
 
-pub short_number_s_requires : goal.short_number-s-requires
-short_number_s_requires c = let e = c.behind-a.ensures (omega arith) in omega (arith, e.0, e.2, c.requires.3)
+pub short_number-s-requires : goal.short_number-s-requires
+short_number-s-requires c = let e = c.behind-a.ensures (omega arith) in omega (arith, e.0, e.2, c.requires.3)
 
-pub returns_then_e_eq0 : goal.returns-then-e-eq0
-returns_then_e_eq0 c = record { upper_bound = search rules; text_value = λ h. absurd (omega arith) }
+pub returns-then-e-eq0 : goal.returns-then-e-eq0
+returns-then-e-eq0 c = record { upper_bound = search rules; text_value = λ h. absurd (omega arith) }
 
-pub bounds_text_e : goal.bounds-text-e
-bounds_text_e c = let e = c.behind-a.ensures (omega arith) in search rules
+pub bounds-text-e : goal.bounds-text-e
+bounds-text-e c = let e = c.behind-a.ensures (omega arith) in search rules
 
-pub returns_then_text_e_ne_LINE_BREAK : goal.returns-then-text-e-ne-LINE_BREAK
-returns_then_text_e_ne_LINE_BREAK c = record { upper_bound = search rules; text_value = λ h. absurd (omega arith) }
+pub returns-then-text-e-ne-LINE_BREAK : goal.returns-then-text-e-ne-LINE_BREAK
+returns-then-text-e-ne-LINE_BREAK c = record { upper_bound = search rules; text_value = λ h. absurd (omega arith) }
 
-pub returns_then_x_lo : goal.returns-then-x-lo
-returns_then_x_lo c = record { upper_bound = search rules; text_value = λ h. absurd (omega arith) }
+pub returns-then-x-lo : goal.returns-then-x-lo
+returns-then-x-lo c = record { upper_bound = search rules; text_value = λ h. absurd (omega arith) }
 
-pub returns_then_hi_x : goal.returns-then-hi-x
-returns_then_hi_x c = record { upper_bound = search rules; text_value = λ h. absurd (omega arith) }
+pub returns-then-hi-x : goal.returns-then-hi-x
+returns-then-hi-x c = record { upper_bound = search rules; text_value = λ h. absurd (omega arith) }
 
-pub overflow_add_result : goal.overflow_add-result
-overflow_add_result c = let e = c.behind-a.ensures (omega arith) in search rules
+pub overflow_add-result : goal.overflow_add-result
+overflow_add-result c = let e = c.behind-a.ensures (omega arith) in search rules
 
 pub returns : goal.returns
 returns c = let a = c.args in

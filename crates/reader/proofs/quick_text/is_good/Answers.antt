@@ -7,14 +7,14 @@ use Rattle.reader.specs.Bytes.{bytes}
 use Rattle.reader.proofs.QuickBudget.{budget_ends}
 use Rattle.reader.proofs.quick_text.is_good.Goals as goal
 
-pub returns_then_at_eq0 : goal.returns-then-at-eq0
-returns_then_at_eq0 c = λ e. absurd (false≢true e)
+pub returns-then-at-eq0 : goal.returns-then-at-eq0
+returns-then-at-eq0 c = λ e. absurd (false≢true e)
 
-pub returns_then_text_at : goal.returns-then-text-at
-returns_then_text_at c = λ e. absurd (false≢true e)
+pub returns-then-text-at : goal.returns-then-text-at
+returns-then-text-at c = λ e. absurd (false≢true e)
 
-pub returns_then_not_key_at : goal.returns-then-not-key_at
-returns_then_not_key_at c = λ e. absurd (false≢true e)
+pub returns-then-not-key_at : goal.returns-then-not-key_at
+returns-then-not-key_at c = λ e. absurd (false≢true e)
 
 pub returns : goal.returns
 unfolding bytes

@@ -17,13 +17,13 @@ use Rattle.reader.proofs.quick_text.quick_action.Goals as goal
 
 -- what is known before the outcomes
 
-before_outcomes : (c : Else-b-eq0)
+before-outcomes : (c : Else-b-eq0)
     → let a = c.args in
     let r = c.quick_number_line-b.new.rec in
     (get_or r 0 0 ≡ a.n) × (get_or r 1 0 ≡ get_or a.rec.now 1 0) × ((1 ≤ get_or r (at_action a.m) 0) × (get_or r (at_action a.m) 0 ≤ 8))
     × Leads a.text.now (Need a.m) a.rec.now a.at (Eff a.m 0) r c.quick_number_line-b.result
 unfolding bytes
-before_outcomes c =
+before-outcomes c =
     let a = c.args in
     let b = c.behind-need.ensures (omega arith) in
     let p = c.quick_pairs-a in
@@ -41,28 +41,28 @@ before_outcomes c =
           (need_on a.text.now (Need a.m) a.rec.now a.at a.at p.result a.rec.now r a.m (leads_here a.text.now (Need a.m) a.rec.now a.at) b.1 f) g.0 g.1,
     )
 
-pub returns_then_need_eq0 : goal.returns-then-need-eq0
-returns_then_need_eq0 c = record { upper_bound = search rules; rec_after = λ h. absurd (omega arith) }
+pub returns-then-need-eq0 : goal.returns-then-need-eq0
+returns-then-need-eq0 c = record { upper_bound = search rules; rec_after = λ h. absurd (omega arith) }
 
-pub quick_pairs_a_requires : goal.quick_pairs-a-requires
+pub quick_pairs-a-requires : goal.quick_pairs-a-requires
 unfolding bytes
-quick_pairs_a_requires c = let b = c.behind-need.ensures (omega arith) in
+quick_pairs-a-requires c = let b = c.behind-need.ensures (omega arith) in
     (omega (arith, b.0, b.2), search rules, search rules, c.requires.2, c.requires.3)
 
-pub returns_then_a_eq0 : goal.returns-then-a-eq0
-returns_then_a_eq0 c = record { upper_bound = search rules; rec_after = λ h. absurd (omega arith) }
+pub returns-then-a-eq0 : goal.returns-then-a-eq0
+returns-then-a-eq0 c = record { upper_bound = search rules; rec_after = λ h. absurd (omega arith) }
 
-pub returns_then_b_eq0 : goal.returns-then-b-eq0
-returns_then_b_eq0 c = record { upper_bound = search rules; rec_after = λ h. absurd (omega arith) }
+pub returns-then-b-eq0 : goal.returns-then-b-eq0
+returns-then-b-eq0 c = record { upper_bound = search rules; rec_after = λ h. absurd (omega arith) }
 
-pub quick_outcomes_requires : goal.quick_outcomes-requires
-quick_outcomes_requires c = let b = before_outcomes (goal.at.quick_outcomes-requires c).Else-b-eq0 in
+pub quick_outcomes-requires : goal.quick_outcomes-requires
+quick_outcomes-requires c = let b = before-outcomes (goal.at.quick_outcomes-requires c).Else-b-eq0 in
     let q = c.quick_number_line-b in
     let w = c.from-count.ensures ∙ ap (λ (k : ℕ). get_or q.new.rec k 0) c.at_action-2.ensures in
     (q.ensures.upper_bound, search rules, sym b.0, c.requires.3, c.requires.4, w, omega (arith, w, b.2), omega (arith, w, b.2))
 
 pub returns : goal.returns
-returns c = let b = before_outcomes (goal.at.returns c).Else-b-eq0 in
+returns c = let b = before-outcomes (goal.at.returns c).Else-b-eq0 in
     let a = c.args in
     let p = c.quick_number_line-b in
     let o = c.quick_outcomes in record {

@@ -12,17 +12,17 @@ use Rattle.reader.specs.declared.order.Due.TheVariants.{Need, Goal}
 use Rattle.reader.proofs.QuickLines.{leads_here, leads_on}
 use Rattle.reader.proofs.quick_text.quick_actions.Goals as goal
 
-pub loop_rec_init : goal.loop-rec-init
-loop_rec_init c = (refl, search rules, search rules, sym c.requires.2, sym c.requires.4, rw c.requires.4 (leads_here c.args.text.now (action_from c.args.rec.now 0) c.args.rec.now c.args.at))
+pub loop-rec-init : goal.loop-rec-init
+loop-rec-init c = (refl, search rules, search rules, sym c.requires.2, sym c.requires.4, rw c.requires.4 (leads_here c.args.text.now (action_from c.args.rec.now 0) c.args.rec.now c.args.at))
 
-pub quick_action_k_requires : goal.quick_action-k-requires
-quick_action_k_requires c = (search rules, search rules, sym c.loop-rec.invariant.3, search rules, search rules)
+pub quick_action-k-requires : goal.quick_action-k-requires
+quick_action-k-requires c = (search rules, search rules, sym c.loop-rec.invariant.3, search rules, search rules)
 
-pub returns_then_k_eq0 : goal.returns-then-k-eq0
-returns_then_k_eq0 c = record { upper_bound = search rules; rec_after = λ h. absurd (omega arith) }
+pub returns-then-k-eq0 : goal.returns-then-k-eq0
+returns-then-k-eq0 c = record { upper_bound = search rules; rec_after = λ h. absurd (omega arith) }
 
-pub loop_rec_preserved : goal.loop-rec-preserved
-loop_rec_preserved c = let a = c.args in
+pub loop-rec-preserved : goal.loop-rec-preserved
+loop-rec-preserved c = let a = c.args in
     let l = c.loop-rec in
     let q = c.quick_action-k.ensures.rec_after (omega arith) in
     let r = c.quick_action-k.new.rec in

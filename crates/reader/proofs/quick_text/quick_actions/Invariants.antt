@@ -10,9 +10,9 @@ use Rattle.reader.specs.Quick.{Leads}
 use Rattle.reader.specs.declared.order.Due.TheVariants.{Need, Goal}
 use Rattle.reader.proofs.quick_text.quick_actions.Given as goal
 
-abbrev pub invariant_loop_rec : goal.invariant-loop-rec
-invariant_loop_rec l = (length l.rec ≡ length l.initial.rec) × (l.m ≤ l.count) × (l.k ≤ length l.text) × (get_or l.rec 0 0 ≡ l.n) × (get_or l.rec 1 0 ≡ l.count)
+abbrev pub invariant-loop-rec : goal.invariant-loop-rec
+invariant-loop-rec l = (length l.rec ≡ length l.initial.rec) × (l.m ≤ l.count) × (l.k ≤ length l.text) × (get_or l.rec 0 0 ≡ l.n) × (get_or l.rec 1 0 ≡ l.count)
     × Leads l.text (action_from l.initial.rec 0) l.initial.rec l.at (cond (ltb l.m l.count) (Need l.m) Goal) l.rec l.k
 
-abbrev pub decreases_loop_rec : goal.decreases-loop-rec
-decreases_loop_rec l = l.count - l.m
+abbrev pub decreases-loop-rec : goal.decreases-loop-rec
+decreases-loop-rec l = l.count - l.m

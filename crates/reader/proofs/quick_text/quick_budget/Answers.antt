@@ -6,13 +6,13 @@ use Rattle.reader.specs.Grammar.{go_on, take_budget}
 use Rattle.reader.specs.declared.order.Due.TheVariants.{Budget}
 use Rattle.reader.proofs.quick_text.quick_budget.Goals as goal
 
-pub returns_then_n_gt1000000 : goal.returns-then-n-gt1000000
-returns_then_n_gt1000000 c = λ e. absurd (false≢true e)
+pub returns-then-n-gt1000000 : goal.returns-then-n-gt1000000
+returns-then-n-gt1000000 c = λ e. absurd (false≢true e)
 
-pub returns_in_None : goal.returns-in-None
-returns_in_None c = λ e. absurd (false≢true e)
+pub returns-in-None : goal.returns-in-None
+returns-in-None c = λ e. absurd (false≢true e)
 
-pub returns_else_n_gt1000000 : goal.returns-else-n-gt1000000
+pub returns-else-n-gt1000000 : goal.returns-else-n-gt1000000
 unfolding take_budget
-returns_else_n_gt1000000 c = λ e. ap (take_budget c.args.rec.now Budget) (sym c.number.ensures ∙ c.in-Some.is)
+returns-else-n-gt1000000 c = λ e. ap (take_budget c.args.rec.now Budget) (sym c.number.ensures ∙ c.in-Some.is)
     ∙ simp (le-leb _ _ c.if-n-gt1000000.false) (ap (go_on Budget) (sym c.put_budget.ensures))

@@ -15,12 +15,12 @@ use Rattle.reader.proofs.quick_text.quick_front.Goals as goal
 
 -- what is known before the sizes
 
-before_sizes : (c : Else-a-eq0)
+before-sizes : (c : Else-a-eq0)
     → let a = c.args in
     let r = c.quick_number_line-a.new.rec in
     (1 ≤ get_or r 0 0) × (get_or r 0 0 ≤ 16) × Leads a.text.now Vars a.rec.now 0 (Size 0) r c.quick_number_line-a.result
 unfolding bytes
-before_sizes c =
+before-sizes c =
     let a = c.args in
     let p = c.quick_number_line-a in
     let f = p.ensures.text_value (omega arith) in
@@ -29,7 +29,7 @@ before_sizes c =
 
 -- what is known before the actions
 
-before_actions : (c : Else-c-eq0)
+before-actions : (c : Else-c-eq0)
     → let a = c.args in
     let p = c.quick_number_line-a in
     let r = c.quick_number_line-c.new.rec in
@@ -37,7 +37,7 @@ before_actions : (c : Else-c-eq0)
     (get_or r 0 0 ≡ c.from-n.result) × (c.from-n.result ≤ 16) × (get_or r 1 0 ≤ 64)
     × Leads a.text.now Vars a.rec.now 0 (action_from r 0) r c.quick_number_line-c.result
 unfolding bytes
-before_actions c e =
+before-actions c e =
     let a = c.args in
     let p = c.quick_number_line-a in
     let s = c.quick_sizes-b in
@@ -53,33 +53,33 @@ before_actions c e =
           (leads_on a.text.now Vars (Size 0) Moves a.rec.now p.new.rec s.new.rec 0 p.result s.result e.2 f.1) g.0 g.1,
     )
 
-pub returns_then_a_eq0 : goal.returns-then-a-eq0
-returns_then_a_eq0 c = record { upper_bound = search rules; rec_bound = λ h. absurd (omega arith) }
+pub returns-then-a-eq0 : goal.returns-then-a-eq0
+returns-then-a-eq0 c = record { upper_bound = search rules; rec_bound = λ h. absurd (omega arith) }
 
-pub quick_sizes_b_requires : goal.quick_sizes-b-requires
-quick_sizes_b_requires c = let e = before_sizes (goal.at.quick_sizes-b-requires c).Else-a-eq0 in
+pub quick_sizes-b-requires : goal.quick_sizes-b-requires
+quick_sizes-b-requires c = let e = before-sizes (goal.at.quick_sizes-b-requires c).Else-a-eq0 in
     let w = c.from-n.ensures in
     let l = e.0 in
     let n = e.1 in
     (c.quick_number_line-a.ensures.upper_bound, search rules, w, omega (arith, w, l), omega (arith, w, n))
 
-pub returns_then_b_eq0 : goal.returns-then-b-eq0
-returns_then_b_eq0 c = record { upper_bound = search rules; rec_bound = λ h. absurd (omega arith) }
+pub returns-then-b-eq0 : goal.returns-then-b-eq0
+returns-then-b-eq0 c = record { upper_bound = search rules; rec_bound = λ h. absurd (omega arith) }
 
-pub quick_number_line_c_requires : goal.quick_number_line-c-requires
-quick_number_line_c_requires c = (c.quick_sizes-b.ensures.upper_bound, search rules, omega arith, omega arith)
+pub quick_number_line-c-requires : goal.quick_number_line-c-requires
+quick_number_line-c-requires c = (c.quick_sizes-b.ensures.upper_bound, search rules, omega arith, omega arith)
 
-pub returns_then_c_eq0 : goal.returns-then-c-eq0
-returns_then_c_eq0 c = record { upper_bound = search rules; rec_bound = λ h. absurd (omega arith) }
+pub returns-then-c-eq0 : goal.returns-then-c-eq0
+returns-then-c-eq0 c = record { upper_bound = search rules; rec_bound = λ h. absurd (omega arith) }
 
-pub quick_actions_requires : goal.quick_actions-requires
-quick_actions_requires c = let e = before_actions (goal.at.quick_actions-requires c).Else-c-eq0 (before_sizes (goal.at.quick_actions-requires c).Else-a-eq0) in
+pub quick_actions-requires : goal.quick_actions-requires
+quick_actions-requires c = let e = before-actions (goal.at.quick_actions-requires c).Else-c-eq0 (before-sizes (goal.at.quick_actions-requires c).Else-a-eq0) in
     let w = c.from-count.ensures in
     let n = e.2 in
     (c.quick_number_line-c.ensures.upper_bound, search rules, sym e.0, e.1, w, omega (arith, w, n))
 
 pub returns : goal.returns
-returns c = let e = before_actions (goal.at.returns c).Else-c-eq0 (before_sizes (goal.at.returns c).Else-a-eq0) in
+returns c = let e = before-actions (goal.at.returns c).Else-c-eq0 (before-sizes (goal.at.returns c).Else-a-eq0) in
     let n = e.1 in record {
       upper_bound = c.quick_actions.ensures.upper_bound;
       rec_bound = λ h. let f = c.quick_actions.ensures.rec_after h in let z = f.0 in (

@@ -6,20 +6,20 @@ use Rattle.reader.specs.declared.order.Due.TheVariants.{Vars, Goal, Patterns, Bu
 use Rattle.reader.proofs.QuickLines.{leads_on}
 use Rattle.reader.proofs.quick_text.quick_lines.Goals as goal
 
-pub returns_then_a_eq0 : goal.returns-then-a-eq0
-returns_then_a_eq0 c = record { upper_bound = search rules; leads = λ h. absurd (omega arith) }
+pub returns-then-a-eq0 : goal.returns-then-a-eq0
+returns-then-a-eq0 c = record { upper_bound = search rules; leads = λ h. absurd (omega arith) }
 
-pub quick_states_b_requires : goal.quick_states-b-requires
-quick_states_b_requires c = let f = c.quick_front-a.ensures.rec_bound (omega arith) in
+pub quick_states-b-requires : goal.quick_states-b-requires
+quick_states-b-requires c = let f = c.quick_front-a.ensures.rec_bound (omega arith) in
     let n = f.0 in
     let w = c.from-n.ensures in
     (c.quick_front-a.ensures.upper_bound, search rules, w, omega (arith, w, n))
 
-pub returns_then_b_eq0 : goal.returns-then-b-eq0
-returns_then_b_eq0 c = record { upper_bound = search rules; leads = λ h. absurd (omega arith) }
+pub returns-then-b-eq0 : goal.returns-then-b-eq0
+returns-then-b-eq0 c = record { upper_bound = search rules; leads = λ h. absurd (omega arith) }
 
-pub quick_tail_requires : goal.quick_tail-requires
-quick_tail_requires c = let f = c.quick_front-a.ensures.rec_bound (omega arith) in
+pub quick_tail-requires : goal.quick_tail-requires
+quick_tail-requires c = let f = c.quick_front-a.ensures.rec_bound (omega arith) in
     let n = f.0 in
     let w = c.from-n.ensures in
     (c.quick_states-b.ensures.upper_bound, search rules, sym (c.quick_states-b.ensures.rec_after (omega arith)).0, omega (arith, w, n))

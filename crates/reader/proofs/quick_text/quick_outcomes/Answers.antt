@@ -13,24 +13,24 @@ use Rattle.reader.proofs.QuickLines.{leads_here, list_kept}
 use Rattle.reader.proofs.QuickOrder.{eff_on}
 use Rattle.reader.proofs.quick_text.quick_outcomes.Goals as goal
 
-pub loop_a_init : goal.loop-a-init
-loop_a_init c = let a = c.args in let p = c.requires in
+pub loop-a-init : goal.loop-a-init
+loop-a-init c = let a = c.args in let p = c.requires in
     (refl, search rules, search rules, sym p.2, refl, sym p.5, rw (lt-ltb 0 a.count p.6) (leads_here a.text.now (Eff a.m 0) a.rec.now a.at))
 
-pub returns_then_a_eq0 : goal.returns-then-a-eq0
-returns_then_a_eq0 c = record { upper_bound = search rules; rec_after = λ h. absurd (omega arith) }
+pub returns-then-a-eq0 : goal.returns-then-a-eq0
+returns-then-a-eq0 c = record { upper_bound = search rules; rec_after = λ h. absurd (omega arith) }
 
-pub quick_pairs_k_requires : goal.quick_pairs-k-requires
+pub quick_pairs-k-requires : goal.quick_pairs-k-requires
 unfolding bytes
-quick_pairs_k_requires c = let b = c.behind-a.ensures (omega arith) in
+quick_pairs-k-requires c = let b = c.behind-a.ensures (omega arith) in
     (omega (arith, b.0, b.2), search rules, search rules, sym c.loop-a.invariant.3, search rules)
 
-pub returns_then_k_eq0 : goal.returns-then-k-eq0
-returns_then_k_eq0 c = record { upper_bound = search rules; rec_after = λ h. absurd (omega arith) }
+pub returns-then-k-eq0 : goal.returns-then-k-eq0
+returns-then-k-eq0 c = record { upper_bound = search rules; rec_after = λ h. absurd (omega arith) }
 
-pub loop_a_preserved : goal.loop-a-preserved
+pub loop-a-preserved : goal.loop-a-preserved
 unfolding bytes
-loop_a_preserved c = let a = c.args in
+loop-a-preserved c = let a = c.args in
     let l = c.loop-a in
     let b = c.behind-a.ensures (omega arith) in
     let s = c.quick_pairs-k in

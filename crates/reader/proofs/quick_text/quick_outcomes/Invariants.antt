@@ -11,9 +11,9 @@ use Rattle.reader.specs.Quick.{Leads}
 use Rattle.reader.specs.declared.order.Due.TheVariants.{Eff}
 use Rattle.reader.proofs.quick_text.quick_outcomes.Given as goal
 
-abbrev pub invariant_loop_a : goal.invariant-loop-a
-invariant_loop_a l = (length l.rec ≡ length l.initial.rec) × (l.o ≤ l.count) × (l.k ≤ length l.text) × (get_or l.rec 0 0 ≡ l.n) × (get_or l.rec 1 0 ≡ get_or l.initial.rec 1 0) × (get_or l.rec (at_action l.m) 0 ≡ l.count)
+abbrev pub invariant-loop-a : goal.invariant-loop-a
+invariant-loop-a l = (length l.rec ≡ length l.initial.rec) × (l.o ≤ l.count) × (l.k ≤ length l.text) × (get_or l.rec 0 0 ≡ l.n) × (get_or l.rec 1 0 ≡ get_or l.initial.rec 1 0) × (get_or l.rec (at_action l.m) 0 ≡ l.count)
     × Leads l.text (Eff l.m 0) l.initial.rec l.at (cond (ltb l.o l.count) (Eff l.m l.o) (action_from l.rec (l.m + 1))) l.rec l.k
 
-abbrev pub decreases_loop_a : goal.decreases-loop-a
-decreases_loop_a l = l.count - l.o
+abbrev pub decreases-loop-a : goal.decreases-loop-a
+decreases-loop-a l = l.count - l.o

@@ -13,18 +13,18 @@ use Rattle.reader.proofs.QuickLines.{leads_here, list_kept}
 use Rattle.reader.proofs.QuickOrder.{pattern_on}
 use Rattle.reader.proofs.quick_text.quick_patterns.Goals as goal
 
-pub loop_rec_init : goal.loop-rec-init
-loop_rec_init c = (refl, search rules, search rules, sym c.requires.2, sym c.requires.4, rw c.requires.4 (leads_here c.args.text.now (pattern_from c.args.rec.now 0) c.args.rec.now c.args.at))
+pub loop-rec-init : goal.loop-rec-init
+loop-rec-init c = (refl, search rules, search rules, sym c.requires.2, sym c.requires.4, rw c.requires.4 (leads_here c.args.text.now (pattern_from c.args.rec.now 0) c.args.rec.now c.args.at))
 
-pub quick_list_line_k_requires : goal.quick_list_line-k-requires
-quick_list_line_k_requires c = (search rules, search rules, search rules, sym c.loop-rec.invariant.3, search rules, omega arith)
+pub quick_list_line-k-requires : goal.quick_list_line-k-requires
+quick_list_line-k-requires c = (search rules, search rules, search rules, sym c.loop-rec.invariant.3, search rules, omega arith)
 
-pub returns_then_k_eq0 : goal.returns-then-k-eq0
-returns_then_k_eq0 c = record { upper_bound = search rules; leads = λ h. absurd (omega arith) }
+pub returns-then-k-eq0 : goal.returns-then-k-eq0
+returns-then-k-eq0 c = record { upper_bound = search rules; leads = λ h. absurd (omega arith) }
 
-pub loop_rec_preserved : goal.loop-rec-preserved
+pub loop-rec-preserved : goal.loop-rec-preserved
 unfolding bytes
-loop_rec_preserved c = let a = c.args in
+loop-rec-preserved c = let a = c.args in
     let l = c.loop-rec in
     let q = rw c.at_pattern.ensures at (c.quick_list_line-k.ensures.text_value (omega arith)) in
     let r = c.quick_list_line-k.new.rec in

@@ -10,9 +10,9 @@ use Rattle.reader.specs.Quick.{Leads}
 use Rattle.reader.specs.declared.order.Due.TheVariants.{Pattern, Limit}
 use Rattle.reader.proofs.quick_text.quick_patterns.Given as goal
 
-abbrev pub invariant_loop_rec : goal.invariant-loop-rec
-invariant_loop_rec l = (length l.rec ≡ length l.initial.rec) × (l.p ≤ l.count) × (l.k ≤ length l.text) × (get_or l.rec 0 0 ≡ l.n) × (get_or l.rec 2 0 ≡ l.count)
+abbrev pub invariant-loop-rec : goal.invariant-loop-rec
+invariant-loop-rec l = (length l.rec ≡ length l.initial.rec) × (l.p ≤ l.count) × (l.k ≤ length l.text) × (get_or l.rec 0 0 ≡ l.n) × (get_or l.rec 2 0 ≡ l.count)
     × Leads l.text (pattern_from l.initial.rec 0) l.initial.rec l.at (cond (ltb l.p l.count) (Pattern l.p) Limit) l.rec l.k
 
-abbrev pub decreases_loop_rec : goal.decreases-loop-rec
-decreases_loop_rec l = l.count - l.p
+abbrev pub decreases-loop-rec : goal.decreases-loop-rec
+decreases-loop-rec l = l.count - l.p

@@ -11,15 +11,15 @@ use Rattle.reader.proofs.QuickLines.{leads_here, number_kept}
 use Rattle.reader.proofs.QuickOrder.{size_on}
 use Rattle.reader.proofs.quick_text.quick_sizes.Goals as goal
 
-pub loop_i_init : goal.loop-i-init
-loop_i_init c = (refl, search rules, search rules, sym c.requires.2, rw (lt-ltb 0 c.args.n c.requires.3) (leads_here c.args.text.now (Size 0) c.args.rec.now c.args.at))
+pub loop-i-init : goal.loop-i-init
+loop-i-init c = (refl, search rules, search rules, sym c.requires.2, rw (lt-ltb 0 c.args.n c.requires.3) (leads_here c.args.text.now (Size 0) c.args.rec.now c.args.at))
 
-pub returns_then_k_eq0 : goal.returns-then-k-eq0
-returns_then_k_eq0 c = record { upper_bound = search rules; rec_after = λ h. absurd (omega arith) }
+pub returns-then-k-eq0 : goal.returns-then-k-eq0
+returns-then-k-eq0 c = record { upper_bound = search rules; rec_after = λ h. absurd (omega arith) }
 
-pub loop_i_preserved : goal.loop-i-preserved
+pub loop-i-preserved : goal.loop-i-preserved
 unfolding bytes
-loop_i_preserved c = let a = c.args in
+loop-i-preserved c = let a = c.args in
     let l = c.loop-i in
     let q = c.quick_number_line-k.ensures.text_value (omega arith) in
     let r = c.quick_number_line-k.new.rec in

@@ -9,9 +9,9 @@ use Rattle.reader.specs.Quick.{Leads}
 use Rattle.reader.specs.declared.order.Due.TheVariants.{Size, Moves}
 use Rattle.reader.proofs.quick_text.quick_sizes.Given as goal
 
-abbrev pub invariant_loop_i : goal.invariant-loop-i
-invariant_loop_i l = (length l.rec ≡ length l.initial.rec) × (l.i ≤ l.n) × (l.k ≤ length l.text) × (get_or l.rec 0 0 ≡ l.n)
+abbrev pub invariant-loop-i : goal.invariant-loop-i
+invariant-loop-i l = (length l.rec ≡ length l.initial.rec) × (l.i ≤ l.n) × (l.k ≤ length l.text) × (get_or l.rec 0 0 ≡ l.n)
     × Leads l.text (Size 0) l.initial.rec l.at (cond (ltb l.i l.n) (Size l.i) Moves) l.rec l.k
 
-abbrev pub decreases_loop_i : goal.decreases-loop-i
-decreases_loop_i l = l.n - l.i
+abbrev pub decreases-loop-i : goal.decreases-loop-i
+decreases-loop-i l = l.n - l.i

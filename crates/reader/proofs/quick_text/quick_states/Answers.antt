@@ -15,12 +15,12 @@ use Rattle.reader.proofs.quick_text.quick_states.Goals as goal
 
 -- what is known before the start
 
-before_start : (c : Else-a-eq0)
+before-start : (c : Else-a-eq0)
     → let a = c.args in
     let r = c.quick_pairs-a.new.rec in
     (a.n ≡ get_or r 0 0) × Leads a.text.now Goal a.rec.now a.at Start r c.quick_pairs-a.result
 unfolding bytes
-before_start c =
+before-start c =
     let a = c.args in
     let b = c.behind-goal.ensures (omega arith) in
     let p = c.quick_pairs-a in
@@ -29,23 +29,23 @@ before_start c =
       goal_on a.text.now Goal a.rec.now a.at a.at p.result a.rec.now p.new.rec (leads_here a.text.now Goal a.rec.now a.at) b.1 f,
     )
 
-pub returns_then_goal_eq0 : goal.returns-then-goal-eq0
-returns_then_goal_eq0 c = record { upper_bound = search rules; rec_after = λ h. absurd (omega arith) }
+pub returns-then-goal-eq0 : goal.returns-then-goal-eq0
+returns-then-goal-eq0 c = record { upper_bound = search rules; rec_after = λ h. absurd (omega arith) }
 
-pub quick_pairs_a_requires : goal.quick_pairs-a-requires
+pub quick_pairs-a-requires : goal.quick_pairs-a-requires
 unfolding bytes
-quick_pairs_a_requires c = let b = c.behind-goal.ensures (omega arith) in
+quick_pairs-a-requires c = let b = c.behind-goal.ensures (omega arith) in
     (omega (arith, b.0, b.2), omega arith, search rules, c.requires.2, c.requires.3)
 
-pub returns_then_a_eq0 : goal.returns-then-a-eq0
-returns_then_a_eq0 c = record { upper_bound = search rules; rec_after = λ h. absurd (omega arith) }
+pub returns-then-a-eq0 : goal.returns-then-a-eq0
+returns-then-a-eq0 c = record { upper_bound = search rules; rec_after = λ h. absurd (omega arith) }
 
-pub quick_list_line_requires : goal.quick_list_line-requires
-quick_list_line_requires c = (c.quick_pairs-a.ensures.upper_bound, omega arith, search rules, (before_start (goal.at.quick_list_line-requires c).Else-a-eq0).0, c.requires.3, omega arith)
+pub quick_list_line-requires : goal.quick_list_line-requires
+quick_list_line-requires c = (c.quick_pairs-a.ensures.upper_bound, omega arith, search rules, (before-start (goal.at.quick_list_line-requires c).Else-a-eq0).0, c.requires.3, omega arith)
 
 pub returns : goal.returns
 unfolding bytes
-returns c = let e = before_start (goal.at.returns c).Else-a-eq0 in
+returns c = let e = before-start (goal.at.returns c).Else-a-eq0 in
     let a = c.args in
     let p = c.quick_pairs-a in
     let q = c.quick_list_line in record {

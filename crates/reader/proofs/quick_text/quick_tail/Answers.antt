@@ -15,12 +15,12 @@ use Rattle.reader.proofs.quick_text.quick_tail.Goals as goal
 
 -- what is known before the patterns
 
-before_patterns : (c : Else-a-eq0)
+before-patterns : (c : Else-a-eq0)
     → let a = c.args in
     let r = c.quick_number_line-a.new.rec in
     (a.n ≡ get_or r 0 0) × (get_or r 2 0 ≤ 8) × Leads a.text.now Patterns a.rec.now a.at (pattern_from r 0) r c.quick_number_line-a.result
 unfolding bytes
-before_patterns c =
+before-patterns c =
     let a = c.args in
     let p = c.quick_number_line-a in
     let f = p.ensures.text_value (omega arith) in (
@@ -29,24 +29,24 @@ before_patterns c =
       patterns_on a.text.now Patterns a.rec.now a.at a.at p.result a.rec.now p.new.rec (leads_here a.text.now Patterns a.rec.now a.at) f.0 f.1,
     )
 
-pub returns_then_a_eq0 : goal.returns-then-a-eq0
-returns_then_a_eq0 c = record { upper_bound = search rules; leads = λ h. absurd (omega arith) }
+pub returns-then-a-eq0 : goal.returns-then-a-eq0
+returns-then-a-eq0 c = record { upper_bound = search rules; leads = λ h. absurd (omega arith) }
 
-pub quick_patterns_b_requires : goal.quick_patterns-b-requires
-quick_patterns_b_requires c = let e = before_patterns (goal.at.quick_patterns-b-requires c).Else-a-eq0 in
+pub quick_patterns-b-requires : goal.quick_patterns-b-requires
+quick_patterns-b-requires c = let e = before-patterns (goal.at.quick_patterns-b-requires c).Else-a-eq0 in
     let w = c.from-count.ensures in
     let n = e.1 in
     (c.quick_number_line-a.ensures.upper_bound, search rules, e.0, c.requires.3, w, omega (arith, w, n))
 
-pub returns_then_b_eq0 : goal.returns-then-b-eq0
-returns_then_b_eq0 c = record { upper_bound = search rules; leads = λ h. absurd (omega arith) }
+pub returns-then-b-eq0 : goal.returns-then-b-eq0
+returns-then-b-eq0 c = record { upper_bound = search rules; leads = λ h. absurd (omega arith) }
 
-pub quick_number_line_requires : goal.quick_number_line-requires
-quick_number_line_requires c = (c.quick_patterns-b.ensures.upper_bound, search rules, omega arith, omega arith)
+pub quick_number_line-requires : goal.quick_number_line-requires
+quick_number_line-requires c = (c.quick_patterns-b.ensures.upper_bound, search rules, omega arith, omega arith)
 
 pub returns : goal.returns
 unfolding bytes
-returns c = let e = before_patterns (goal.at.returns c).Else-a-eq0 in
+returns c = let e = before-patterns (goal.at.returns c).Else-a-eq0 in
     let a = c.args in
     let p = c.quick_number_line-a in
     let s = c.quick_patterns-b in

@@ -7,8 +7,8 @@ use native.Mathlib.Omega.{arith}
 use Rattle.reader.proofs.Stores.{part_stored, sets_fit, sets_out}
 use Rattle.reader.proofs.store.put_cells.Goals as goal
 
-pub returns_then_at_r : goal.returns-then-at-r
-returns_then_at_r c =
+pub returns-then-at-r : goal.returns-then-at-r
+returns-then-at-r c =
     let a = c.args in
     let r = a.r.now in
     let n = c.min-n.result in
@@ -19,5 +19,5 @@ returns_then_at_r c =
     ∙ ap (sets r a.at) c.copy_from_slice.ensures.after
     ∙ sets_fit a.cells.now r a.at n (λ l. omega (arith, m))
 
-pub returns_else_at_r : goal.returns-else-at-r
-returns_else_at_r c = sym (sets_out c.args.cells.now c.args.r.now c.args.at c.if-at-r.false)
+pub returns-else-at-r : goal.returns-else-at-r
+returns-else-at-r c = sym (sets_out c.args.cells.now c.args.r.now c.args.at c.if-at-r.false)

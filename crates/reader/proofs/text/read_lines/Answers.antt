@@ -32,64 +32,64 @@ within c =
 
 -- the whole text, by the line that is read and those after it
 
-by_line : (c : After-find-k)
+by-line : (c : After-find-k)
     → let t = c.args.text.now in
     let l = c.loop-at in
     let k = c.find-k.result in
     read_from 1 Vars c.args.rec.now (lines_of t) ≡ read_from l.line l.due l.rec (take k (drop l.at t) ∷ lines_of (drop (l.at + k + 1) t))
-by_line c =
+by-line c =
     let l = c.loop-at in
     l.invariant.3 ∙ ap (read_from l.line l.due l.rec) (lines_next l.at c.find-k.result c.args.text.now c.loop-at-test.true (found c))
 
 -- what `take_line` tells of that line
 
-this_line : (c : After-take_line)
+this-line : (c : After-take_line)
     → let l = c.loop-at in
     take_line l.rec l.due (take c.find-k.result (drop l.at c.args.text.now)) ≡ told c.take_line.result c.take_line.new.rec
-this_line c =
+this-line c =
     let l = c.loop-at in
     ap (λ (s : List ℕ). take_line l.rec l.due (take c.find-k.result s)) (sym (part_rest c.args.text.now l.at)) ∙ c.take_line.ensures
 
 -- no line is left
 
-at_end : (c : After-loop-at)
+at-end : (c : After-loop-at)
     → read_from 1 Vars c.args.rec.now (lines_of c.args.text.now) ≡ read_from c.loop-at.line c.loop-at.due c.loop-at.rec []
-at_end c =
+at-end c =
     c.loop-at.invariant.3 ∙ rw (drop_of_length-le c.args.text.now c.loop-at-test.false, lines_none)
 
-pub loop_at_init : goal.loop-at-init
-loop_at_init c = (search rules, search rules, refl, refl)
+pub loop-at-init : goal.loop-at-init
+loop-at-init c = (search rules, search rules, refl, refl)
 
-pub slice_bounds_take_line_end : goal.slice_bounds-take_line-end
-slice_bounds_take_line_end c =
+pub slice_bounds-take_line-end : goal.slice_bounds-take_line-end
+slice_bounds-take_line-end c =
     sym (length-take-le _ _ (rw (part_rest c.args.text.now c.loop-at.at, length-drop) (omega (arith, within (goal.at.slice_bounds-take_line-end c).After-find-k))))
 
-pub returns_in_Err : goal.returns-in-Err
-returns_in_Err c =
-    by_line (goal.at.returns-in-Err c).After-find-k ∙ read_faulty c.loop-at.line c.loop-at.due c.loop-at.rec _ _ c.in-Err.fault (this_line (goal.at.returns-in-Err c).After-take_line ∙ ap (λ (t : Result Due LineFault). told t c.take_line.new.rec) c.in-Err.is)
+pub returns-in-Err : goal.returns-in-Err
+returns-in-Err c =
+    by-line (goal.at.returns-in-Err c).After-find-k ∙ read_faulty c.loop-at.line c.loop-at.due c.loop-at.rec _ _ c.in-Err.fault (this-line (goal.at.returns-in-Err c).After-take_line ∙ ap (λ (t : Result Due LineFault). told t c.take_line.new.rec) c.in-Err.is)
     ∙ ap (λ (e : Refusal). refused e) (sym c.at.ensures)
 
-pub overflow_add_at : goal.overflow_add-at
-overflow_add_at c = omega (arith, within (goal.at.overflow_add-at c).After-find-k)
+pub overflow_add-at : goal.overflow_add-at
+overflow_add-at c = omega (arith, within (goal.at.overflow_add-at c).After-find-k)
 
-pub overflow_add_at_in_loop_at : goal.overflow_add-at-in-loop-at
-overflow_add_at_in_loop_at c = omega (arith, within (goal.at.overflow_add-at-in-loop-at c).After-find-k)
+pub overflow_add-at-in-loop-at : goal.overflow_add-at-in-loop-at
+overflow_add-at-in-loop-at c = omega (arith, within (goal.at.overflow_add-at-in-loop-at c).After-find-k)
 
-pub loop_at_smaller : goal.loop-at-smaller
-loop_at_smaller c = omega (arith, within (goal.at.loop-at-smaller c).After-find-k)
+pub loop-at-smaller : goal.loop-at-smaller
+loop-at-smaller c = omega (arith, within (goal.at.loop-at-smaller c).After-find-k)
 
-pub loop_at_preserved : goal.loop-at-preserved
-loop_at_preserved c = (
+pub loop-at-preserved : goal.loop-at-preserved
+loop-at-preserved c = (
   omega (arith, within (goal.at.loop-at-preserved c).After-find-k),
   omega arith,
   search rules,
-  by_line (goal.at.loop-at-preserved c).After-find-k ∙ read_taken c.loop-at.line c.loop-at.due c.loop-at.rec _ _ c.in-Ok.next _ (this_line (goal.at.loop-at-preserved c).After-take_line ∙ ap (λ (t : Result Due LineFault). told t c.take_line.new.rec) c.in-Ok.is),
+  by-line (goal.at.loop-at-preserved c).After-find-k ∙ read_taken c.loop-at.line c.loop-at.due c.loop-at.rec _ _ c.in-Ok.next _ (this-line (goal.at.loop-at-preserved c).After-take_line ∙ ap (λ (t : Result Due LineFault). told t c.take_line.new.rec) c.in-Ok.is),
 )
 
-pub returns_then_is_end : goal.returns-then-is_end
-returns_then_is_end c =
-    at_end (goal.at.returns-then-is_end c).After-loop-at ∙ read_complete c.loop-at.line c.loop-at.due c.loop-at.rec (sym c.is_end.ensures ∙ c.if-is_end.true)
+pub returns-then-is_end : goal.returns-then-is_end
+returns-then-is_end c =
+    at-end (goal.at.returns-then-is_end c).After-loop-at ∙ read_complete c.loop-at.line c.loop-at.due c.loop-at.rec (sym c.is_end.ensures ∙ c.if-is_end.true)
 
 pub returns : goal.returns
 returns c =
-    at_end (goal.at.returns c).After-loop-at ∙ read_missing c.loop-at.line c.loop-at.due c.loop-at.rec (sym c.is_end.ensures ∙ c.if-is_end.false)
+    at-end (goal.at.returns c).After-loop-at ∙ read_missing c.loop-at.line c.loop-at.due c.loop-at.rec (sym c.is_end.ensures ∙ c.if-is_end.false)

@@ -8,10 +8,10 @@ use Rattle.reader.specs.Text.{lines_of}
 use Rattle.reader.specs.declared.order.Due.TheVariants.{Vars}
 use Rattle.reader.proofs.text.read_lines.Given as goal
 
-abbrev pub invariant_loop_at : goal.invariant-loop-at
-invariant_loop_at l =
+abbrev pub invariant-loop-at : goal.invariant-loop-at
+invariant-loop-at l =
     (l.at ≤ length l.text + 1) × (l.line ≤ l.at + 1) × (length l.rec ≡ length l.initial.rec)
     × (read_from 1 Vars l.initial.rec (lines_of l.text) ≡ read_from l.line l.due l.rec (lines_of (drop l.at l.text)))
 
-abbrev pub decreases_loop_at : goal.decreases-loop-at
-decreases_loop_at l = length l.text + 1 - l.at
+abbrev pub decreases-loop-at : goal.decreases-loop-at
+decreases-loop-at l = length l.text + 1 - l.at

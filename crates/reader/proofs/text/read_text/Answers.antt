@@ -27,14 +27,14 @@ use Rattle.reader.proofs.text.read_text.Goals as goal
 
 -- a text that is known for good says the record that was filled
 
-good_text : (c : Then-is_good) → read_whole c.args.text.now ≡ complete c.is_good.new.rec
+good-text : (c : Then-is_good) → read_whole c.args.text.now ≡ complete c.is_good.new.rec
 unfolding read_whole
-good_text c = ap (λ (r : List ℕ). read_from 1 Vars r (lines_of c.args.text.now)) (sym c.clear_record.ensures) ∙ c.is_good.ensures c.if-is_good.true
+good-text c = ap (λ (r : List ℕ). read_from 1 Vars r (lines_of c.args.text.now)) (sym c.clear_record.ensures) ∙ c.is_good.ensures c.if-is_good.true
 
-whole_told : (x : Whole) → read_numbers (answer_of x) ≡ whole_numbers x
+whole-told : (x : Whole) → read_numbers (answer_of x) ≡ whole_numbers x
 unfolding read_numbers whole_numbers
-whole_told (complete r) = refl
-whole_told (refused refusal) = refl
+whole-told (complete r) = refl
+whole-told (refused refusal) = refl
 
 -- one line: a test with its refusal before what the text says
 line-told : (b : Bool) (e : Refusal) (x : Result Unit Refusal) (judged : Numbers) → read_numbers x ≡ judged → read_numbers (cond b (Err e) x) ≡ cond b (refusal_numbers e) judged
@@ -44,20 +44,20 @@ line-told false e x judged p = p
 
 told : (text record₀ : List ℕ) → (x : Result Unit Refusal) → {L : Type 0} → (x ≡ read_answer text record₀) × L → ((x ≡ read_answer text record₀) × L) × (read_numbers x ≡ text_by_lines text record₀)
 unfolding read_answer text_by_lines short_record refused_if
-told text record₀ x e = (e, ap read_numbers e.0 ∙ line-told (ltb (length record₀) record_size) (ShortRecord (length record₀)) _ _ (whole_told (read_whole text)))
+told text record₀ x e = (e, ap read_numbers e.0 ∙ line-told (ltb (length record₀) record_size) (ShortRecord (length record₀)) _ _ (whole-told (read_whole text)))
 
-pub returns_then_record_lt_RECORD_SIZE : goal.returns-then-record-lt-RECORD_SIZE
+pub returns-then-record-lt-RECORD_SIZE : goal.returns-then-record-lt-RECORD_SIZE
 unfolding read_answer read_leaves
-returns_then_record_lt_RECORD_SIZE c = let both = told c.args.text.now c.args.record.now _ (simp (lt-ltb _ _ c.if-record-lt-RECORD_SIZE.true), simp (lt-ltb _ _ c.if-record-lt-RECORD_SIZE.true)) in record { value = both.0; numbers = both.1 }
+returns-then-record-lt-RECORD_SIZE c = let both = told c.args.text.now c.args.record.now _ (simp (lt-ltb _ _ c.if-record-lt-RECORD_SIZE.true), simp (lt-ltb _ _ c.if-record-lt-RECORD_SIZE.true)) in record { value = both.0; numbers = both.1 }
 
-pub clear_record_requires : goal.clear_record-requires
+pub clear_record-requires : goal.clear_record-requires
 unfolding all_unnamed
-clear_record_requires c = refl
+clear_record-requires c = refl
 
-pub returns_then_is_good : goal.returns-then-is_good
-returns_then_is_good c = let a = c.args in
+pub returns-then-is_good : goal.returns-then-is_good
+returns-then-is_good c = let a = c.args in
     let l = c.is_good.new.rec in
-    let d = answers_read a.text.now a.record.now c.if-record-lt-RECORD_SIZE.false l (good_text (goal.at.returns-then-is_good c).Then-is_good) in
+    let d = answers_read a.text.now a.record.now c.if-record-lt-RECORD_SIZE.false l (good-text (goal.at.returns-then-is_good c).Then-is_good) in
     let both = told a.text.now a.record.now _ (d.0, c.put_cells.ensures ∙ sets_front a.record.now l record_size (search rules) c.if-record-lt-RECORD_SIZE.false ∙ d.1) in record { value = both.0; numbers = both.1 }
 
 pub returns : goal.returns

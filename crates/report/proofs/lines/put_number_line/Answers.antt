@@ -5,8 +5,8 @@ use Rattle.report.proofs.Decimals.{word_length}
 use Rattle.report.proofs.Stored.{written_then}
 use Rattle.report.proofs.lines.put_number_line.Goals as goal
 
-pub put_byte_requires : goal.put_byte-requires
-put_byte_requires c = omega (arith, c.put_decimal-end.ensures.ends, word_length c.args.n (omega arith))
+pub put_byte-requires : goal.put_byte-requires
+put_byte-requires c = omega (arith, c.put_decimal-end.ensures.ends, word_length c.args.n (omega arith))
 
 pub returns : goal.returns
 unfolding line number_line

@@ -8,11 +8,11 @@ use Rattle.report.proofs.Decimals.{byte-length}
 use Rattle.report.proofs.Stored.{written_nothing, written_then}
 use Rattle.report.proofs.list.put_list.Goals as goal
 
-pub returns_then_bytes_eq0 : goal.returns-then-bytes-eq0
-returns_then_bytes_eq0 c = rw (list_of_none c.args.bytes.now c.if-bytes-eq0.true) (written_nothing _ _, omega arith)
+pub returns-then-bytes-eq0 : goal.returns-then-bytes-eq0
+returns-then-bytes-eq0 c = rw (list_of_none c.args.bytes.now c.if-bytes-eq0.true) (written_nothing _ _, omega arith)
 
-pub put_rest_requires : goal.put_rest-requires
-put_rest_requires c =
+pub put_rest-requires : goal.put_rest-requires
+put_rest-requires c =
     let w = c.args.bytes.now in
     let b = byte-length c.wide.result c.wide.ensures.1 in
     (omega (arith, c.put_decimal-end.ensures.ends, b), rw (part_rest w 1, length-drop 1 w) (omega arith))

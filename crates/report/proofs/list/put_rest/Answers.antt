@@ -9,11 +9,11 @@ use Rattle.report.proofs.Decimals.{byte-length}
 use Rattle.report.proofs.Stored.{written_nothing, written_then}
 use Rattle.report.proofs.list.put_rest.Goals as goal
 
-pub loop_i_init : goal.loop-i-init
-loop_i_init c = rw commas_of_none (written_nothing _ _, omega arith, omega arith, refl)
+pub loop-i-init : goal.loop-i-init
+loop-i-init c = rw commas_of_none (written_nothing _ _, omega arith, omega arith, refl)
 
-pub loop_i_preserved : goal.loop-i-preserved
-loop_i_preserved c = let w = c.args.bytes.now in
+pub loop-i-preserved : goal.loop-i-preserved
+loop-i-preserved c = let w = c.args.bytes.now in
     let v = c.loop-i.invariant in
     let b = c.wide.ensures in (
       rw (commas_more w c.loop-i.i c.loop-i-test.true, ← b.0) (written_then v.0 (written_then c.put_byte-after.ensures.0 c.put_decimal-end.ensures)),

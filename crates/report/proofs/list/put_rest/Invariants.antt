@@ -7,8 +7,8 @@ use Rattle.report.specs.Lines.{comma_before}
 use Rattle.report.specs.Writing.{Written}
 use Rattle.report.proofs.list.put_rest.Given as goal
 
-abbrev pub invariant_loop_i : goal.invariant-loop-i
-invariant_loop_i l = (Written (comma_before (take l.i l.bytes)) l.at l.initial.out l.out l.end) × (l.i ≤ length l.bytes) × (l.end ≤ l.at + 4 * l.i) × (length l.out ≡ length l.initial.out)
+abbrev pub invariant-loop-i : goal.invariant-loop-i
+invariant-loop-i l = (Written (comma_before (take l.i l.bytes)) l.at l.initial.out l.out l.end) × (l.i ≤ length l.bytes) × (l.end ≤ l.at + 4 * l.i) × (length l.out ≡ length l.initial.out)
 
-abbrev pub decreases_loop_i : goal.decreases-loop-i
-decreases_loop_i l = length l.bytes - l.i
+abbrev pub decreases-loop-i : goal.decreases-loop-i
+decreases-loop-i l = length l.bytes - l.i

@@ -9,15 +9,15 @@ use Rattle.report.proofs.Reports.{text_refused, text_read, printed-refusal, prin
 use Rattle.report.proofs.Stored.{written_all}
 use Rattle.report.proofs.text.report_text.Goals as goal
 
-pub returns_in_Refused : goal.returns-in-Refused
-returns_in_Refused c = let e = sym c.in-Refused.is ∙ c.read_text.ensures.value.0 in
+pub returns-in-Refused : goal.returns-in-Refused
+returns-in-Refused c = let e = sym c.in-Refused.is ∙ c.read_text.ensures.value.0 in
     let w = text_refused _ _ _ _ e refl in
     let p = printed-refusal _ (length c.args.tables.now) (length c.args.plan.now) c.args.tables.now c.args.plan.now _ _ w in
     let a = written_all c.put_refusal.ensures.0 in
     (a.0 ∙ ap length (sym p.0), a.1 ∙ ap (λ (l : List ℕ). overwritten l c.args.out.now) (sym p.0), sym p.1, sym p.2, omega (arith, c.put_refusal.ensures.1))
 
-pub returns_in_Read : goal.returns-in-Read
-returns_in_Read c = let e = sym c.in-Read.is ∙ c.read_text.ensures.value.0 in
+pub returns-in-Read : goal.returns-in-Read
+returns-in-Read c = let e = sym c.in-Read.is ∙ c.read_text.ensures.value.0 in
     let w = text_read _ _ e refl in
     let p = printed_record _ (length c.args.tables.now) (length c.args.plan.now) c.args.tables.now c.args.plan.now _ _ w c.read_text.ensures.value.1 in
     let a = written_all c.report_record.ensures.0 in (

@@ -3,5 +3,5 @@ use mathlib.Core.Path.{sym}
 use lib.Seq.{set_out}
 use Rattle.report.proofs.writing.put.Goals as goal
 
-pub returns_else_at_out : goal.returns-else-at-out
-returns_else_at_out c = sym (set_out _ _ _ c.if-at-out.false)
+pub returns-else-at-out : goal.returns-else-at-out
+returns-else-at-out c = sym (set_out _ _ _ c.if-at-out.false)

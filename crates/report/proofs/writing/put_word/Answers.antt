@@ -6,11 +6,11 @@ use lib.ListN.{length, length-set}
 use Rattle.report.proofs.Stored.{written_nothing, written-more, written_whole}
 use Rattle.report.proofs.writing.put_word.Goals as goal
 
-pub loop_i_init : goal.loop-i-init
-loop_i_init c = rw add-zero (written_nothing _ _, omega arith, refl)
+pub loop-i-init : goal.loop-i-init
+loop-i-init c = rw add-zero (written_nothing _ _, omega arith, refl)
 
-pub loop_i_preserved : goal.loop-i-preserved
-loop_i_preserved c =
+pub loop-i-preserved : goal.loop-i-preserved
+loop-i-preserved c =
     let v = c.loop-i.invariant in
     (written-more _ _ c.loop-i-test.true v.0 c.put.ensures, omega arith, ap length c.put.ensures ∙ simp length-set v.2)
 

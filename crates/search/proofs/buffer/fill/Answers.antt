@@ -2,11 +2,11 @@
 use Rattle.search.proofs.Bytes.{filling_begins, filling_goes_on, filling_ends}
 use Rattle.search.proofs.buffer.fill.Goals as goal
 
-pub loop_i_init : goal.loop-i-init
-loop_i_init c = filling_begins _ _ _
+pub loop-i-init : goal.loop-i-init
+loop-i-init c = filling_begins _ _ _
 
-pub loop_i_preserved : goal.loop-i-preserved
-loop_i_preserved c = filling_goes_on c.loop-i.invariant c.loop-i-test.true
+pub loop-i-preserved : goal.loop-i-preserved
+loop-i-preserved c = filling_goes_on c.loop-i.invariant c.loop-i-test.true
 
 pub returns : goal.returns
 returns c = filling_ends c.loop-i.invariant c.loop-i-test.false

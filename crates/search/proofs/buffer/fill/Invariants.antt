@@ -3,8 +3,8 @@ use Rattle.std.proofs.Common.{◌-◌, length}
 use Rattle.search.proofs.Bytes.{Filling}
 use Rattle.search.proofs.buffer.fill.Given as goal
 
-abbrev pub invariant_loop_i : goal.invariant-loop-i
-invariant_loop_i l = Filling l.from l.x l.initial.plan l.plan l.i
+abbrev pub invariant-loop-i : goal.invariant-loop-i
+invariant-loop-i l = Filling l.from l.x l.initial.plan l.plan l.i
 
-abbrev pub decreases_loop_i : goal.decreases-loop-i
-decreases_loop_i l = length l.initial.plan - l.i
+abbrev pub decreases-loop-i : goal.decreases-loop-i
+decreases-loop-i l = length l.initial.plan - l.i

@@ -3,5 +3,5 @@ use Rattle.std.proofs.Common.{sym}
 use lib.Seq.{set_out}
 use Rattle.search.proofs.buffer.put.Goals as goal
 
-pub returns_else_at_plan : goal.returns-else-at-plan
-returns_else_at_plan c = sym (set_out _ _ _ c.if-at-plan.false)
+pub returns-else-at-plan : goal.returns-else-at-plan
+returns-else-at-plan c = sym (set_out _ _ _ c.if-at-plan.false)

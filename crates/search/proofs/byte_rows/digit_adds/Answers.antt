@@ -3,9 +3,9 @@ use Rattle.std.proofs.Common.{le-ltb, lt-ltb}
 use Rattle.search.specs.ByteRows.{digit_adds}
 use Rattle.search.proofs.byte_rows.digit_adds.Goals as goal
 
-pub returns_then_v_variables : goal.returns-then-v-variables
+pub returns-then-v-variables : goal.returns-then-v-variables
 unfolding digit_adds
-returns_then_v_variables c = rw (lt-ltb _ _ c.if-v-variables.true)
+returns-then-v-variables c = rw (lt-ltb _ _ c.if-v-variables.true)
 
 pub returns : goal.returns
 unfolding digit_adds

@@ -3,17 +3,17 @@ use Rattle.std.proofs.Common.{sym, ◌∙◌, arith}
 use Rattle.search.proofs.PlacesFilled.{blocking_starts, blocking_goes_on, blocking_ends}
 use Rattle.search.proofs.byte_rows.fill_block.Goals as goal
 
-pub loop_h_init : goal.loop-h-init
-loop_h_init c = let a = c.args in (omega arith, blocking_starts a.low a.high a.places.now a.at c.requires.0)
+pub loop-h-init : goal.loop-h-init
+loop-h-init c = let a = c.args in (omega arith, blocking_starts a.low a.high a.places.now a.at c.requires.0)
 
-pub fill_sums_requires : goal.fill_sums-requires
-fill_sums_requires c = (c.loop-h.invariant.1.long, omega (arith, c.requires.1))
+pub fill_sums-requires : goal.fill_sums-requires
+fill_sums-requires c = (c.loop-h.invariant.1.long, omega (arith, c.requires.1))
 
-pub loop_h_preserved : goal.loop-h-preserved
-loop_h_preserved c = (omega arith, blocking_goes_on c.loop-h.invariant.1 c.loop-h-test.true c.fill_sums.ensures c.fill_sums.auto.places)
+pub loop-h-preserved : goal.loop-h-preserved
+loop-h-preserved c = (omega arith, blocking_goes_on c.loop-h.invariant.1 c.loop-h-test.true c.fill_sums.ensures c.fill_sums.auto.places)
 
-pub shape_of_places : goal.shape_of-places
-shape_of_places c = c.loop-h.invariant.1.long ∙ sym c.requires.0
+pub shape_of-places : goal.shape_of-places
+shape_of-places c = c.loop-h.invariant.1.long ∙ sym c.requires.0
 
 pub returns : goal.returns
 returns c = blocking_ends c.loop-h.invariant.1 c.loop-h-test.false

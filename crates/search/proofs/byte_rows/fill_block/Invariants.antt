@@ -3,8 +3,8 @@ use Rattle.std.proofs.Common.{◌-◌, ◌≤◌}
 use Rattle.search.proofs.PlacesFilled.{Blocking}
 use Rattle.search.proofs.byte_rows.fill_block.Given as goal
 
-abbrev pub invariant_loop_h : goal.invariant-loop-h
-invariant_loop_h l = (l.h ≤ 16) × Blocking l.low l.high l.initial.places l.places l.at l.h
+abbrev pub invariant-loop-h : goal.invariant-loop-h
+invariant-loop-h l = (l.h ≤ 16) × Blocking l.low l.high l.initial.places l.places l.at l.h
 
-abbrev pub decreases_loop_h : goal.decreases-loop-h
-decreases_loop_h l = 16 - l.h
+abbrev pub decreases-loop-h : goal.decreases-loop-h
+decreases-loop-h l = 16 - l.h

@@ -3,17 +3,17 @@ use Rattle.std.proofs.Common.{sym, ◌∙◌, arith}
 use Rattle.search.proofs.PlacesFilled.{placing_starts, placing_goes_on, placing_ends}
 use Rattle.search.proofs.byte_rows.fill_places.Goals as goal
 
-pub loop_p_init : goal.loop-p-init
-loop_p_init c = let a = c.args in (omega arith, c.requires.0, placing_starts a.rows.now a.variables a.places.now)
+pub loop-p-init : goal.loop-p-init
+loop-p-init c = let a = c.args in (omega arith, c.requires.0, placing_starts a.rows.now a.variables a.places.now)
 
-pub place_pattern_at_requires : goal.place_pattern-at-requires
-place_pattern_at_requires c = let q = c.requires in let l = c.loop-p in (l.invariant.1, omega (arith, q.1), q.2, l.invariant.2.room, λ v x. q.3.times l.p v x c.loop-p-test.true)
+pub place_pattern-at-requires : goal.place_pattern-at-requires
+place_pattern-at-requires c = let q = c.requires in let l = c.loop-p in (l.invariant.1, omega (arith, q.1), q.2, l.invariant.2.room, λ v x. q.3.times l.p v x c.loop-p-test.true)
 
-pub loop_p_preserved : goal.loop-p-preserved
-loop_p_preserved c = let l = c.loop-p in (omega arith, c.place_pattern-at.auto.places ∙ l.invariant.1, placing_goes_on l.invariant.2 c.place_pattern-at.ensures)
+pub loop-p-preserved : goal.loop-p-preserved
+loop-p-preserved c = let l = c.loop-p in (omega arith, c.place_pattern-at.auto.places ∙ l.invariant.1, placing_goes_on l.invariant.2 c.place_pattern-at.ensures)
 
-pub shape_of_places : goal.shape_of-places
-shape_of_places c = c.loop-p.invariant.1 ∙ sym c.requires.0
+pub shape_of-places : goal.shape_of-places
+shape_of-places c = c.loop-p.invariant.1 ∙ sym c.requires.0
 
 pub returns : goal.returns
 returns c = placing_ends c.args.patterns c.loop-p.invariant.2 c.loop-p-test.false

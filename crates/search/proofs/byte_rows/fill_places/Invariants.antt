@@ -3,8 +3,8 @@ use Rattle.std.proofs.Common.{◌≡◌, ◌-◌, ◌≤◌, length}
 use Rattle.search.proofs.PlacesFilled.{Placing}
 use Rattle.search.proofs.byte_rows.fill_places.Given as goal
 
-abbrev pub invariant_loop_p : goal.invariant-loop-p
-invariant_loop_p l = (l.p ≤ l.patterns) × (length l.places ≡ 4120) × Placing l.rows l.variables l.places l.at l.p
+abbrev pub invariant-loop-p : goal.invariant-loop-p
+invariant-loop-p l = (l.p ≤ l.patterns) × (length l.places ≡ 4120) × Placing l.rows l.variables l.places l.at l.p
 
-abbrev pub decreases_loop_p : goal.decreases-loop-p
-decreases_loop_p l = l.patterns - l.p
+abbrev pub decreases-loop-p : goal.decreases-loop-p
+decreases-loop-p l = l.patterns - l.p

@@ -3,8 +3,8 @@ use Rattle.std.proofs.Common.{◌-◌, ◌≤◌}
 use Rattle.search.proofs.PlacesFilled.{Spanning}
 use Rattle.search.proofs.byte_rows.fill_span.Given as goal
 
-abbrev pub invariant_loop_j : goal.invariant-loop-j
-invariant_loop_j l = (l.j ≤ l.count) × Spanning l.rows l.variables l.p l.first l.count l.initial.places l.places l.at l.j
+abbrev pub invariant-loop-j : goal.invariant-loop-j
+invariant-loop-j l = (l.j ≤ l.count) × Spanning l.rows l.variables l.p l.first l.count l.initial.places l.places l.at l.j
 
-abbrev pub decreases_loop_j : goal.decreases-loop-j
-decreases_loop_j l = l.count - l.j
+abbrev pub decreases-loop-j : goal.decreases-loop-j
+decreases-loop-j l = l.count - l.j

@@ -3,17 +3,17 @@ use Rattle.std.proofs.Common.{sym, ◌∙◌, arith}
 use Rattle.search.proofs.PlacesFilled.{summing_starts, summing_goes_on, summing_ends}
 use Rattle.search.proofs.byte_rows.fill_sums.Goals as goal
 
-pub loop_l_init : goal.loop-l-init
-loop_l_init c = let a = c.args in (omega arith, summing_starts a.low a.high a.places.now a.at c.requires.0)
+pub loop-l-init : goal.loop-l-init
+loop-l-init c = let a = c.args in (omega arith, summing_starts a.low a.high a.places.now a.at c.requires.0)
 
-pub bounds_places_at : goal.bounds-places-at
-bounds_places_at c = let e = c.loop-l.invariant.1.long in let p = c.requires.1 in omega arith
+pub bounds-places-at : goal.bounds-places-at
+bounds-places-at c = let e = c.loop-l.invariant.1.long in let p = c.requires.1 in omega arith
 
-pub loop_l_preserved : goal.loop-l-preserved
-loop_l_preserved c = let p = c.requires.1 in (omega arith, summing_goes_on c.loop-l.invariant.1 c.wrapping_add_u16.result c.loop-l-test.true (omega arith) c.wrapping_add_u16.ensures.value)
+pub loop-l-preserved : goal.loop-l-preserved
+loop-l-preserved c = let p = c.requires.1 in (omega arith, summing_goes_on c.loop-l.invariant.1 c.wrapping_add_u16.result c.loop-l-test.true (omega arith) c.wrapping_add_u16.ensures.value)
 
-pub shape_of_places : goal.shape_of-places
-shape_of_places c = c.loop-l.invariant.1.long ∙ sym c.requires.0
+pub shape_of-places : goal.shape_of-places
+shape_of-places c = c.loop-l.invariant.1.long ∙ sym c.requires.0
 
 pub returns : goal.returns
 returns c = summing_ends c.loop-l.invariant.1 c.loop-l-test.false

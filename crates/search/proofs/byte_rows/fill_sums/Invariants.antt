@@ -3,8 +3,8 @@ use Rattle.std.proofs.Common.{◌-◌, ◌≤◌}
 use Rattle.search.proofs.PlacesFilled.{Summing}
 use Rattle.search.proofs.byte_rows.fill_sums.Given as goal
 
-abbrev pub invariant_loop_l : goal.invariant-loop-l
-invariant_loop_l l = (l.l ≤ 16) × Summing l.low l.high l.initial.places l.places l.at l.l
+abbrev pub invariant-loop-l : goal.invariant-loop-l
+invariant-loop-l l = (l.l ≤ 16) × Summing l.low l.high l.initial.places l.places l.at l.l
 
-abbrev pub decreases_loop_l : goal.decreases-loop-l
-decreases_loop_l l = 16 - l.l
+abbrev pub decreases-loop-l : goal.decreases-loop-l
+decreases-loop-l l = 16 - l.l

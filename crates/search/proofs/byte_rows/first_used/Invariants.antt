@@ -3,8 +3,8 @@ use Rattle.std.proofs.Common.{◌≡◌, ℕ, ◌-◌, ◌<◌, ◌≤◌}
 use Rattle.search.specs.Value.{row_entry}
 use Rattle.search.proofs.byte_rows.first_used.Given as goal
 
-abbrev pub invariant_loop_v : goal.invariant-loop-v
-invariant_loop_v l = (l.v ≤ l.variables) × ((u : ℕ) → u < l.v → row_entry l.rows u 1 l.p ≡ 0)
+abbrev pub invariant-loop-v : goal.invariant-loop-v
+invariant-loop-v l = (l.v ≤ l.variables) × ((u : ℕ) → u < l.v → row_entry l.rows u 1 l.p ≡ 0)
 
-abbrev pub decreases_loop_v : goal.decreases-loop-v
-decreases_loop_v l = l.variables - l.v
+abbrev pub decreases-loop-v : goal.decreases-loop-v
+decreases-loop-v l = l.variables - l.v

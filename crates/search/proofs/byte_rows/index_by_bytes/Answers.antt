@@ -3,12 +3,12 @@ use Rattle.std.proofs.Common.{◌∙◌, arith}
 use Rattle.search.proofs.ByteSums.{span_here, span_index}
 use Rattle.search.proofs.byte_rows.index_by_bytes.Goals as goal
 
-pub from_bit_requires : goal.from_bit-requires
-from_bit_requires c = let a = c.args in let q = c.requires in let n = c.wide-count.ensures.0 in let g = span_here a.rows.now a.patterns a.variables a.places.now q.0 a.p q.1 (λ z. c.if-count-eq0.false (n ∙ z)) in
+pub from_bit-requires : goal.from_bit-requires
+from_bit-requires c = let a = c.args in let q = c.requires in let n = c.wide-count.ensures.0 in let g = span_here a.rows.now a.patterns a.variables a.places.now q.0 a.p q.1 (λ z. c.if-count-eq0.false (n ∙ z)) in
     let w = g.within in let f = g.shifted in let m = c.wide-shift.ensures.0 in let k = c.if-count-eq0.false in omega arith
 
-pub sum_blocks_requires : goal.sum_blocks-requires
-sum_blocks_requires c = let a = c.args in let q = c.requires in let n = c.wide-count.ensures.0 in let g = span_here a.rows.now a.patterns a.variables a.places.now q.0 a.p q.1 (λ z. c.if-count-eq0.false (n ∙ z)) in
+pub sum_blocks-requires : goal.sum_blocks-requires
+sum_blocks-requires c = let a = c.args in let q = c.requires in let n = c.wide-count.ensures.0 in let g = span_here a.rows.now a.patterns a.variables a.places.now q.0 a.p q.1 (λ z. c.if-count-eq0.false (n ∙ z)) in
     let w = g.within in let r = g.room in let m = c.wide-at.ensures.0 in (omega arith, omega arith)
 
 pub returns : goal.returns

@@ -3,14 +3,14 @@ use Rattle.std.proofs.Common.{arith}
 use Rattle.search.proofs.ByteSums.{blocks_start, blocks_add, blocks_whole}
 use Rattle.search.proofs.byte_rows.sum_blocks.Goals as goal
 
-pub loop_j_init : goal.loop-j-init
-loop_j_init c = (blocks_start c.args.places.now c.args.at c.args.count c.args.s, omega arith, omega arith)
+pub loop-j-init : goal.loop-j-init
+loop-j-init c = (blocks_start c.args.places.now c.args.at c.args.count c.args.s, omega arith, omega arith)
 
-pub bounds_places_at : goal.bounds-places-at
-bounds_places_at c = let p = c.requires in omega (arith, p.0, p.1, c.lowest_byte.ensures.1)
+pub bounds-places-at : goal.bounds-places-at
+bounds-places-at c = let p = c.requires in omega (arith, p.0, p.1, c.lowest_byte.ensures.1)
 
-pub loop_j_preserved : goal.loop-j-preserved
-loop_j_preserved c = let l = c.loop-j in let a = c.args in let e = rw c.lowest_byte.ensures.0 at c.wide-i.ensures.0 in
+pub loop-j-preserved : goal.loop-j-preserved
+loop-j-preserved c = let l = c.loop-j in let a = c.args in let e = rw c.lowest_byte.ensures.0 at c.wide-i.ensures.0 in
     (blocks_add a.places.now a.at l.j a.count l.i c.wide-i.result l.rest _ c.loop-j-test.true e l.invariant.0, omega arith, omega arith)
 
 pub returns : goal.returns

@@ -4,8 +4,8 @@ use Rattle.search.specs.ByteRows.{digit_adds}
 use Rattle.search.proofs.PlacesFilled.{Taking}
 use Rattle.search.proofs.byte_rows.values_of.Given as goal
 
-abbrev pub invariant_loop_x : goal.invariant-loop-x
-invariant_loop_x l = (length l.r ≡ 16) × Taking (digit_adds l.rows l.variables l.p l.v) l.r l.x
+abbrev pub invariant-loop-x : goal.invariant-loop-x
+invariant-loop-x l = (length l.r ≡ 16) × Taking (digit_adds l.rows l.variables l.p l.v) l.r l.x
 
-abbrev pub decreases_loop_x : goal.decreases-loop-x
-decreases_loop_x l = 16 - l.x
+abbrev pub decreases-loop-x : goal.decreases-loop-x
+decreases-loop-x l = 16 - l.x

@@ -10,19 +10,19 @@ use Rattle.search.proofs.Guiding.{rows_same}
 use Rattle.search.proofs.RecordSearch.{limit_right, search_of_lem, searched, sound_ready}
 use Rattle.search.proofs.entry.search_built.Goals as goal
 
-pub fill_rows_requires : goal.fill_rows-requires
-fill_rows_requires c = let p = c.requires in (search rules, search rules, p.sound, p.small)
+pub fill_rows-requires : goal.fill_rows-requires
+fill_rows-requires c = let p = c.requires in (search rules, search rules, p.sound, p.small)
 
-pub fill_guide_requires : goal.fill_guide-requires
-fill_guide_requires c = let p = c.requires in (search rules, p.sound, p.additive, p.words)
+pub fill_guide-requires : goal.fill_guide-requires
+fill_guide-requires c = let p = c.requires in (search rules, p.sound, p.additive, p.words)
 
-pub fill_places_requires : goal.fill_places-requires
-fill_places_requires c = let p = c.requires in let r = c.args.rec.now in let b = patterns_right r p.sound in let v = variables_right r p.sound in let z = c.fill_guide.ensures.sized in
+pub fill_places-requires : goal.fill_places-requires
+fill_places-requires c = let p = c.requires in let r = c.args.rec.now in let b = patterns_right r p.sound in let v = variables_right r p.sound in let z = c.fill_guide.ensures.sized in
     let e = c.patterns_in-patterns.ensures ∙ z.patterns in let f = c.variables_in-variables.ensures ∙ z.variables in
     (search rules, omega (arith, b, e), omega (arith, v.1, f), rw (e, f, ← patterns_length r, ← sizes_number r p.sound) (rows_linear _ _ _ _ c.fill_rows.ensures))
 
-pub run_rounds_requires : goal.run_rounds-requires
-run_rounds_requires c = let p = c.requires in let r = c.args.rec.now in let z = c.fill_guide.ensures.sized in (
+pub run_rounds-requires : goal.run_rounds-requires
+run_rounds-requires c = let p = c.requires in let r = c.args.rec.now in let z = c.fill_guide.ensures.sized in (
   record {
     ready = rw (p.words, z.actions, z.patterns, z.variables, z.spends) (sound_ready r p.sound _ p.budgeted);
     applying = rw (z.actions, z.variables) p.applying;

@@ -3,22 +3,22 @@ use Rattle.std.proofs.Common.{sym, ap}
 use Rattle.search.specs.Entry.{widened}
 use Rattle.search.proofs.entry.widen.Goals as goal
 
-pub returns_in_Found : goal.returns-in-Found
+pub returns-in-Found : goal.returns-in-Found
 unfolding widened
-returns_in_Found c = sym (ap widened c.in-Found.is)
+returns-in-Found c = sym (ap widened c.in-Found.is)
 
-pub returns_in_TooLong : goal.returns-in-TooLong
+pub returns-in-TooLong : goal.returns-in-TooLong
 unfolding widened
-returns_in_TooLong c = sym (ap widened c.in-TooLong.is)
+returns-in-TooLong c = sym (ap widened c.in-TooLong.is)
 
-pub returns_in_Over : goal.returns-in-Over
+pub returns-in-Over : goal.returns-in-Over
 unfolding widened
-returns_in_Over c = sym (ap widened c.in-Over.is)
+returns-in-Over c = sym (ap widened c.in-Over.is)
 
-pub returns_in_Spent : goal.returns-in-Spent
+pub returns-in-Spent : goal.returns-in-Spent
 unfolding widened
-returns_in_Spent c = sym (ap widened c.in-Spent.is)
+returns-in-Spent c = sym (ap widened c.in-Spent.is)
 
-pub returns_in_None : goal.returns-in-None
+pub returns-in-None : goal.returns-in-None
 unfolding widened
-returns_in_None c = sym (ap widened c.in-None.is)
+returns-in-None c = sym (ap widened c.in-None.is)

@@ -4,8 +4,8 @@ use lib.ListN.{get_or-eq_default}
 use Rattle.search.proofs.Bytes.{get_or_any}
 use Rattle.search.proofs.estimate.entry_at.Goals as goal
 
-pub returns_then_i_tables : goal.returns-then-i-tables
-returns_then_i_tables c = get_or_any c.args.tables.now c.args.i 0 65535 c.if-i-tables.true
+pub returns-then-i-tables : goal.returns-then-i-tables
+returns-then-i-tables c = get_or_any c.args.tables.now c.args.i 0 65535 c.if-i-tables.true
 
 pub returns : goal.returns
 returns c = sym (get_or-eq_default c.args.tables.now 65535 c.if-i-tables.false)

@@ -4,11 +4,11 @@ use native.Mathlib.Nat.{sub-zero}
 use Rattle.search.proofs.RowSums.{index_adds, index_whole}
 use Rattle.search.proofs.estimate.index_of.Goals as goal
 
-pub loop_v_init : goal.loop-v-init
-loop_v_init c = (rw sub-zero (sym (zero-add _)), omega arith, omega arith)
+pub loop-v-init : goal.loop-v-init
+loop-v-init c = (rw sub-zero (sym (zero-add _)), omega arith, omega arith)
 
-pub loop_v_preserved : goal.loop-v-preserved
-loop_v_preserved c = let l = c.loop-v in
+pub loop-v-preserved : goal.loop-v-preserved
+loop-v-preserved c = let l = c.loop-v in
     let a = c.args in
     let e = rw c.lowest_digit-x.ensures.0 at c.wide-i.ensures.0 in
     (index_adds a.rows.now a.p l.v a.variables l.rest l.i c.wide-i.result _ c.loop-v-test.true e l.invariant.0, omega arith, omega arith)

@@ -3,8 +3,8 @@ use Rattle.std.proofs.Common.{◌≡◌, ◌+◌, ◌-◌, ◌*◌, ◌≤◌}
 use Rattle.search.specs.Value.{packed_index}
 use Rattle.search.proofs.estimate.index_of.Given as goal
 
-abbrev pub invariant_loop_v : goal.invariant-loop-v
-invariant_loop_v l = (packed_index l.rows l.p 0 l.variables l.s ≡ l.i + packed_index l.rows l.p l.v (l.variables - l.v) l.rest) × (l.v ≤ l.variables) × (l.i ≤ 65535 * l.v)
+abbrev pub invariant-loop-v : goal.invariant-loop-v
+invariant-loop-v l = (packed_index l.rows l.p 0 l.variables l.s ≡ l.i + packed_index l.rows l.p l.v (l.variables - l.v) l.rest) × (l.v ≤ l.variables) × (l.i ≤ 65535 * l.v)
 
-abbrev pub decreases_loop_v : goal.decreases-loop-v
-decreases_loop_v l = l.variables - l.v
+abbrev pub decreases-loop-v : goal.decreases-loop-v
+decreases-loop-v l = l.variables - l.v

@@ -5,18 +5,18 @@ use Rattle.search.specs.Value.{packed_value, value_of}
 use Rattle.search.proofs.RowSums.{entry_found, value_grows, value_infinite, value_whole, nothing_joins}
 use Rattle.search.proofs.estimate.value_of.Goals as goal
 
-pub loop_p_init : goal.loop-p-init
+pub loop-p-init : goal.loop-p-init
 unfolding packed_value
-loop_p_init c = (rw sub-zero (sym (nothing_joins _)), omega arith, omega arith)
+loop-p-init c = (rw sub-zero (sym (nothing_joins _)), omega arith, omega arith)
 
-pub returns_then_e_eq65535 : goal.returns-then-e-eq65535
+pub returns-then-e-eq65535 : goal.returns-then-e-eq65535
 unfolding value_of
-returns_then_e_eq65535 c = let l = c.loop-p in
+returns-then-e-eq65535 c = let l = c.loop-p in
     let e = entry_found _ _ _ _ _ _ _ _ c.index_of.ensures.0 c.cost_at-e.ensures.0 in
     rw (value_infinite _ _ _ _ _ _ _ _ l.sum _ l.invariant.0 c.loop-p-test.true e c.if-e-eq65535.true)
 
-pub loop_p_preserved : goal.loop-p-preserved
-loop_p_preserved c = let l = c.loop-p in
+pub loop-p-preserved : goal.loop-p-preserved
+loop-p-preserved c = let l = c.loop-p in
     let e = entry_found _ _ _ _ _ _ _ _ c.index_of.ensures.0 c.cost_at-e.ensures.0 in
     (value_grows _ _ _ _ _ _ _ _ l.sum _ l.invariant.0 c.loop-p-test.true e c.if-e-eq65535.false, omega arith, omega arith)
 

@@ -6,17 +6,17 @@ use Rattle.std.proofs.Common.{◌≡◌, ◌+◌, ◌-◌, ◌*◌, length}
 use Rattle.search.proofs.Examining.{Examining, Following}
 use Rattle.search.proofs.examine.+examine_outcomes.Given as goal
 
-abbrev pub decreases_examine : goal.decreases-examine
-decreases_examine l = l.v.d * 2 + 1
+abbrev pub decreases-examine : goal.decreases-examine
+decreases-examine l = l.v.d * 2 + 1
 
-abbrev pub decreases_outcomes : goal.decreases-outcomes
-decreases_outcomes l = l.v.d * 2
+abbrev pub decreases-outcomes : goal.decreases-outcomes
+decreases-outcomes l = l.v.d * 2
 
-abbrev pub invariant_examine_loop_set : goal.invariant-examine-loop-set
-invariant_examine_loop_set l = Examining l.task l.rows l.guide l.tables l.v.s l.v.d l.v.count l.set l.c l.memory × (length l.memory ≡ length l.initial.memory)
+abbrev pub invariant-examine-loop-set : goal.invariant-examine-loop-set
+invariant-examine-loop-set l = Examining l.task l.rows l.guide l.tables l.v.s l.v.d l.v.count l.set l.c l.memory × (length l.memory ≡ length l.initial.memory)
 
-abbrev pub decreases_examine_loop_set : goal.decreases-examine-loop-set
-decreases_examine_loop_set l = l.set
+abbrev pub decreases-examine-loop-set : goal.decreases-examine-loop-set
+decreases-examine-loop-set l = l.set
 
-abbrev pub invariant_outcomes_loop_k : goal.invariant-outcomes-loop-k
-invariant_outcomes_loop_k l = Following l.task l.rows l.guide l.tables l.v.s l.v.d l.m l.v.count l.left l.k-end l.k l.c l.n l.memory × (length l.memory ≡ length l.initial.memory)
+abbrev pub invariant-outcomes-loop-k : goal.invariant-outcomes-loop-k
+invariant-outcomes-loop-k l = Following l.task l.rows l.guide l.tables l.v.s l.v.d l.m l.v.count l.left l.k-end l.k l.c l.n l.memory × (length l.memory ≡ length l.initial.memory)

@@ -2,8 +2,8 @@
 use Rattle.search.proofs.Looking.{seen_decided, seen_open}
 use Rattle.search.proofs.examine.examine_any.Goals as goal
 
-pub examine_requires : goal.examine-requires
-examine_requires c = seen_open c.requires c.look.ensures c.in-Open.is
+pub examine-requires : goal.examine-requires
+examine-requires c = seen_open c.requires c.look.ensures c.in-Open.is
 
-pub returns_in_Decided : goal.returns-in-Decided
-returns_in_Decided c = seen_decided c.requires c.look.ensures _ c.in-Decided.is
+pub returns-in-Decided : goal.returns-in-Decided
+returns-in-Decided c = seen_decided c.requires c.look.ensures _ c.in-Decided.is

@@ -3,5 +3,5 @@ use Rattle.std.proofs.Common.{arith}
 use lib.Count.{trailing_le}
 use Rattle.search.proofs.examine.lowest.Goals as goal
 
-pub overflow_cast_result : goal.overflow_cast-result
-overflow_cast_result c = let l = trailing_le 64 c.args.set in record { fits = omega arith }
+pub overflow_cast-result : goal.overflow_cast-result
+overflow_cast-result c = let l = trailing_le 64 c.args.set in record { fits = omega arith }

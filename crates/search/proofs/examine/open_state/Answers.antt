@@ -7,21 +7,21 @@ use Rattle.search.specs.Examination.{opening_of}
 use Rattle.search.proofs.Openings.{cut_either_way}
 use Rattle.search.proofs.examine.open_state.Goals as goal
 
-pub returns_then_count_budget : goal.returns-then-count-budget
+pub returns-then-count-budget : goal.returns-then-count-budget
 unfolding opening_of packed_system
-returns_then_count_budget c = λ n h g. rw (eq-eqb _ _ c.if-count-budget.true)
+returns-then-count-budget c = λ n h g. rw (eq-eqb _ _ c.if-count-budget.true)
 
-pub returns_then_is_goal : goal.returns-then-is_goal
+pub returns-then-is_goal : goal.returns-then-is_goal
 unfolding opening_of packed_system
-returns_then_is_goal c = λ n h g. rw (ne_eqb _ _ c.if-count-budget.false, sym c.is_goal.ensures ∙ c.if-is_goal.true)
+returns-then-is_goal c = λ n h g. rw (ne_eqb _ _ c.if-count-budget.false, sym c.is_goal.ensures ∙ c.if-is_goal.true)
 
-pub returns_then_d_eq0 : goal.returns-then-d-eq0
+pub returns-then-d-eq0 : goal.returns-then-d-eq0
 unfolding opening_of packed_system
-returns_then_d_eq0 c = let a = c.args in λ n h g. rw (ne_eqb _ _ c.if-count-budget.false, sym c.is_goal.ensures ∙ c.if-is_goal.false, eq-eqb _ _ c.if-d-eq0.true) (cut_either_way (h a.s ≤? a.d))
+returns-then-d-eq0 c = let a = c.args in λ n h g. rw (ne_eqb _ _ c.if-count-budget.false, sym c.is_goal.ensures ∙ c.if-is_goal.false, eq-eqb _ _ c.if-d-eq0.true) (cut_either_way (h a.s ≤? a.d))
 
-pub returns_then_value_d : goal.returns-then-value-d
+pub returns-then-value-d : goal.returns-then-value-d
 unfolding opening_of packed_system
-returns_then_value_d c = λ n h g. rw (ne_eqb _ _ c.if-count-budget.false, sym c.is_goal.ensures ∙ c.if-is_goal.false, ne_eqb _ _ c.if-d-eq0.false, g ∙ le-leb _ _ c.if-value-d.true)
+returns-then-value-d c = λ n h g. rw (ne_eqb _ _ c.if-count-budget.false, sym c.is_goal.ensures ∙ c.if-is_goal.false, ne_eqb _ _ c.if-d-eq0.false, g ∙ le-leb _ _ c.if-value-d.true)
 
 pub returns : goal.returns
 unfolding opening_of packed_system

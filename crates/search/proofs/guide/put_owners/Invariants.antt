@@ -3,8 +3,8 @@ use Rattle.std.proofs.Common.{◌-◌, ◌≤◌}
 use Rattle.search.proofs.Guiding.{PuttingOwners}
 use Rattle.search.proofs.guide.put_owners.Given as goal
 
-abbrev pub invariant_loop_m : goal.invariant-loop-m
-invariant_loop_m l = PuttingOwners l.owners l.initial.guide l.guide l.m × (l.m ≤ 64)
+abbrev pub invariant-loop-m : goal.invariant-loop-m
+invariant-loop-m l = PuttingOwners l.owners l.initial.guide l.guide l.m × (l.m ≤ 64)
 
-abbrev pub decreases_loop_m : goal.decreases-loop-m
-decreases_loop_m l = 64 - l.m
+abbrev pub decreases-loop-m : goal.decreases-loop-m
+decreases-loop-m l = 64 - l.m

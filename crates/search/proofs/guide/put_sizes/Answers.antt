@@ -3,8 +3,8 @@ use Rattle.std.proofs.Common.{◌∙◌, arith, length-set}
 use Rattle.search.proofs.Guiding.{sized_8, sized_9, sized_10, sized_11, sized_12, sizes_put}
 use Rattle.search.proofs.guide.put_sizes.Goals as goal
 
-pub bounds_guide_12 : goal.bounds-guide-12
-bounds_guide_12 c = simp length-set (omega (arith, c.requires))
+pub bounds-guide-12 : goal.bounds-guide-12
+bounds-guide-12 c = simp length-set (omega (arith, c.requires))
 
 pub returns : goal.returns
 returns c = let l = c.args.guide.now in let n = c.requires in

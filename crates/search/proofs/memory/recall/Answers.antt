@@ -4,14 +4,14 @@ use Rattle.search.specs.Memory.{said_by}
 use Rattle.search.proofs.Trying.{not_zero}
 use Rattle.search.proofs.memory.recall.Goals as goal
 
-pub returns_then_memory_i : goal.returns-then-memory-i
-returns_then_memory_i c = λ n. absurd (n c.unknown.ensures)
+pub returns-then-memory-i : goal.returns-then-memory-i
+returns-then-memory-i c = λ n. absurd (n c.unknown.ensures)
 
-pub returns_then_word_d : goal.returns-then-word-d
-returns_then_word_d c = λ n. absurd (n c.unknown-then-word-d.ensures)
+pub returns-then-word-d : goal.returns-then-word-d
+returns-then-word-d c = λ n. absurd (n c.unknown-then-word-d.ensures)
 
-pub returns_then_word_room : goal.returns-then-word-room
-returns_then_word_room c = λ n. absurd (n c.unknown-then-word-room.ensures)
+pub returns-then-word-room : goal.returns-then-word-room
+returns-then-word-room c = λ n. absurd (n c.unknown-then-word-room.ensures)
 
 pub returns : goal.returns
 unfolding said_by

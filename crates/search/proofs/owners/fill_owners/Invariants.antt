@@ -5,8 +5,8 @@ use Rattle.task_record.specs.Record.{Sound}
 use Rattle.search.proofs.Owning.{Owning}
 use Rattle.search.proofs.owners.fill_owners.Given as goal
 
-abbrev pub invariant_loop_p : goal.invariant-loop-p
-invariant_loop_p l = ((sound : Sound l.rec) → Owning l.rec sound l.owners l.p) × (length l.owners ≡ length l.initial.owners) × (l.p ≤ pattern_count l.rec)
+abbrev pub invariant-loop-p : goal.invariant-loop-p
+invariant-loop-p l = ((sound : Sound l.rec) → Owning l.rec sound l.owners l.p) × (length l.owners ≡ length l.initial.owners) × (l.p ≤ pattern_count l.rec)
 
-abbrev pub decreases_loop_p : goal.decreases-loop-p
-decreases_loop_p l = pattern_count l.rec - l.p
+abbrev pub decreases-loop-p : goal.decreases-loop-p
+decreases-loop-p l = pattern_count l.rec - l.p

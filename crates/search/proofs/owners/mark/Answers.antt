@@ -4,20 +4,20 @@ use Rattle.search.proofs.Owning.{marking_begins, marking_hit, marking_miss, mark
 use Rattle.search.proofs.owners.mark.Goals.{then-names_under, else-names_under}
 use Rattle.search.proofs.owners.mark.Goals as goal
 
-pub loop_m_init : goal.loop-m-init
-loop_m_init c = (marking_begins _ _ _ _, omega arith)
+pub loop-m-init : goal.loop-m-init
+loop-m-init c = (marking_begins _ _ _ _, omega arith)
 
-pub names_under_requires : goal.names_under-requires
-names_under_requires c = (omega (arith, c.requires.1, c.loop-m-test.true), c.requires.2 _ c.loop-m-test.true)
+pub names_under-requires : goal.names_under-requires
+names_under-requires c = (omega (arith, c.requires.1, c.loop-m-test.true), c.requires.2 _ c.loop-m-test.true)
 
-pub loop_m_preserved : goal.loop-m-preserved
-loop_m_preserved c = let l = c.loop-m in elim c.if-names_under.branch [
+pub loop-m-preserved : goal.loop-m-preserved
+loop-m-preserved c = let l = c.loop-m in elim c.if-names_under.branch [
   | then-names_under w ↦ rw (w.owners-is, w.put.ensures) (marking_hit l.invariant.0 (omega (arith, c.requires.0, c.requires.1, c.loop-m-test.true)) (sym c.names_under.ensures ∙ w.if-names_under.true), omega arith)
   | else-names_under w ↦ rw w.owners-is (marking_miss l.invariant.0 (sym c.names_under.ensures ∙ w.if-names_under.false), omega arith)
 ]
 
-pub shape_of_owners : goal.shape_of-owners
-shape_of_owners c = c.loop-m.invariant.0.long
+pub shape_of-owners : goal.shape_of-owners
+shape_of-owners c = c.loop-m.invariant.0.long
 
 pub returns : goal.returns
 returns c = marking_ends c.loop-m.invariant.0 _ c.loop-m-test.false

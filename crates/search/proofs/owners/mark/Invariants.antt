@@ -3,8 +3,8 @@ use Rattle.std.proofs.Common.{◌-◌, ◌≤◌}
 use Rattle.search.proofs.Owning.{Marking}
 use Rattle.search.proofs.owners.mark.Given as goal
 
-abbrev pub invariant_loop_m : goal.invariant-loop-m
-invariant_loop_m l = Marking l.task l.mask l.p l.initial.owners l.owners l.m × (l.m ≤ l.actions)
+abbrev pub invariant-loop-m : goal.invariant-loop-m
+invariant-loop-m l = Marking l.task l.mask l.p l.initial.owners l.owners l.m × (l.m ≤ l.actions)
 
-abbrev pub decreases_loop_m : goal.decreases-loop-m
-decreases_loop_m l = l.actions - l.m
+abbrev pub decreases-loop-m : goal.decreases-loop-m
+decreases-loop-m l = l.actions - l.m

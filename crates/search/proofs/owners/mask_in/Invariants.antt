@@ -3,8 +3,8 @@ use Rattle.std.proofs.Common.{◌≡◌, ◌≤◌, length, drop}
 use Rattle.tables.specs.Packed.{pack_by, picking}
 use Rattle.search.proofs.owners.mask_in.Given as goal
 
-abbrev pub invariant_loop_v : goal.invariant-loop-v
-invariant_loop_v l = (l.v ≤ length l.cells) × (l.mask ≡ pack_by picking (drop l.v l.cells))
+abbrev pub invariant-loop-v : goal.invariant-loop-v
+invariant-loop-v l = (l.v ≤ length l.cells) × (l.mask ≡ pack_by picking (drop l.v l.cells))
 
-abbrev pub decreases_loop_v : goal.decreases-loop-v
-decreases_loop_v l = l.v
+abbrev pub decreases-loop-v : goal.decreases-loop-v
+decreases-loop-v l = l.v

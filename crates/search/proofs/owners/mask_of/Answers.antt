@@ -5,8 +5,8 @@ use Rattle.tables.specs.Packed.{pack_by, picking}
 use Rattle.tables.proofs.CompiledRecord.{part_few}
 use Rattle.search.proofs.owners.mask_of.Goals as goal
 
-pub mask_in_requires : goal.mask_in-requires
-mask_in_requires c = let a = c.args in rw c.pattern_cells.ensures (part_few (drop (at_pattern a.p) a.rec.now))
+pub mask_in-requires : goal.mask_in-requires
+mask_in-requires c = let a = c.args in rw c.pattern_cells.ensures (part_few (drop (at_pattern a.p) a.rec.now))
 
 pub returns : goal.returns
 returns c = c.mask_in.ensures ∙ ap (pack_by picking) c.pattern_cells.ensures

@@ -6,15 +6,15 @@ use Rattle.tables.specs.Packed.{outcome_count}
 use Rattle.search.proofs.Owning.{naming_hit, naming_miss, naming_end}
 use Rattle.search.proofs.owners.names_under.Goals as goal
 
-pub loop_k_init : goal.loop-k-init
+pub loop-k-init : goal.loop-k-init
 unfolding touches
-loop_k_init c = (rw sub-zero, omega arith, c.outcome_count-n.ensures)
+loop-k-init c = (rw sub-zero, omega arith, c.outcome_count-n.ensures)
 
-pub returns_then_task_m : goal.returns-then-task-m
-returns_then_task_m c = let a = c.args in let l = c.loop-k in sym (l.invariant.0 ∙ naming_hit a.task.now a.mask a.m l.k (outcome_count a.task.now a.m) (omega (arith, c.loop-k-test.true, l.invariant.2)) c.if-task-m.true)
+pub returns-then-task-m : goal.returns-then-task-m
+returns-then-task-m c = let a = c.args in let l = c.loop-k in sym (l.invariant.0 ∙ naming_hit a.task.now a.mask a.m l.k (outcome_count a.task.now a.m) (omega (arith, c.loop-k-test.true, l.invariant.2)) c.if-task-m.true)
 
-pub loop_k_preserved : goal.loop-k-preserved
-loop_k_preserved c = let a = c.args in let l = c.loop-k in (l.invariant.0 ∙ naming_miss a.task.now a.mask a.m l.k (outcome_count a.task.now a.m) (omega (arith, c.loop-k-test.true, l.invariant.2)) c.if-task-m.false, omega arith, l.invariant.2)
+pub loop-k-preserved : goal.loop-k-preserved
+loop-k-preserved c = let a = c.args in let l = c.loop-k in (l.invariant.0 ∙ naming_miss a.task.now a.mask a.m l.k (outcome_count a.task.now a.m) (omega (arith, c.loop-k-test.true, l.invariant.2)) c.if-task-m.false, omega arith, l.invariant.2)
 
 pub returns : goal.returns
 returns c = let a = c.args in let l = c.loop-k in sym (l.invariant.0 ∙ naming_end a.task.now a.mask a.m l.k (outcome_count a.task.now a.m) (omega (arith, c.loop-k-test.false, l.invariant.2)))

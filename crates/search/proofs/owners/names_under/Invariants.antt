@@ -6,8 +6,8 @@ use Rattle.planning.specs.Finite.{any_from}
 use Rattle.tables.specs.Packed.{outcome_count, keep_mask}
 use Rattle.search.proofs.owners.names_under.Given as goal
 
-abbrev pub invariant_loop_k : goal.invariant-loop-k
-invariant_loop_k l = (touches l.task l.mask l.m ≡ any_from l.k (outcome_count l.task l.m - l.k) (λ o. not (eqb (bit_and (keep_mask l.task l.m o) l.mask) l.mask))) × (l.k ≤ l.n) × (l.n ≡ outcome_count l.task l.m)
+abbrev pub invariant-loop-k : goal.invariant-loop-k
+invariant-loop-k l = (touches l.task l.mask l.m ≡ any_from l.k (outcome_count l.task l.m - l.k) (λ o. not (eqb (bit_and (keep_mask l.task l.m o) l.mask) l.mask))) × (l.k ≤ l.n) × (l.n ≡ outcome_count l.task l.m)
 
-abbrev pub decreases_loop_k : goal.decreases-loop-k
-decreases_loop_k l = l.n - l.k
+abbrev pub decreases-loop-k : goal.decreases-loop-k
+decreases-loop-k l = l.n - l.k

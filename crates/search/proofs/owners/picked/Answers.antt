@@ -2,8 +2,8 @@
 use Rattle.std.proofs.Common.{arith, eq-eqb, ne_eqb}
 use Rattle.search.proofs.owners.picked.Goals as goal
 
-pub returns_then_x_eq1 : goal.returns-then-x-eq1
-returns_then_x_eq1 c = (rw (eq-eqb _ _ c.if-x-eq1.true), omega arith)
+pub returns-then-x-eq1 : goal.returns-then-x-eq1
+returns-then-x-eq1 c = (rw (eq-eqb _ _ c.if-x-eq1.true), omega arith)
 
 pub returns : goal.returns
 returns c = (rw (ne_eqb _ _ c.if-x-eq1.false), omega arith)

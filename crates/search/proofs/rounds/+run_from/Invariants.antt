@@ -2,5 +2,5 @@
 use Rattle.std.proofs.Common.{◌-◌}
 use Rattle.search.proofs.rounds.+run_from.Given as goal
 
-abbrev pub decreases_run_from : goal.decreases-run_from
-decreases_run_from l = 1025 - l.v.count
+abbrev pub decreases-run_from : goal.decreases-run_from
+decreases-run_from l = 1025 - l.v.count

@@ -6,8 +6,8 @@ use Rattle.search.specs.Packed.{guided_examination}
 use Rattle.search.specs.Answer.{guided_rounds}
 use Rattle.search.proofs.rounds.deepen.Given as goal
 
-abbrev pub invariant_loop_d : goal.invariant-loop-d
-invariant_loop_d l = (guided_rounds l.task l.rows l.guide l.tables l.v.s l.v.d l.v.count ≡ guided_rounds l.task l.rows l.guide l.tables l.v.s l.d l.c) × (l.c ≤ budget_in l.guide) × Remembers (guided_examination l.task l.rows l.guide l.tables) (budget_in l.guide) l.memory × (length l.memory ≡ length l.initial.memory)
+abbrev pub invariant-loop-d : goal.invariant-loop-d
+invariant-loop-d l = (guided_rounds l.task l.rows l.guide l.tables l.v.s l.v.d l.v.count ≡ guided_rounds l.task l.rows l.guide l.tables l.v.s l.d l.c) × (l.c ≤ budget_in l.guide) × Remembers (guided_examination l.task l.rows l.guide l.tables) (budget_in l.guide) l.memory × (length l.memory ≡ length l.initial.memory)
 
-abbrev pub decreases_loop_d : goal.decreases-loop-d
-decreases_loop_d l = l.limit + 1 - l.d
+abbrev pub decreases-loop-d : goal.decreases-loop-d
+decreases-loop-d l = l.limit + 1 - l.d

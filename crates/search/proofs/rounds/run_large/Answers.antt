@@ -5,12 +5,12 @@ use Rattle.search.proofs.Conclusions.{always_ends}
 use Rattle.search.proofs.Remembering.{nothing_remembered}
 use Rattle.search.proofs.rounds.run_large.Goals as goal
 
-pub conclude_requires : goal.conclude-requires
-conclude_requires c = let p = c.requires in record { guided = p.0; startable = p.1; remembers = nothing_remembered _ _ 32768 (omega arith) }
+pub conclude-requires : goal.conclude-requires
+conclude-requires c = let p = c.requires in record { guided = p.0; startable = p.1; remembers = nothing_remembered _ _ 32768 (omega arith) }
 
-pub returns_in_Ended : goal.returns-in-Ended
+pub returns-in-Ended : goal.returns-in-Ended
 unfolding Replies
-returns_in_Ended c = rw c.in-Ended.is at c.conclude.ensures
+returns-in-Ended c = rw c.in-Ended.is at c.conclude.ensures
 
-pub returns_in_Unfinished : goal.returns-in-Unfinished
-returns_in_Unfinished c = always_ends _ _ _ _ _ _ _ _ _ _ c.requires.0.ready.small_budget (rw c.in-Unfinished.is at c.conclude.ensures)
+pub returns-in-Unfinished : goal.returns-in-Unfinished
+returns-in-Unfinished c = always_ends _ _ _ _ _ _ _ _ _ _ c.requires.0.ready.small_budget (rw c.in-Unfinished.is at c.conclude.ensures)

@@ -3,11 +3,11 @@ use Rattle.std.proofs.Common.{refl, arith}
 use Rattle.search.proofs.Conclusions.{too_long, fits}
 use Rattle.search.proofs.rounds.tell_found.Goals as goal
 
-pub returns_then_plan_bytes : goal.returns-then-plan-bytes
-returns_then_plan_bytes c = λ x f. too_long _ _ _ refl x _ _ _ _ _ _ _ _ f c.if-plan-bytes.true c.fill.ensures
+pub returns-then-plan-bytes : goal.returns-then-plan-bytes
+returns-then-plan-bytes c = λ x f. too_long _ _ _ refl x _ _ _ _ _ _ _ _ f c.if-plan-bytes.true c.fill.ensures
 
-pub write_found_requires : goal.write_found-requires
-write_found_requires c = let p = c.requires in let e = c.visit_of-w.ensures in let f = p.1.1 in
+pub write_found-requires : goal.write_found-requires
+write_found-requires c = let p = c.requires in let e = c.visit_of-w.ensures in let f = p.1.1 in
     rw (e.0, e.1, e.2, e.3) (p.0, refl, (f.plan, f.made, f.again, omega (arith, f.sized, c.if-plan-bytes.false), omega (arith, f.sized, f.short)))
 
 pub returns : goal.returns

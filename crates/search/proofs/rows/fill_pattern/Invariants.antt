@@ -6,8 +6,8 @@ use Rattle.task_record.specs.TaskOf.{cells_at, task_of}
 use Rattle.search.proofs.RowsFilled.{FillingPattern}
 use Rattle.search.proofs.rows.fill_pattern.Given as goal
 
-abbrev pub invariant_loop_v : goal.invariant-loop-v
-invariant_loop_v l = FillingPattern (task_of l.rec).sizes (cells_at l.rec (at_pattern l.p)) l.initial.rows l.rows l.p l.weight l.v × (length l.rows ≡ 2048)
+abbrev pub invariant-loop-v : goal.invariant-loop-v
+invariant-loop-v l = FillingPattern (task_of l.rec).sizes (cells_at l.rec (at_pattern l.p)) l.initial.rows l.rows l.p l.weight l.v × (length l.rows ≡ 2048)
 
-abbrev pub decreases_loop_v : goal.decreases-loop-v
-decreases_loop_v l = variable_count l.rec - l.v
+abbrev pub decreases-loop-v : goal.decreases-loop-v
+decreases-loop-v l = variable_count l.rec - l.v

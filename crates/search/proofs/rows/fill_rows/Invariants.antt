@@ -5,8 +5,8 @@ use Rattle.task_record.specs.TaskOf.{task_of, patterns_of}
 use Rattle.search.proofs.RowsFilled.{FillingRows}
 use Rattle.search.proofs.rows.fill_rows.Given as goal
 
-abbrev pub invariant_loop_p : goal.invariant-loop-p
-invariant_loop_p l = FillingRows (task_of l.rec).sizes (patterns_of l.rec) l.rows l.guide l.begin l.p × (length l.rows ≡ 2048)
+abbrev pub invariant-loop-p : goal.invariant-loop-p
+invariant-loop-p l = FillingRows (task_of l.rec).sizes (patterns_of l.rec) l.rows l.guide l.begin l.p × (length l.rows ≡ 2048)
 
-abbrev pub decreases_loop_p : goal.decreases-loop-p
-decreases_loop_p l = pattern_count l.rec - l.p
+abbrev pub decreases-loop-p : goal.decreases-loop-p
+decreases-loop-p l = pattern_count l.rec - l.p

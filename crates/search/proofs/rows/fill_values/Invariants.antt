@@ -3,8 +3,8 @@ use Rattle.std.proofs.Common.{◌-◌}
 use Rattle.search.proofs.RowsFilled.{FillingValues}
 use Rattle.search.proofs.rows.fill_values.Given as goal
 
-abbrev pub invariant_loop_x : goal.invariant-loop-x
-invariant_loop_x l = FillingValues l.initial.rows l.rows l.v l.p l.weight l.x
+abbrev pub invariant-loop-x : goal.invariant-loop-x
+invariant-loop-x l = FillingValues l.initial.rows l.rows l.v l.p l.weight l.x
 
-abbrev pub decreases_loop_x : goal.decreases-loop-x
-decreases_loop_x l = 16 - l.x
+abbrev pub decreases-loop-x : goal.decreases-loop-x
+decreases-loop-x l = 16 - l.x

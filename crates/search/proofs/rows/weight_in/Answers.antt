@@ -2,8 +2,8 @@
 use Rattle.std.proofs.Common.{arith, eq-eqb, ne_eqb}
 use Rattle.search.proofs.rows.weight_in.Goals as goal
 
-pub returns_then_b_eq1 : goal.returns-then-b-eq1
-returns_then_b_eq1 c = (simp (eq-eqb _ _ c.if-b-eq1.true), omega arith)
+pub returns-then-b-eq1 : goal.returns-then-b-eq1
+returns-then-b-eq1 c = (simp (eq-eqb _ _ c.if-b-eq1.true), omega arith)
 
 pub returns : goal.returns
 returns c = (simp (ne_eqb _ _ c.if-b-eq1.false), omega arith)

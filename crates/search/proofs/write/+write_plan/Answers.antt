@@ -5,40 +5,40 @@ use Rattle.search.proofs.Standing.{stands_before, stands_sized, copy_written}
 use Rattle.search.proofs.Writing.{first_small, acts, arrived-written, underway_begins, next_writable, underway_goes_on, underway_ends}
 use Rattle.search.proofs.write.+write_plan.Goals as goal
 
-pub copy_requires : goal.copy-requires
-copy_requires t c = let w = c.requires in let h = c.find_passage-known.ensures c.if-known-ne0.true in (stands_before _ w.stands _ _ _ _ _ _ _ h.1 w.succeeding.is, omega (arith, stands_sized _ w.stands _ _ _ _ _ _ _ h.1 w.succeeding.is, w.fits))
+pub copy-requires : goal.copy-requires
+copy-requires t c = let w = c.requires in let h = c.find_passage-known.ensures c.if-known-ne0.true in (stands_before _ w.stands _ _ _ _ _ _ _ h.1 w.succeeding.is, omega (arith, stands_sized _ w.stands _ _ _ _ _ _ _ h.1 w.succeeding.is, w.fits))
 
-pub overflow_add_result : goal.overflow_add-result
-overflow_add_result t c = let w = c.requires in let h = c.find_passage-known.ensures c.if-known-ne0.true in omega (arith, stands_sized _ w.stands _ _ _ _ _ _ _ h.1 w.succeeding.is, w.near)
+pub overflow_add-result : goal.overflow_add-result
+overflow_add-result t c = let w = c.requires in let h = c.find_passage-known.ensures c.if-known-ne0.true in omega (arith, stands_sized _ w.stands _ _ _ _ _ _ _ h.1 w.succeeding.is, w.near)
 
-pub returns_then_known_ne0 : goal.returns-then-known-ne0
-returns_then_known_ne0 t c = let w = c.requires in let h = c.find_passage-known.ensures c.if-known-ne0.true in λ p k f. copy_written _ w.stands _ _ _ _ _ _ p h.1 f _ _ _ w.succeeding.remembers c.copy.ensures c.copy.auto.plan
+pub returns-then-known-ne0 : goal.returns-then-known-ne0
+returns-then-known-ne0 t c = let w = c.requires in let h = c.find_passage-known.ensures c.if-known-ne0.true in λ p k f. copy_written _ w.stands _ _ _ _ _ _ p h.1 f _ _ _ w.succeeding.remembers c.copy.ensures c.copy.auto.plan
 
-pub byte_of_requires : goal.byte_of-requires
-byte_of_requires t c = first_small c.requires.succeeding c.start_of-start.ensures
+pub byte_of-requires : goal.byte_of-requires
+byte_of-requires t c = first_small c.requires.succeeding c.start_of-start.ensures
 
-pub returns_then_start_eq254 : goal.returns-then-start-eq254
-returns_then_start_eq254 t c = arrived-written c.requires.succeeding c.start_of-start.ensures c.if-start-eq254.true c.put.ensures c.byte_of.ensures c.requires.stands
+pub returns-then-start-eq254 : goal.returns-then-start-eq254
+returns-then-start-eq254 t c = arrived-written c.requires.succeeding c.start_of-start.ensures c.if-start-eq254.true c.put.ensures c.byte_of.ensures c.requires.stands
 
-pub left_after_left_requires : goal.left_after-left-requires
-left_after_left_requires t c = let x = c.requires.succeeding in let a = acts x c.start_of-start.ensures c.action_of-m.ensures c.if-start-eq254.false in (omega (arith, a.within, x.guided.ready.few_actions), a.light)
+pub left_after-left-requires : goal.left_after-left-requires
+left_after-left-requires t c = let x = c.requires.succeeding in let a = acts x c.start_of-start.ensures c.action_of-m.ensures c.if-start-eq254.false in (omega (arith, a.within, x.guided.ready.few_actions), a.light)
 
-pub outcome_count_requires : goal.outcome_count-requires
-outcome_count_requires t c = let x = c.requires.succeeding in let a = acts x c.start_of-start.ensures c.action_of-m.ensures c.if-start-eq254.false in omega (arith, a.within, x.guided.ready.few_actions)
+pub outcome_count-requires : goal.outcome_count-requires
+outcome_count-requires t c = let x = c.requires.succeeding in let a = acts x c.start_of-start.ensures c.action_of-m.ensures c.if-start-eq254.false in omega (arith, a.within, x.guided.ready.few_actions)
 
-pub loop_k_init : goal.loop-k-init
-loop_k_init t c = (underway_begins c.requires c.start_of-start.ensures c.action_of-m.ensures c.if-start-eq254.false c.left_after-left.ensures (c.place_of-k-end.ensures ∙ c.outcome_count.ensures) c.put.ensures c.byte_of.ensures, refl, refl)
+pub loop-k-init : goal.loop-k-init
+loop-k-init t c = (underway_begins c.requires c.start_of-start.ensures c.action_of-m.ensures c.if-start-eq254.false c.left_after-left.ensures (c.place_of-k-end.ensures ∙ c.outcome_count.ensures) c.put.ensures c.byte_of.ensures, refl, refl)
 
-pub successor_x_requires : goal.successor-x-requires
-successor_x_requires t c = let x = c.requires.succeeding in let a = acts x c.start_of-start.ensures c.action_of-m.ensures c.if-start-eq254.false in let n = x.guided.ready.few_outcomes _ a.within in
+pub successor-x-requires : goal.successor-x-requires
+successor-x-requires t c = let x = c.requires.succeeding in let a = acts x c.start_of-start.ensures c.action_of-m.ensures c.if-start-eq254.false in let n = x.guided.ready.few_outcomes _ a.within in
     (omega (arith, a.within, x.guided.ready.few_actions), omega (arith, n, c.loop-k-test.true, c.place_of-k-end.ensures, c.outcome_count.ensures))
 
-pub write_plan_end_requires : goal.write_plan-end-requires
-write_plan_end_requires t c = let x = c.requires.succeeding in let a = acts x c.start_of-start.ensures c.action_of-m.ensures c.if-start-eq254.false in let f = c.left_after-left.ensures in
+pub write_plan-end-requires : goal.write_plan-end-requires
+write_plan-end-requires t c = let x = c.requires.succeeding in let a = acts x c.start_of-start.ensures c.action_of-m.ensures c.if-start-eq254.false in let f = c.left_after-left.ensures in
     (omega (arith, f, x.guided.ready.weights c.action_of-m.result a.within, a.light, c.decreases), next_writable c.loop-k.invariant.0 c.loop-k-test.true c.successor-x.ensures x.guided (omega (arith, x.shallow, f)))
 
-pub loop_k_preserved : goal.loop-k-preserved
-loop_k_preserved t c = let i = c.loop-k.invariant in let y = c.write_plan-end.auto in
+pub loop-k-preserved : goal.loop-k-preserved
+loop-k-preserved t c = let i = c.loop-k.invariant in let y = c.write_plan-end.auto in
     (underway_goes_on i.0 c.loop-k-test.true c.successor-x.ensures y.plan c.write_plan-end.ensures, y.memory ∙ i.1, y.written ∙ i.2)
 
 pub returns : goal.returns

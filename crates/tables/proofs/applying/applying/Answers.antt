@@ -3,11 +3,11 @@ use Rattle.std.proofs.Common.{◌/◌, refl, arith}
 use Rattle.tables.proofs.SetsFilled.{spread_two, spread_four, spread_eight, meet_two, meet_none}
 use Rattle.tables.proofs.applying.applying.Goals as goal
 
-pub returns_then_bytes_le2 : goal.returns-then-bytes-le2
-returns_then_bytes_le2 c = let a = c.args in let sets = a.sets.now in rw (← spread_two a.bytes c.if-bytes-le2.true) (meet_two sets 0 0 a.s (a.s / 65536) _ _ refl (meet_none sets 2 (a.s / 65536)) c.two_bytes.ensures)
+pub returns-then-bytes-le2 : goal.returns-then-bytes-le2
+returns-then-bytes-le2 c = let a = c.args in let sets = a.sets.now in rw (← spread_two a.bytes c.if-bytes-le2.true) (meet_two sets 0 0 a.s (a.s / 65536) _ _ refl (meet_none sets 2 (a.s / 65536)) c.two_bytes.ensures)
 
-pub returns_then_bytes_le4 : goal.returns-then-bytes-le4
-returns_then_bytes_le4 c = let a = c.args in let sets = a.sets.now in rw (← spread_four a.bytes c.if-bytes-le2.false c.if-bytes-le4.true)
+pub returns-then-bytes-le4 : goal.returns-then-bytes-le4
+returns-then-bytes-le4 c = let a = c.args in let sets = a.sets.now in rw (← spread_four a.bytes c.if-bytes-le2.false c.if-bytes-le4.true)
     (meet_two sets 0 2 a.s (a.s / 65536) _ _ refl (meet_two sets 2 0 (a.s / 65536) (a.s / 4294967296) _ _ (omega arith) (meet_none sets 4 (a.s / 4294967296)) c.two_bytes-then-bytes-le4.ensures) c.two_bytes-then-bytes-le4-2.ensures)
 
 pub returns : goal.returns

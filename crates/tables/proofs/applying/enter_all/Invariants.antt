@@ -4,8 +4,8 @@ use Rattle.tables.specs.Sets.{action_need}
 use Rattle.tables.proofs.SetsFilled.{Slotting}
 use Rattle.tables.proofs.applying.enter_all.Given as goal
 
-abbrev pub invariant_loop_m : goal.invariant-loop-m
-invariant_loop_m l = (l.m ≤ l.actions) × Slotting (action_need l.task l.mask) l.digits l.slots l.bit l.m
+abbrev pub invariant-loop-m : goal.invariant-loop-m
+invariant-loop-m l = (l.m ≤ l.actions) × Slotting (action_need l.task l.mask) l.digits l.slots l.bit l.m
 
-abbrev pub decreases_loop_m : goal.decreases-loop-m
-decreases_loop_m l = l.actions - l.m
+abbrev pub decreases-loop-m : goal.decreases-loop-m
+decreases-loop-m l = l.actions - l.m

@@ -3,8 +3,8 @@ use Rattle.std.proofs.Common.{◌-◌, ◌≤◌}
 use Rattle.tables.proofs.SetsFilled.{FillingRow}
 use Rattle.tables.proofs.applying.fill_row.Given as goal
 
-abbrev pub invariant_loop_l : goal.invariant-loop-l
-invariant_loop_l l = (l.l ≤ 16) × FillingRow l.slots l.initial.sets l.sets l.q l.l
+abbrev pub invariant-loop-l : goal.invariant-loop-l
+invariant-loop-l l = (l.l ≤ 16) × FillingRow l.slots l.initial.sets l.sets l.q l.l
 
-abbrev pub decreases_loop_l : goal.decreases-loop-l
-decreases_loop_l l = 16 - l.l
+abbrev pub decreases-loop-l : goal.decreases-loop-l
+decreases-loop-l l = 16 - l.l

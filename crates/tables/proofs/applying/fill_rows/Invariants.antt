@@ -3,8 +3,8 @@ use Rattle.std.proofs.Common.{◌≡◌, ◌-◌, ◌*◌, ◌≤◌, length}
 use Rattle.tables.proofs.SetsFilled.{FillingRows}
 use Rattle.tables.proofs.applying.fill_rows.Given as goal
 
-abbrev pub invariant_loop_q : goal.invariant-loop-q
-invariant_loop_q l = (l.q ≤ 16 * l.bytes) × (length l.sets ≡ 2048) × FillingRows l.slots l.initial.sets l.sets l.q
+abbrev pub invariant-loop-q : goal.invariant-loop-q
+invariant-loop-q l = (l.q ≤ 16 * l.bytes) × (length l.sets ≡ 2048) × FillingRows l.slots l.initial.sets l.sets l.q
 
-abbrev pub decreases_loop_q : goal.decreases-loop-q
-decreases_loop_q l = 16 * l.bytes - l.q
+abbrev pub decreases-loop-q : goal.decreases-loop-q
+decreases-loop-q l = 16 * l.bytes - l.q

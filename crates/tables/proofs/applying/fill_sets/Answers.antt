@@ -6,12 +6,12 @@ use Rattle.tables.specs.Sets.{sets_filled}
 use Rattle.tables.proofs.SetsFilled.{filled_as_defined}
 use Rattle.tables.proofs.applying.fill_sets.Goals as goal
 
-pub returns_then_actions_gt64 : goal.returns-then-actions-gt64
+pub returns-then-actions-gt64 : goal.returns-then-actions-gt64
 unfolding sets_filled
-returns_then_actions_gt64 c = rw (not_T_false (leb c.args.actions 64) (λ t. absurd (omega (arith, leb→le c.args.actions 64 t))))
+returns-then-actions-gt64 c = rw (not_T_false (leb c.args.actions 64) (λ t. absurd (omega (arith, leb→le c.args.actions 64 t))))
 
-pub enter_all_requires : goal.enter_all-requires
-enter_all_requires c = (refl, omega arith, omega (arith, c.spread_of-n.ensures.1), zeros 272)
+pub enter_all-requires : goal.enter_all-requires
+enter_all-requires c = (refl, omega arith, omega (arith, c.spread_of-n.ensures.1), zeros 272)
 
 pub returns : goal.returns
 returns c = let e = c.spread_of-n.ensures.0 in filled_as_defined _ _ _ _ _ _ _ (omega arith) (rw e at c.enter_all.ensures) (rw e at c.fill_rows.ensures)

@@ -3,9 +3,9 @@ use Rattle.std.proofs.Common.{arith, eq-eqb, ne_eqb}
 use Rattle.tables.specs.Sets.{lowest_need}
 use Rattle.tables.proofs.applying.lowest_need.Goals as goal
 
-pub returns_then_need_eq0 : goal.returns-then-need-eq0
+pub returns-then-need-eq0 : goal.returns-then-need-eq0
 unfolding lowest_need
-returns_then_need_eq0 c = (rw (eq-eqb _ 0 c.if-need-eq0.true), omega arith)
+returns-then-need-eq0 c = (rw (eq-eqb _ 0 c.if-need-eq0.true), omega arith)
 
 pub returns : goal.returns
 unfolding lowest_need

@@ -2,5 +2,5 @@
 
 use Rattle.tables.proofs.build.build_table.Goals as goal
 
-pub returns_then_build_small : goal.returns-then-build_small
-returns_then_build_small c = c.build_small.ensures c.if-build_small.true
+pub returns-then-build_small : goal.returns-then-build_small
+returns-then-build_small c = c.build_small.ensures c.if-build_small.true

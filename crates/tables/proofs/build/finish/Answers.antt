@@ -3,8 +3,8 @@ use Rattle.tables.specs.Certified.{tested}
 use Rattle.tables.proofs.Building.{finished_by_steps}
 use Rattle.tables.proofs.build.finish.Goals as goal
 
-pub returns_then_is_certified : goal.returns-then-is_certified
-returns_then_is_certified c = tested (c.is_certified.ensures c.if-is_certified.true)
+pub returns-then-is_certified : goal.returns-then-is_certified
+returns-then-is_certified c = tested (c.is_certified.ensures c.if-is_certified.true)
 
 pub returns : goal.returns
 returns c = finished_by_steps _ _ _ _ c.start.ensures c.settle.ensures

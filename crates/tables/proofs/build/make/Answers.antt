@@ -3,8 +3,8 @@ use Rattle.std.proofs.Common.{arith}
 use Rattle.tables.proofs.Building.{finished_idle, indexed_as}
 use Rattle.tables.proofs.build.make.Goals as goal
 
-pub returns_then_live_eq0 : goal.returns-then-live-eq0
-returns_then_live_eq0 c = finished_idle _ _ _ _ c.lively-live.ensures c.if-live-eq0.true c.start.ensures
+pub returns-then-live-eq0 : goal.returns-then-live-eq0
+returns-then-live-eq0 c = finished_idle _ _ _ _ c.lively-live.ensures c.if-live-eq0.true c.start.ensures
 
-pub finish_requires : goal.finish-requires
-finish_requires c = let e = c.candidate.ensures in (c.requires.0, c.lively-live.ensures, c.requires.1, omega (arith, e, c.requires.2), indexed_as _ _ _ _ e c.requires.3)
+pub finish-requires : goal.finish-requires
+finish-requires c = let e = c.candidate.ensures in (c.requires.0, c.lively-live.ensures, c.requires.1, omega (arith, e, c.requires.2), indexed_as _ _ _ _ e c.requires.3)

@@ -4,9 +4,9 @@ use Rattle.tables.specs.Steps.{outcome_entry}
 use Rattle.tables.proofs.Certifying.{guessed}
 use Rattle.tables.proofs.certify.entry_after.Goals as goal
 
-pub returns_then_states_guess : goal.returns-then-states-guess
+pub returns-then-states-guess : goal.returns-then-states-guess
 unfolding outcome_entry
-returns_then_states_guess c = guessed c.args.weights.now c.args.states.now c.args.entries.now c.args.guess _ c.requires.2 c.if-guess-entries.true (c.if-states-guess.true ∙ c.state_after-z.ensures)
+returns-then-states-guess c = guessed c.args.weights.now c.args.states.now c.args.entries.now c.args.guess _ c.requires.2 c.if-guess-entries.true (c.if-states-guess.true ∙ c.state_after-z.ensures)
 
 pub returns : goal.returns
 unfolding outcome_entry

@@ -5,17 +5,17 @@ use Rattle.tables.proofs.Certifying.{exact_next, exact_all}
 use Rattle.tables.proofs.Sweeping.{false_true}
 use Rattle.tables.proofs.certify.is_certified.Goals as goal
 
-pub loop_i_init : goal.loop-i-init
-loop_i_init c = (omega arith, λ j l. absurd (omega arith))
+pub loop-i-init : goal.loop-i-init
+loop-i-init c = (omega arith, λ j l. absurd (omega arith))
 
-pub is_exact_requires : goal.is_exact-requires
-is_exact_requires c = (c.requires.0, c.requires.1, rw c.fill_sets.ensures (filled-sets _ _ _ _ _ c.requires.0.actions_few), c.requires.2, c.loop-i-test.true, c.requires.3, c.requires.4)
+pub is_exact-requires : goal.is_exact-requires
+is_exact-requires c = (c.requires.0, c.requires.1, rw c.fill_sets.ensures (filled-sets _ _ _ _ _ c.requires.0.actions_few), c.requires.2, c.loop-i-test.true, c.requires.3, c.requires.4)
 
-pub returns_then_not_is_exact : goal.returns-then-not-is_exact
-returns_then_not_is_exact c = λ q. false_true q
+pub returns-then-not-is_exact : goal.returns-then-not-is_exact
+returns-then-not-is_exact c = λ q. false_true q
 
-pub loop_i_preserved : goal.loop-i-preserved
-loop_i_preserved c = let l = c.loop-i in (omega (arith, c.loop-i-test.true), exact_next _ _ _ (c.is_exact.ensures c.if-not-is_exact.false) l.invariant.1)
+pub loop-i-preserved : goal.loop-i-preserved
+loop-i-preserved c = let l = c.loop-i in (omega (arith, c.loop-i-test.true), exact_next _ _ _ (c.is_exact.ensures c.if-not-is_exact.false) l.invariant.1)
 
 pub returns : goal.returns
 returns c = λ q. exact_all _ _ _ c.loop-i-test.false c.loop-i.invariant.1

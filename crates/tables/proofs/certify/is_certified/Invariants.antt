@@ -4,8 +4,8 @@ use Rattle.tables.specs.Steps.{space}
 use Rattle.tables.proofs.Certifying.{ExactTo}
 use Rattle.tables.proofs.certify.is_certified.Given as goal
 
-abbrev pub invariant_loop_i : goal.invariant-loop-i
-invariant_loop_i l = (l.i ≤ length l.entries) × ExactTo (space l.task l.mask l.weights l.states l.actions) l.entries l.i
+abbrev pub invariant-loop-i : goal.invariant-loop-i
+invariant-loop-i l = (l.i ≤ length l.entries) × ExactTo (space l.task l.mask l.weights l.states l.actions) l.entries l.i
 
-abbrev pub decreases_loop_i : goal.decreases-loop-i
-decreases_loop_i l = length l.entries - l.i
+abbrev pub decreases-loop-i : goal.decreases-loop-i
+decreases-loop-i l = length l.entries - l.i

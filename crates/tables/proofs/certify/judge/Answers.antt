@@ -4,16 +4,16 @@ use Rattle.tables.specs.Steps.{offer}
 use Rattle.tables.proofs.Certifying.{judged_high, judged_equal, judged_less, judged_more}
 use Rattle.tables.proofs.certify.judge.Goals as goal
 
-pub returns_then_v_e : goal.returns-then-v-e
+pub returns-then-v-e : goal.returns-then-v-e
 unfolding offer
-returns_then_v_e c = judged_high _ _ _ _ (let f = c.ranges in omega (arith, f.e)) c.worst_after-v.ensures c.if-v-e.true
+returns-then-v-e c = judged_high _ _ _ _ (let f = c.ranges in omega (arith, f.e)) c.worst_after-v.ensures c.if-v-e.true
 
-pub returns_then_said_e : goal.returns-then-said-e
-returns_then_said_e c = judged_less _ _
+pub returns-then-said-e : goal.returns-then-said-e
+returns-then-said-e c = judged_less _ _
 
-pub returns_then_said_e_2 : goal.returns-then-said-e-2
+pub returns-then-said-e-2 : goal.returns-then-said-e-2
 unfolding offer
-returns_then_said_e_2 c = judged_equal _ _ _ _ _ c.worst_after-v.ensures c.if-v-e.false c.raise-said.ensures c.if-said-e-2.true
+returns-then-said-e-2 c = judged_equal _ _ _ _ _ c.worst_after-v.ensures c.if-v-e.false c.raise-said.ensures c.if-said-e-2.true
 
 pub returns : goal.returns
 unfolding offer

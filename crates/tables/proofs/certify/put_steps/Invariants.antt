@@ -2,8 +2,8 @@
 use Rattle.std.proofs.Common.{◌-◌, ◌≤◌}
 use Rattle.tables.proofs.certify.put_steps.Given as goal
 
-abbrev pub invariant_loop_o : goal.invariant-loop-o
-invariant_loop_o l = (l.o ≤ l.n) × (l.n ≤ 8)
+abbrev pub invariant-loop-o : goal.invariant-loop-o
+invariant-loop-o l = (l.o ≤ l.n) × (l.n ≤ 8)
 
-abbrev pub decreases_loop_o : goal.decreases-loop-o
-decreases_loop_o l = l.n - l.o
+abbrev pub decreases-loop-o : goal.decreases-loop-o
+decreases-loop-o l = l.n - l.o

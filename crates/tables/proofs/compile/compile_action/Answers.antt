@@ -14,22 +14,22 @@ headed c = let a = c.args in let p = c.requires in
     compiling_head a.rec.now a.m p.0 a.task.now c.put_head.new.task (omega (arith, p.1, p.2))
     (rw (c.wide-at.ensures.0, c.precondition_cells.ensures, c.outcome_count.ensures) at c.put_head.ensures)
 
-pub put_head_requires : goal.put_head-requires
-put_head_requires c = let p = c.requires in let e = c.wide-at.ensures.0 in
+pub put_head-requires : goal.put_head-requires
+put_head-requires c = let p = c.requires in let e = c.wide-at.ensures.0 in
     (rw c.precondition_cells.ensures (part_few (drop (at_precondition c.args.m) c.args.rec.now)), omega (arith, e, p.1, p.2), omega (arith, e, p.1))
 
-pub loop_k_init : goal.loop-k-init
-loop_k_init c = (omega arith, refl, compiling_start _ _ _ _)
+pub loop-k-init : goal.loop-k-init
+loop-k-init c = (omega arith, refl, compiling_start _ _ _ _)
 
-pub put_outcome_requires : goal.put_outcome-requires
-put_outcome_requires c =
+pub put_outcome-requires : goal.put_outcome-requires
+put_outcome-requires c =
     let w = (goal.at.put_outcome-requires c).After-put_head in
     let p = c.requires in let t = c.loop-k-test.true in
     let e = c.wide-at.ensures.0 in let f = c.wide.ensures.0 in
     (omega (arith, (headed w).long, c.loop-k.invariant.1, t, e, f, p.1, p.2), omega (arith, t, e, f, p.1))
 
-pub loop_k_preserved : goal.loop-k-preserved
-loop_k_preserved c =
+pub loop-k-preserved : goal.loop-k-preserved
+loop-k-preserved c =
     let w = (goal.at.loop-k-preserved c).After-put_head in
     let l = c.loop-k in let a = c.args in let p = c.requires in
     let g = compiling_outcome a.rec.now a.m p.0 _ l.task _ l.k c.loop-k-test.true (omega (arith, (headed w).long, p.1, p.2))

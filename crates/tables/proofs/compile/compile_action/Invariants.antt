@@ -4,8 +4,8 @@ use Rattle.task_record.specs.TaskOf.{action_of}
 use Rattle.tables.proofs.CompiledAction.{Compiling}
 use Rattle.tables.proofs.compile.compile_action.Given as goal
 
-abbrev pub invariant_loop_k : goal.invariant-loop-k
-invariant_loop_k l = (l.k ≤ 8) × (length l.task ≡ length l.initial.task) × Compiling l.initial.task l.task l.m (action_of l.rec l.m) 4 (4 + 2 * l.k)
+abbrev pub invariant-loop-k : goal.invariant-loop-k
+invariant-loop-k l = (l.k ≤ 8) × (length l.task ≡ length l.initial.task) × Compiling l.initial.task l.task l.m (action_of l.rec l.m) 4 (4 + 2 * l.k)
 
-abbrev pub decreases_loop_k : goal.decreases-loop-k
-decreases_loop_k l = 8 - l.k
+abbrev pub decreases-loop-k : goal.decreases-loop-k
+decreases-loop-k l = 8 - l.k

@@ -7,12 +7,12 @@ use Rattle.tables.specs.Compiling.{outcome_word}
 use Rattle.tables.proofs.CompiledRecord.{part_few}
 use Rattle.tables.proofs.compile.outcome_words.Goals as goal
 
-pub words_of_requires : goal.words_of-requires
-words_of_requires c = let a = c.args in rw c.outcome_cells.ensures (part_few (drop (at_outcome a.m a.k) a.rec.now))
+pub words_of-requires : goal.words_of-requires
+words_of-requires c = let a = c.args in rw c.outcome_cells.ensures (part_few (drop (at_outcome a.m a.k) a.rec.now))
 
-pub returns_then_k_outcome_count : goal.returns-then-k-outcome_count
+pub returns-then-k-outcome_count : goal.returns-then-k-outcome_count
 unfolding outcome_word
-returns_then_k_outcome_count c = let a = c.args in
+returns-then-k-outcome_count c = let a = c.args in
     rw (lt-ltb a.k (outcome_count a.rec.now a.m) (rw c.outcome_count.ensures at c.if-k-outcome_count.true))
     (c.words_of.ensures.0 ∙ ap (pack_by (digit_by 1)) c.outcome_cells.ensures, c.words_of.ensures.1 ∙ ap (pack_by (digit_by 2)) c.outcome_cells.ensures)
 

@@ -3,11 +3,11 @@ use Rattle.std.proofs.Common.{◌≡◌, arith}
 use Rattle.tables.proofs.CompiledRecord.{none_cleared, next_cleared}
 use Rattle.tables.proofs.compile_record.clear_from.Goals as goal
 
-pub loop_i_init : goal.loop-i-init
-loop_i_init c = let h = none_cleared c.args.task.now c.args.from in (c.requires.0, omega arith, h.long, h)
+pub loop-i-init : goal.loop-i-init
+loop-i-init c = let h = none_cleared c.args.task.now c.args.from in (c.requires.0, omega arith, h.long, h)
 
-pub loop_i_preserved : goal.loop-i-preserved
-loop_i_preserved c = let l = c.loop-i in let g = next_cleared c.args.task.now l.task _ c.args.from l.i l.invariant.1 (omega (arith, c.loop-i-test.true, c.requires.1)) c.put.ensures l.invariant.3 in
+pub loop-i-preserved : goal.loop-i-preserved
+loop-i-preserved c = let l = c.loop-i in let g = next_cleared c.args.task.now l.task _ c.args.from l.i l.invariant.1 (omega (arith, c.loop-i-test.true, c.requires.1)) c.put.ensures l.invariant.3 in
     (omega arith, omega arith, g.long, g)
 
 pub returns : goal.returns

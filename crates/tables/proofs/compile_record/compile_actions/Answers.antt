@@ -5,17 +5,17 @@ use Rattle.task_record.proofs.SoundTask.{actions_right, outcomes_right}
 use Rattle.tables.proofs.CompiledRecord.{no_actions, next_action}
 use Rattle.tables.proofs.compile_record.compile_actions.Goals as goal
 
-pub loop_m_init : goal.loop-m-init
-loop_m_init c = let h = no_actions c.args.rec.now c.args.task.now in (omega arith, h.long, h)
+pub loop-m-init : goal.loop-m-init
+loop-m-init c = let h = no_actions c.args.rec.now c.args.task.now in (omega arith, h.long, h)
 
-pub compile_action_requires : goal.compile_action-requires
-compile_action_requires c =
+pub compile_action-requires : goal.compile_action-requires
+compile_action-requires c =
     let r = c.args.rec.now in let p = c.requires in let m = c.loop-m.m in
     let b : m < action_count r = rw c.action_count-n.ensures at c.loop-m-test.true in
     ((outcomes_right r p.0 m b).1, omega (arith, actions_right r p.0), omega (arith, p.1, c.loop-m.invariant.1))
 
-pub loop_m_preserved : goal.loop-m-preserved
-loop_m_preserved c = let a = c.args in let l = c.loop-m in
+pub loop-m-preserved : goal.loop-m-preserved
+loop-m-preserved c = let a = c.args in let l = c.loop-m in
     let g = next_action a.rec.now a.task.now l.task _ l.m l.invariant.2 c.compile_action.ensures in
     (omega (arith, c.loop-m-test.true), g.long, g)
 

@@ -3,8 +3,8 @@ use Rattle.std.proofs.Common.{◌≡◌, ◌-◌, ◌≤◌, length}
 use Rattle.tables.specs.Compiling.{ActionsCompiled}
 use Rattle.tables.proofs.compile_record.compile_actions.Given as goal
 
-abbrev pub invariant_loop_m : goal.invariant-loop-m
-invariant_loop_m l = (l.m ≤ l.n) × (length l.task ≡ length l.initial.task) × ActionsCompiled l.rec l.initial.task l.task l.m
+abbrev pub invariant-loop-m : goal.invariant-loop-m
+invariant-loop-m l = (l.m ≤ l.n) × (length l.task ≡ length l.initial.task) × ActionsCompiled l.rec l.initial.task l.task l.m
 
-abbrev pub decreases_loop_m : goal.decreases-loop-m
-decreases_loop_m l = l.n - l.m
+abbrev pub decreases-loop-m : goal.decreases-loop-m
+decreases-loop-m l = l.n - l.m

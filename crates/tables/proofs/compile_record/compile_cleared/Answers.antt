@@ -4,11 +4,11 @@ use Rattle.task_record.specs.Layout.{at_goal}
 use Rattle.tables.proofs.CompiledRecord.{part_few, record_compiled}
 use Rattle.tables.proofs.compile_record.compile_cleared.Goals as goal
 
-pub words_of_words_requires : goal.words_of-words-requires
-words_of_words_requires c = rw c.goal_cells-goal.ensures (part_few (drop at_goal c.args.rec.now))
+pub words_of-words-requires : goal.words_of-words-requires
+words_of-words-requires c = rw c.goal_cells-goal.ensures (part_few (drop at_goal c.args.rec.now))
 
-pub named_digits-mask_requires : goal.named_digits-mask-requires
-named_digits-mask_requires c = (rw c.goal_cells-goal.ensures (part_few (drop at_goal c.args.rec.now)), c.words_of-words.ensures.0)
+pub named_digits-mask-requires : goal.named_digits-mask-requires
+named_digits-mask-requires c = (rw c.goal_cells-goal.ensures (part_few (drop at_goal c.args.rec.now)), c.words_of-words.ensures.0)
 
 pub returns : goal.returns
 returns c = record_compiled c.args.rec.now c.requires.0 c.args.task.now c.compile_actions.new.task _

@@ -2,8 +2,8 @@
 use Rattle.std.proofs.Common.{◌≡◌, ◌-◌, ◌≤◌, length}
 use Rattle.tables.proofs.edges.common_list.Given as goal
 
-abbrev pub invariant_loop_k : goal.invariant-loop-k
-invariant_loop_k l = (l.k ≤ l.outcomes) × (length l.offsets ≡ length l.initial.offsets)
+abbrev pub invariant-loop-k : goal.invariant-loop-k
+invariant-loop-k l = (l.k ≤ l.outcomes) × (length l.offsets ≡ length l.initial.offsets)
 
-abbrev pub decreases_loop_k : goal.decreases-loop-k
-decreases_loop_k l = l.outcomes - l.k
+abbrev pub decreases-loop-k : goal.decreases-loop-k
+decreases-loop-k l = l.outcomes - l.k

@@ -2,8 +2,8 @@
 use Rattle.std.proofs.Common.{◌-◌, ◌≤◌}
 use Rattle.tables.proofs.edges.is_twin.Given as goal
 
-abbrev pub invariant_loop_k : goal.invariant-loop-k
-invariant_loop_k l = l.k ≤ l.n
+abbrev pub invariant-loop-k : goal.invariant-loop-k
+invariant-loop-k l = l.k ≤ l.n
 
-abbrev pub decreases_loop_k : goal.decreases-loop-k
-decreases_loop_k l = l.n - l.k
+abbrev pub decreases-loop-k : goal.decreases-loop-k
+decreases-loop-k l = l.n - l.k

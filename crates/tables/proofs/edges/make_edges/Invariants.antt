@@ -2,8 +2,8 @@
 use Rattle.std.proofs.Common.{◌≡◌, ◌-◌, ◌*◌, ◌≤◌, length}
 use Rattle.tables.proofs.edges.make_edges.Given as goal
 
-abbrev pub invariant_loop_m : goal.invariant-loop-m
-invariant_loop_m l = (l.m ≤ l.actions) × (l.e ≤ 8 * l.m) × (l.counted ≤ l.m) × (length l.edges ≡ length l.initial.edges) × (length l.offsets ≡ length l.initial.offsets)
+abbrev pub invariant-loop-m : goal.invariant-loop-m
+invariant-loop-m l = (l.m ≤ l.actions) × (l.e ≤ 8 * l.m) × (l.counted ≤ l.m) × (length l.edges ≡ length l.initial.edges) × (length l.offsets ≡ length l.initial.offsets)
 
-abbrev pub decreases_loop_m : goal.decreases-loop-m
-decreases_loop_m l = l.actions - l.m
+abbrev pub decreases-loop-m : goal.decreases-loop-m
+decreases-loop-m l = l.actions - l.m

@@ -2,8 +2,8 @@
 use Rattle.std.proofs.Common.{◌≡◌, ◌≤◌, length}
 use Rattle.tables.proofs.incoming.extend_sets.Given as goal
 
-abbrev pub invariant_loop_x : goal.invariant-loop-x
-invariant_loop_x l = (l.x ≤ l.size) × (length l.sets ≡ length l.initial.sets)
+abbrev pub invariant-loop-x : goal.invariant-loop-x
+invariant-loop-x l = (l.x ≤ l.size) × (length l.sets ≡ length l.initial.sets)
 
-abbrev pub decreases_loop_x : goal.decreases-loop-x
-decreases_loop_x l = l.x
+abbrev pub decreases-loop-x : goal.decreases-loop-x
+decreases-loop-x l = l.x

@@ -2,8 +2,8 @@
 use Rattle.std.proofs.Common.{◌≡◌, ◌-◌, ◌*◌, ◌≤◌, length}
 use Rattle.tables.proofs.incoming.fill_sets.Given as goal
 
-abbrev pub invariant_loop_w : goal.invariant-loop-w
-invariant_loop_w l = (l.w ≤ 8) × (l.row ≤ 4096 * l.w) × (length l.sets ≡ length l.initial.sets)
+abbrev pub invariant-loop-w : goal.invariant-loop-w
+invariant-loop-w l = (l.w ≤ 8) × (l.row ≤ 4096 * l.w) × (length l.sets ≡ length l.initial.sets)
 
-abbrev pub decreases_loop_w : goal.decreases-loop-w
-decreases_loop_w l = 8 - l.w
+abbrev pub decreases-loop-w : goal.decreases-loop-w
+decreases-loop-w l = 8 - l.w

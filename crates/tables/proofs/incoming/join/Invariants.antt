@@ -2,8 +2,8 @@
 use Rattle.std.proofs.Common.{◌≤◌}
 use Rattle.tables.proofs.incoming.join.Given as goal
 
-abbrev pub invariant_loop_rest : goal.invariant-loop-rest
-invariant_loop_rest l = 0 ≤ l.rest
+abbrev pub invariant-loop-rest : goal.invariant-loop-rest
+invariant-loop-rest l = 0 ≤ l.rest
 
-abbrev pub decreases_loop_rest : goal.decreases-loop-rest
-decreases_loop_rest l = l.rest
+abbrev pub decreases-loop-rest : goal.decreases-loop-rest
+decreases-loop-rest l = l.rest

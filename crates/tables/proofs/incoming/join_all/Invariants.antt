@@ -2,8 +2,8 @@
 use Rattle.std.proofs.Common.{◌-◌, ◌≤◌}
 use Rattle.tables.proofs.incoming.join_all.Given as goal
 
-abbrev pub invariant_loop_e : goal.invariant-loop-e
-invariant_loop_e l = 0 ≤ l.e
+abbrev pub invariant-loop-e : goal.invariant-loop-e
+invariant-loop-e l = 0 ≤ l.e
 
-abbrev pub decreases_loop_e : goal.decreases-loop-e
-decreases_loop_e l = l.end - l.e
+abbrev pub decreases-loop-e : goal.decreases-loop-e
+decreases-loop-e l = l.end - l.e

@@ -2,8 +2,8 @@
 use Rattle.std.proofs.Common.{◌≡◌, ◌≤◌, length}
 use Rattle.tables.proofs.incoming.multiply_out.Given as goal
 
-abbrev pub invariant_loop_rest : goal.invariant-loop-rest
-invariant_loop_rest l = (l.lower ≤ 65535) × (l.upper ≤ 65535) × (length l.sets ≡ length l.initial.sets)
+abbrev pub invariant-loop-rest : goal.invariant-loop-rest
+invariant-loop-rest l = (l.lower ≤ 65535) × (l.upper ≤ 65535) × (length l.sets ≡ length l.initial.sets)
 
-abbrev pub decreases_loop_rest : goal.decreases-loop-rest
-decreases_loop_rest l = l.rest
+abbrev pub decreases-loop-rest : goal.decreases-loop-rest
+decreases-loop-rest l = l.rest

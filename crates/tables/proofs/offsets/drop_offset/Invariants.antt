@@ -2,8 +2,8 @@
 use Rattle.std.proofs.Common.{◌≡◌, ◌-◌, ◌≤◌, length}
 use Rattle.tables.proofs.offsets.drop_offset.Given as goal
 
-abbrev pub invariant_loop_k : goal.invariant-loop-k
-invariant_loop_k l = (length l.offsets ≡ length l.initial.offsets) × (l.to ≤ l.k) × (l.k ≤ 65535)
+abbrev pub invariant-loop-k : goal.invariant-loop-k
+invariant-loop-k l = (length l.offsets ≡ length l.initial.offsets) × (l.to ≤ l.k) × (l.k ≤ 65535)
 
-abbrev pub decreases_loop_k : goal.decreases-loop-k
-decreases_loop_k l = l.end - l.k
+abbrev pub decreases-loop-k : goal.decreases-loop-k
+decreases-loop-k l = l.end - l.k

@@ -2,8 +2,8 @@
 use Rattle.std.proofs.Common.{◌≡◌, ◌-◌, ◌≤◌, length}
 use Rattle.tables.proofs.queue.settle_many.Given as goal
 
-abbrev pub invariant_loop_head : goal.invariant-loop-head
-invariant_loop_head l = (l.head ≤ 4096) × (length l.entries ≡ length l.initial.entries) × (length l.queue ≡ length l.initial.queue) × (length l.counters ≡ length l.initial.counters)
+abbrev pub invariant-loop-head : goal.invariant-loop-head
+invariant-loop-head l = (l.head ≤ 4096) × (length l.entries ≡ length l.initial.entries) × (length l.queue ≡ length l.initial.queue) × (length l.counters ≡ length l.initial.counters)
 
-abbrev pub decreases_loop_head : goal.decreases-loop-head
-decreases_loop_head l = 4096 - l.head
+abbrev pub decreases-loop-head : goal.decreases-loop-head
+decreases-loop-head l = 4096 - l.head

@@ -3,8 +3,8 @@ use Rattle.std.proofs.Common.{◌≡◌, ◌-◌, ◌≤◌, length}
 use Rattle.tables.specs.Steps.{Extended}
 use Rattle.tables.proofs.ranking.extend.Given as goal
 
-abbrev pub invariant_loop_k : goal.invariant-loop-k
-invariant_loop_k l = (l.w ≤ l.k) × (l.w ≤ l.end → l.k ≤ l.end) × (length l.states ≡ length l.initial.states) × Extended l.initial.states l.states l.w l.k l.place
+abbrev pub invariant-loop-k : goal.invariant-loop-k
+invariant-loop-k l = (l.w ≤ l.k) × (l.w ≤ l.end → l.k ≤ l.end) × (length l.states ≡ length l.initial.states) × Extended l.initial.states l.states l.w l.k l.place
 
-abbrev pub decreases_loop_k : goal.decreases-loop-k
-decreases_loop_k l = l.end - l.k
+abbrev pub decreases-loop-k : goal.decreases-loop-k
+decreases-loop-k l = l.end - l.k

@@ -3,8 +3,8 @@ use Rattle.std.proofs.Common.{◌≡◌, ◌-◌, length}
 use Rattle.tables.proofs.Spacing.{Filling}
 use Rattle.tables.proofs.ranking.fill_states.Given as goal
 
-abbrev pub invariant_loop_v : goal.invariant-loop-v
-invariant_loop_v l = Filling l.sizes l.pattern l.n l.states l.w l.place l.v × (length l.states ≡ length l.initial.states)
+abbrev pub invariant-loop-v : goal.invariant-loop-v
+invariant-loop-v l = Filling l.sizes l.pattern l.n l.states l.w l.place l.v × (length l.states ≡ length l.initial.states)
 
-abbrev pub decreases_loop_v : goal.decreases-loop-v
-decreases_loop_v l = l.n - l.v
+abbrev pub decreases-loop-v : goal.decreases-loop-v
+decreases-loop-v l = l.n - l.v

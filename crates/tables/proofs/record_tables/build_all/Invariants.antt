@@ -4,8 +4,8 @@ use Rattle.task_record.specs.Numbers.{pattern_count}
 use Rattle.tables.proofs.TableChain.{Chaining}
 use Rattle.tables.proofs.record_tables.build_all.Given as goal
 
-abbrev pub invariant_loop_p : goal.invariant-loop-p
-invariant_loop_p g l = Chaining l.rec l.initial.tables l.tables l.begin l.p
+abbrev pub invariant-loop-p : goal.invariant-loop-p
+invariant-loop-p g l = Chaining l.rec l.initial.tables l.tables l.begin l.p
 
-abbrev pub decreases_loop_p : goal.decreases-loop-p
-decreases_loop_p g l = pattern_count l.rec - l.p
+abbrev pub decreases-loop-p : goal.decreases-loop-p
+decreases-loop-p g l = pattern_count l.rec - l.p

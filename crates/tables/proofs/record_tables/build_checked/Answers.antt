@@ -4,8 +4,8 @@ use Rattle.task_record.proofs.Sixteens.{zeros}
 use Rattle.tables.proofs.TableChain.{none_to_build}
 use Rattle.tables.proofs.record_tables.build_checked.Goals as goal
 
-pub returns_then_pattern_count_eq0 : goal.returns-then-pattern_count-eq0
-returns_then_pattern_count_eq0 g c = let a = c.args in none_to_build a.rec.now a.tables.now (sym c.pattern_count.ensures ∙ c.if-pattern_count-eq0.true)
+pub returns-then-pattern_count-eq0 : goal.returns-then-pattern_count-eq0
+returns-then-pattern_count-eq0 g c = let a = c.args in none_to_build a.rec.now a.tables.now (sym c.pattern_count.ensures ∙ c.if-pattern_count-eq0.true)
 
-pub compile_cleared_requires : goal.compile_cleared-requires
-compile_cleared_requires g c = (search rules, λ i k l. zeros 1282 i)
+pub compile_cleared-requires : goal.compile_cleared-requires
+compile_cleared-requires g c = (search rules, λ i k l. zeros 1282 i)

@@ -15,46 +15,46 @@ use Rattle.tables.proofs.record_tables.build_one.Goals.{After-wide-n, After-wide
 
 -- What was read of the record: its numbers of variables and actions, sizes, pattern, and the pattern's number of states.
 
-variables_known : (g : given.Over) (c : After-wide-n g) → c.wide-n.result ≡ variable_count c.args.rec.now
-variables_known g c = c.wide-n.ensures.0 ∙ c.variable_count.ensures
+variables-known : (g : given.Over) (c : After-wide-n g) → c.wide-n.result ≡ variable_count c.args.rec.now
+variables-known g c = c.wide-n.ensures.0 ∙ c.variable_count.ensures
 
-sizes_known : (g : given.Over) (c : After-wide-n g) → take c.wide-n.result c.args.sizes ≡ (task_of c.args.rec.now).sizes
-sizes_known g c = ap (λ k. take k c.args.sizes) (variables_known g c) ∙ sizes_taken c.args.rec.now c.requires.0 c.args.sizes c.requires.2
+sizes-known : (g : given.Over) (c : After-wide-n g) → take c.wide-n.result c.args.sizes ≡ (task_of c.args.rec.now).sizes
+sizes-known g c = ap (λ k. take k c.args.sizes) (variables-known g c) ∙ sizes_taken c.args.rec.now c.requires.0 c.args.sizes c.requires.2
 
-actions_known : (g : given.Over) (c : After-wide-actions g) → c.wide-actions.result ≡ action_count c.args.rec.now
-actions_known g c = c.wide-actions.ensures.0 ∙ c.action_count.ensures
+actions-known : (g : given.Over) (c : After-wide-actions g) → c.wide-actions.result ≡ action_count c.args.rec.now
+actions-known g c = c.wide-actions.ensures.0 ∙ c.action_count.ensures
 
 pattern_known : (g : given.Over) (c : After-state_of-pattern g) → c.state_of-pattern.result ≡ cells_at c.args.rec.now (at_pattern c.args.p)
 pattern_known g c = let r = c.args.rec.now in let p = c.args.p in
     c.state_of-pattern.ensures ∙ ap state_cells c.pattern_cells.ensures ∙ sym (state_cells_whole (cells_at r (at_pattern p)) (pattern_whole r c.requires.0 p c.requires.3))
 
-states_known : (g : given.Over) (c : After-state_count g) → c.state_count.result ≡ state_count (task_of c.args.rec.now).sizes (cells_at c.args.rec.now (at_pattern c.args.p))
-states_known g c = let r = c.args.rec.now in let p = c.args.p in
+states-known : (g : given.Over) (c : After-state_count g) → c.state_count.result ≡ state_count (task_of c.args.rec.now).sizes (cells_at c.args.rec.now (at_pattern c.args.p))
+states-known g c = let r = c.args.rec.now in let p = c.args.p in
     c.state_count.ensures ∙ ap₂ state_count (ap (λ k. take k c.args.sizes) (c.wide-n.ensures.0 ∙ c.variable_count.ensures) ∙ sizes_taken r c.requires.0 c.args.sizes c.requires.2)
     (c.state_of-pattern.ensures ∙ ap state_cells c.pattern_cells.ensures ∙ sym (state_cells_whole (cells_at r (at_pattern p)) (pattern_whole r c.requires.0 p c.requires.3)))
 
-pub state_count_requires : goal.state_count-requires
-state_count_requires g c = let v = (goal.at.state_count-requires g c).After-wide-n in let q = (goal.at.state_count-requires g c).After-state_of-pattern in let r = c.args.rec.now in
-    rw (variables_known g v, pattern_known g q) (pattern_sized r c.requires.0 c.args.sizes c.requires.2 (cells_at r (at_pattern c.args.p)) c.requires.4)
+pub state_count-requires : goal.state_count-requires
+state_count-requires g c = let v = (goal.at.state_count-requires g c).After-wide-n in let q = (goal.at.state_count-requires g c).After-state_of-pattern in let r = c.args.rec.now in
+    rw (variables-known g v, pattern_known g q) (pattern_sized r c.requires.0 c.args.sizes c.requires.2 (cells_at r (at_pattern c.args.p)) c.requires.4)
 
-pub overflow_add_end : goal.overflow_add-end
-overflow_add_end g c = let s = (goal.at.overflow_add-end g c).After-state_count in let e = states_known g s in omega (arith, c.requires.5)
+pub overflow_add-end : goal.overflow_add-end
+overflow_add-end g c = let s = (goal.at.overflow_add-end g c).After-state_count in let e = states-known g s in omega (arith, c.requires.5)
 
-pub slice_bounds_build_table_end : goal.slice_bounds-build_table-end
-slice_bounds_build_table_end g c = let s = (goal.at.slice_bounds-build_table-end g c).After-state_count in let e = states_known g s in omega (arith, c.requires.5)
+pub slice_bounds-build_table-end : goal.slice_bounds-build_table-end
+slice_bounds-build_table-end g c = let s = (goal.at.slice_bounds-build_table-end g c).After-state_count in let e = states-known g s in omega (arith, c.requires.5)
 
-pub build_table_requires : goal.build_table-requires
-build_table_requires g c = let v = (goal.at.build_table-requires g c).After-wide-n in let b = (goal.at.build_table-requires g c).After-wide-actions in let q = (goal.at.build_table-requires g c).After-state_of-pattern in let s = (goal.at.build_table-requires g c).After-state_count in let r = c.args.rec.now in
-    let p = cells_at r (at_pattern c.args.p) in let e = states_known g s in
-    rw (c.requires.1, actions_known g b, pattern_known g q, sizes_known g v, variables_known g v) (
+pub build_table-requires : goal.build_table-requires
+build_table-requires g c = let v = (goal.at.build_table-requires g c).After-wide-n in let b = (goal.at.build_table-requires g c).After-wide-actions in let q = (goal.at.build_table-requires g c).After-state_of-pattern in let s = (goal.at.build_table-requires g c).After-state_count in let r = c.args.rec.now in
+    let p = cells_at r (at_pattern c.args.p) in let e = states-known g s in
+    rw (c.requires.1, actions-known g b, pattern_known g q, sizes-known g v, variables-known g v) (
       sound_ready r c.requires.0 c.args.p c.requires.3 c.args.sizes c.requires.2 c.requires.4,
       part_length c.args.tables.now c.args.begin c.state_count.result (omega (arith, c.requires.5)) ∙ e,
     )
 
 pub returns : goal.returns
 returns g c = let v = (goal.at.returns g c).After-wide-n in let b = (goal.at.returns g c).After-wide-actions in let q = (goal.at.returns g c).After-state_of-pattern in let s = (goal.at.returns g c).After-state_count in let r = c.args.rec.now in let p = cells_at r (at_pattern c.args.p) in
-    let d = rw (c.requires.1, actions_known g b, pattern_known g q, variables_known g v) at c.build_table.ensures in
-    let e = states_known g s in (
+    let d = rw (c.requires.1, actions-known g b, pattern_known g q, variables-known g v) at c.build_table.ensures in
+    let e = states-known g s in (
       omega arith,
       part_back c.args.tables.now _ _ c.args.begin c.state_count.result (built_is_table r c.requires.0 c.args.sizes c.requires.2 p c.requires.4 _ d),
     )

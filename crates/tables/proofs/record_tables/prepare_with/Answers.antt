@@ -3,11 +3,11 @@ use Rattle.std.proofs.Common.{length, sym, ◌∙◌}
 use Rattle.tables.proofs.BuiltTables.{ready_buildable}
 use Rattle.tables.proofs.record_tables.prepare_with.Goals as goal
 
-pub compile_record_requires : goal.compile_record-requires
-compile_record_requires g c = let a = c.args in (ready_buildable a.rec.now (length a.tables.now) (sym c.check_estimate.ensures.value ∙ c.in_ok-check_estimate.was)).sound
+pub compile_record-requires : goal.compile_record-requires
+compile_record-requires g c = let a = c.args in (ready_buildable a.rec.now (length a.tables.now) (sym c.check_estimate.ensures.value ∙ c.in_ok-check_estimate.was)).sound
 
-pub build_all_requires : goal.build_all-requires
-build_all_requires g c = let a = c.args in (ready_buildable a.rec.now (length a.tables.now) (sym c.check_estimate.ensures.value ∙ c.in_ok-check_estimate.was), c.compile_record.ensures)
+pub build_all-requires : goal.build_all-requires
+build_all-requires g c = let a = c.args in (ready_buildable a.rec.now (length a.tables.now) (sym c.check_estimate.ensures.value ∙ c.in_ok-check_estimate.was), c.compile_record.ensures)
 
-pub start_word_requires : goal.start_word-requires
-start_word_requires g c = let a = c.args in (ready_buildable a.rec.now (length a.tables.now) (sym c.check_estimate.ensures.value ∙ c.in_ok-check_estimate.was)).sound
+pub start_word-requires : goal.start_word-requires
+start_word-requires g c = let a = c.args in (ready_buildable a.rec.now (length a.tables.now) (sym c.check_estimate.ensures.value ∙ c.in_ok-check_estimate.was)).sound

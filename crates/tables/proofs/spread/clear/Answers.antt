@@ -3,21 +3,21 @@ use Rattle.std.proofs.Common.{◌≡◌, ℕ, length, replicate, sym, refl, ap, 
 use Rattle.tables.proofs.Spreading.{clearing_next}
 use Rattle.tables.proofs.spread.clear.Goals as goal
 
-pub loop_i_init : goal.loop-i-init
-loop_i_init c = (refl, omega arith, refl)
+pub loop-i-init : goal.loop-i-init
+loop-i-init c = (refl, omega arith, refl)
 
-pub bounds_row_i : goal.bounds-row-i
-bounds_row_i c = rw c.loop-i.invariant.0 c.loop-i-test.true
+pub bounds-row-i : goal.bounds-row-i
+bounds-row-i c = rw c.loop-i.invariant.0 c.loop-i-test.true
 
-pub loop_i_smaller : goal.loop-i-smaller
-loop_i_smaller c = omega (arith, c.loop-i-test.true)
+pub loop-i-smaller : goal.loop-i-smaller
+loop-i-smaller c = omega (arith, c.loop-i-test.true)
 
-pub loop_i_preserved : goal.loop-i-preserved
-loop_i_preserved c = let l = c.loop-i in let t = c.loop-i-test.true in
+pub loop-i-preserved : goal.loop-i-preserved
+loop-i-preserved c = let l = c.loop-i in let t = c.loop-i-test.true in
     (length-set l.row l.i 0 ∙ l.invariant.0, omega arith, clearing_next l.row l.i (rw l.invariant.0 t) l.invariant.2)
 
-pub shape_of_row : goal.shape_of-row
-shape_of_row c = c.loop-i.invariant.0
+pub shape_of-row : goal.shape_of-row
+shape_of-row c = c.loop-i.invariant.0
 
 pub returns : goal.returns
 returns c = let l = c.loop-i in let t = c.loop-i-test.false in let i = l.invariant.1 in

@@ -2,8 +2,8 @@
 use Rattle.std.proofs.Common.{◌≡◌, ◌-◌, ◌≤◌, length, take, replicate}
 use Rattle.tables.proofs.spread.clear.Given as goal
 
-abbrev pub invariant_loop_i : goal.invariant-loop-i
-invariant_loop_i l = (length l.row ≡ length l.initial.row) × (l.i ≤ length l.initial.row) × (take l.i l.row ≡ replicate l.i 0)
+abbrev pub invariant-loop-i : goal.invariant-loop-i
+invariant-loop-i l = (length l.row ≡ length l.initial.row) × (l.i ≤ length l.initial.row) × (take l.i l.row ≡ replicate l.i 0)
 
-abbrev pub decreases_loop_i : goal.decreases-loop-i
-decreases_loop_i l = length l.initial.row - l.i
+abbrev pub decreases-loop-i : goal.decreases-loop-i
+decreases-loop-i l = length l.initial.row - l.i

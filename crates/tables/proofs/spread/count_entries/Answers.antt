@@ -13,38 +13,38 @@ use Rattle.tables.proofs.spread.count_entries.Goals.{After-place_of-k}
 place_is : (c : After-place_of-k) → c.place_of-k.result ≡ place_of (cost_of (get_or c.args.entries.now c.loop-i.i 0))
 place_is c = c.place_of-k.ensures ∙ cut_place c.args.entries.now c.requires.1 c.loop-i.i c.loop-i-test.true
 
-place_known : (c : After-place_of-k) → c.place_of-k.result < row_size
-place_known c = rw (place_is c) (place_in_row c.args.entries.now c.requires.1 c.loop-i.i c.loop-i-test.true)
+place-known : (c : After-place_of-k) → c.place_of-k.result < row_size
+place-known c = rw (place_is c) (place_in_row c.args.entries.now c.requires.1 c.loop-i.i c.loop-i-test.true)
 
 place_inside : (c : After-place_of-k) → c.place_of-k.result < length c.loop-i.row
-place_inside c = rw (c.loop-i.invariant.1, spread-length (take c.loop-i.i (map cost_of c.args.entries.now))) (place_known c)
+place_inside c = rw (c.loop-i.invariant.1, spread-length (take c.loop-i.i (map cost_of c.args.entries.now))) (place-known c)
 
-pub loop_i_init : goal.loop-i-init
-loop_i_init c = (omega arith, c.requires.2)
+pub loop-i-init : goal.loop-i-init
+loop-i-init c = (omega arith, c.requires.2)
 
-pub bounds_entries_i : goal.bounds-entries-i
-bounds_entries_i c = c.loop-i-test.true
+pub bounds-entries-i : goal.bounds-entries-i
+bounds-entries-i c = c.loop-i-test.true
 
-pub bounds_row_k : goal.bounds-row-k
-bounds_row_k c = let w = (goal.at.bounds-row-k c).After-place_of-k in place_inside w
+pub bounds-row-k : goal.bounds-row-k
+bounds-row-k c = let w = (goal.at.bounds-row-k c).After-place_of-k in place_inside w
 
-pub overflow_add_row : goal.overflow_add-row
-overflow_add_row c = let w = (goal.at.overflow_add-row c).After-place_of-k in let l = c.loop-i in
-    let h = counting_small c.args.entries.now c.requires.0 l.i l.row l.invariant.1 c.place_of-k.result (place_known w) in omega arith
+pub overflow_add-row : goal.overflow_add-row
+overflow_add-row c = let w = (goal.at.overflow_add-row c).After-place_of-k in let l = c.loop-i in
+    let h = counting_small c.args.entries.now c.requires.0 l.i l.row l.invariant.1 c.place_of-k.result (place-known w) in omega arith
 
-pub bounds_row_k_in_loop_i : goal.bounds-row-k-in-loop-i
-bounds_row_k_in_loop_i c = let w = (goal.at.bounds-row-k-in-loop-i c).After-place_of-k in place_inside w
+pub bounds-row-k-in-loop-i : goal.bounds-row-k-in-loop-i
+bounds-row-k-in-loop-i c = let w = (goal.at.bounds-row-k-in-loop-i c).After-place_of-k in place_inside w
 
-pub loop_i_smaller : goal.loop-i-smaller
-loop_i_smaller c = omega (arith, c.loop-i-test.true)
+pub loop-i-smaller : goal.loop-i-smaller
+loop-i-smaller c = omega (arith, c.loop-i-test.true)
 
-pub loop_i_preserved : goal.loop-i-preserved
-loop_i_preserved c = let w = (goal.at.loop-i-preserved c).After-place_of-k in let l = c.loop-i in
+pub loop-i-preserved : goal.loop-i-preserved
+loop-i-preserved c = let w = (goal.at.loop-i-preserved c).After-place_of-k in let l = c.loop-i in
     let t = c.loop-i-test.true in
     (omega arith, rw (l.invariant.1, place_is w) (sym (counting_next c.args.entries.now c.requires.1 l.i t)))
 
-pub shape_of_row : goal.shape_of-row
-shape_of_row c = let l = c.loop-i in
+pub shape_of-row : goal.shape_of-row
+shape_of-row c = let l = c.loop-i in
     ap length l.invariant.1 ∙ spread-length (take l.i (map cost_of c.args.entries.now)) ∙ sym (ap length c.requires.2 ∙ spread-length [])
 
 pub returns : goal.returns

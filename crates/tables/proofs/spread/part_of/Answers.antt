@@ -40,8 +40,8 @@ module _ (c : After-state_of-pattern) where
   sixteen : Sixteen (size_of rec) sizes
   sixteen = sixteen_sizes _ _ c.sizes_of-sizes.ensures
 
-  variables_known : c.wide-n.result ≡ variable_count rec
-  variables_known = c.wide-n.ensures.0 ∙ c.variable_count.ensures
+  variables-known : c.wide-n.result ≡ variable_count rec
+  variables-known = c.wide-n.ensures.0 ∙ c.variable_count.ensures
 
   pattern_known : c.state_of-pattern.result ≡ cells_at rec (at_pattern number)
   pattern_known = c.state_of-pattern.ensures ∙ ap state_cells c.pattern_cells.ensures ∙ sym (state_cells_whole (cells_at rec (at_pattern number)) (pattern_whole rec sound number below))
@@ -50,35 +50,35 @@ module _ (c : After-state_of-pattern) where
   unfolding Small
   few = all_at (λ x. state_count (task_of rec).sizes x ≤ 4096) (patterns_of rec) [] c.requires.1 number (rw (patterns_length rec) below)
 
-  states_known : state_count (take c.wide-n.result sizes) c.state_of-pattern.result ≡ state_count (task_of rec).sizes (get_or (patterns_of rec) number [])
-  states_known = ap₂ state_count (ap (λ k. take k sizes) variables_known ∙ sizes_taken rec sound sizes sixteen) (pattern_known ∙ sym (pattern_at rec number below))
+  states-known : state_count (take c.wide-n.result sizes) c.state_of-pattern.result ≡ state_count (task_of rec).sizes (get_or (patterns_of rec) number [])
+  states-known = ap₂ state_count (ap (λ k. take k sizes) variables-known ∙ sizes_taken rec sound sizes sixteen) (pattern_known ∙ sym (pattern_at rec number below))
 
-same_sized : (zs p q : List ℕ) (n m : ℕ) → p ≡ q → n ≡ m → Sized zs q m → Sized zs p n
-same_sized zs p q n m e f s = rw (e, f) s
+same-sized : (zs p q : List ℕ) (n m : ℕ) → p ≡ q → n ≡ m → Sized zs q m → Sized zs p n
+same-sized zs p q n m e f s = rw (e, f) s
 
-pub overflow_add_q_end : goal.overflow_add-q-end
-overflow_add_q_end c = let k = patterns_right c.args.rec.now c.requires.0 in omega (arith, c.requires.2)
+pub overflow_add-q-end : goal.overflow_add-q-end
+overflow_add-q-end c = let k = patterns_right c.args.rec.now c.requires.0 in omega (arith, c.requires.2)
 
-pub loop_q_init : goal.loop-q-init
+pub loop-q-init : goal.loop-q-init
 unfolding entries_needed
-loop_q_init c = (omega arith, refl, refl, omega arith)
+loop-q-init c = (omega arith, refl, refl, omega arith)
 
-pub state_count_requires : goal.state_count-requires
-state_count_requires c = let w = (goal.at.state_count-requires c).After-state_of-pattern in same_sized _ _ _ _ _ (pattern_known w) (variables_known w)
+pub state_count-requires : goal.state_count-requires
+state_count-requires c = let w = (goal.at.state_count-requires c).After-state_of-pattern in same-sized _ _ _ _ _ (pattern_known w) (variables-known w)
     (pattern_sized (rec w) (sound w) (sizes w) (sixteen w) (cells_at (rec w) (at_pattern (number w))) (rw (pattern_at (rec w) (number w) (below w)) at (few w)))
 
-pub overflow_add_end : goal.overflow_add-end
-overflow_add_end c = let w = (goal.at.overflow_add-end c).After-state_of-pattern in let e = c.state_count.ensures ∙ states_known w in let k = patterns_right (rec w) (sound w) in
+pub overflow_add-end : goal.overflow_add-end
+overflow_add-end c = let w = (goal.at.overflow_add-end c).After-state_of-pattern in let e = c.state_count.ensures ∙ states-known w in let k = patterns_right (rec w) (sound w) in
     omega (arith, few w, below w, c.loop-q.invariant.3)
 
-pub overflow_step_q : goal.overflow_step-q
-overflow_step_q c = let w = (goal.at.overflow_step-q c).After-state_of-pattern in let k = patterns_right (rec w) (sound w) in omega (arith, below w)
+pub overflow_step-q : goal.overflow_step-q
+overflow_step-q c = let w = (goal.at.overflow_step-q c).After-state_of-pattern in let k = patterns_right (rec w) (sound w) in omega (arith, below w)
 
-pub loop_q_smaller : goal.loop-q-smaller
-loop_q_smaller c = omega (arith, c.loop-q-test.true)
+pub loop-q-smaller : goal.loop-q-smaller
+loop-q-smaller c = omega (arith, c.loop-q-test.true)
 
-pub loop_q_preserved : goal.loop-q-preserved
-loop_q_preserved c = let w = (goal.at.loop-q-preserved c).After-state_of-pattern in let e = c.state_count.ensures ∙ states_known w in let l = c.loop-q in
+pub loop-q-preserved : goal.loop-q-preserved
+loop-q-preserved c = let w = (goal.at.loop-q-preserved c).After-state_of-pattern in let e = c.state_count.ensures ∙ states-known w in let l = c.loop-q in
     let t = c.loop-q-test.true in
     let n = needed_next (task_of (rec w)).sizes (patterns_of (rec w)) l.q (rw (patterns_length (rec w)) (below w)) in
     let k : l.q ≡ (l.q + 1) - 1 = omega arith in

@@ -4,8 +4,8 @@ use Rattle.task_record.specs.TaskOf.{task_of, patterns_of}
 use Rattle.patterns.specs.Space.{entries_needed}
 use Rattle.tables.proofs.spread.part_of.Given as goal
 
-abbrev pub invariant_loop_q : goal.invariant-loop-q
-invariant_loop_q l = (l.q ≤ l.p + 1) × (l.begin ≡ entries_needed (task_of l.rec).sizes (take (l.q - 1) (patterns_of l.rec))) × (l.end ≡ entries_needed (task_of l.rec).sizes (take l.q (patterns_of l.rec))) × (l.end ≤ 4096 * l.q)
+abbrev pub invariant-loop-q : goal.invariant-loop-q
+invariant-loop-q l = (l.q ≤ l.p + 1) × (l.begin ≡ entries_needed (task_of l.rec).sizes (take (l.q - 1) (patterns_of l.rec))) × (l.end ≡ entries_needed (task_of l.rec).sizes (take l.q (patterns_of l.rec))) × (l.end ≤ 4096 * l.q)
 
-abbrev pub decreases_loop_q : goal.decreases-loop-q
-decreases_loop_q l = l.p + 1 - l.q
+abbrev pub decreases-loop-q : goal.decreases-loop-q
+decreases-loop-q l = l.p + 1 - l.q

@@ -3,15 +3,15 @@ use Rattle.std.proofs.Common.{◌≡◌, ◌+◌, ◌*◌, ◌<◌, drop, sym, �
 use Rattle.tables.proofs.Sweeping.{weigh-zero, weigh_four, digits_left, digits-over}
 use Rattle.tables.proofs.sweep.index_of.Goals as goal
 
-pub loop_g_init : goal.loop-g-init
-loop_g_init c = let f : c.args.s < 18446744073709551616 = omega arith in (omega arith, omega arith, omega arith, f)
+pub loop-g-init : goal.loop-g-init
+loop-g-init c = let f : c.args.s < 18446744073709551616 = omega arith in (omega arith, omega arith, omega arith, f)
 
-pub returns_then_rest_eq0 : goal.returns-then-rest-eq0
-returns_then_rest_eq0 c = let l = c.loop-g in let e : l.rest ≡ 0 = omega arith in let z = weigh-zero (drop (4 * l.g) c.args.weights.now) in
+pub returns-then-rest-eq0 : goal.returns-then-rest-eq0
+returns-then-rest-eq0 c = let l = c.loop-g in let e : l.rest ≡ 0 = omega arith in let z = weigh-zero (drop (4 * l.g) c.args.weights.now) in
     let g = rw e at l.invariant.2 in sym (g ∙ omega arith)
 
-pub loop_g_preserved : goal.loop-g-preserved
-loop_g_preserved c = let l = c.loop-g in let e = c.four_digits-sum.ensures in let n : 4 * (l.g + 1) ≡ 4 * l.g + 4 = omega arith in
+pub loop-g-preserved : goal.loop-g-preserved
+loop-g-preserved c = let l = c.loop-g in let e = c.four_digits-sum.ensures in let n : 4 * (l.g + 1) ≡ 4 * l.g + 4 = omega arith in
     let s = weigh_four c.args.weights.now (4 * l.g) l.rest in
     (omega arith, omega arith, rw n (l.invariant.2 ∙ omega arith), digits_left l.g l.rest c.loop-g-test.true l.invariant.3)
 

@@ -2,5 +2,5 @@
 
 use Rattle.tables.proofs.sweep.joined.Goals as goal
 
-pub returns_then_wanted : goal.returns-then-wanted
-returns_then_wanted c = simp c.if-wanted.true
+pub returns-then-wanted : goal.returns-then-wanted
+returns-then-wanted c = simp c.if-wanted.true

@@ -3,13 +3,13 @@ use Rattle.std.proofs.Common.{◌+◌, arith, le-ltb, lt-ltb}
 use Rattle.tables.specs.Steps.{raised}
 use Rattle.tables.proofs.sweep.raise.Goals as goal
 
-pub returns_then_w_ge65535 : goal.returns-then-w-ge65535
+pub returns-then-w-ge65535 : goal.returns-then-w-ge65535
 unfolding raised
-returns_then_w_ge65535 c = simp (le-ltb (c.args.w + c.args.v) 65535 (omega arith))
+returns-then-w-ge65535 c = simp (le-ltb (c.args.w + c.args.v) 65535 (omega arith))
 
-pub returns_then_sum_ge65535 : goal.returns-then-sum-ge65535
+pub returns-then-sum-ge65535 : goal.returns-then-sum-ge65535
 unfolding raised
-returns_then_sum_ge65535 c = let a = c.args in simp (le-ltb (a.w + a.v) 65535 (omega arith))
+returns-then-sum-ge65535 c = let a = c.args in simp (le-ltb (a.w + a.v) 65535 (omega arith))
 
 pub returns : goal.returns
 unfolding raised

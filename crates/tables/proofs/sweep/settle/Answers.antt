@@ -4,17 +4,17 @@ use Rattle.tables.specs.Steps.{none}
 use Rattle.tables.proofs.Settled.{then, steps_length}
 use Rattle.tables.proofs.sweep.settle.Goals as goal
 
-pub loop_init : goal.loop-init
-loop_init c = (none, refl)
+pub loop-init : goal.loop-init
+loop-init c = (none, refl)
 
-pub sweep_requires : goal.sweep-requires
-sweep_requires c = let p = c.requires in (p.0, p.1, omega (arith, p.2, c.loop.invariant.1))
+pub sweep-requires : goal.sweep-requires
+sweep-requires c = let p = c.requires in (p.0, p.1, omega (arith, p.2, c.loop.invariant.1))
 
-pub loop_smaller : goal.loop-smaller
-loop_smaller c = c.sweep.ensures.less c.loop-test.true
+pub loop-smaller : goal.loop-smaller
+loop-smaller c = c.sweep.ensures.less c.loop-test.true
 
-pub loop_preserved : goal.loop-preserved
-loop_preserved c = let v = c.loop.invariant in (then v.0 c.sweep.ensures.steps, steps_length c.sweep.ensures.steps ∙ v.1)
+pub loop-preserved : goal.loop-preserved
+loop-preserved c = let v = c.loop.invariant in (then v.0 c.sweep.ensures.steps, steps_length c.sweep.ensures.steps ∙ v.1)
 
 pub returns : goal.returns
 returns c = let v = c.loop.invariant in let e = c.sweep.ensures in record { steps = then v.0 e.steps; stable = (e.still c.loop-test.false).1 }

@@ -3,8 +3,8 @@ use Rattle.std.proofs.Common.{◌≡◌, length}
 use Rattle.tables.specs.Steps.{space, Steps, total}
 use Rattle.tables.proofs.sweep.settle.Given as goal
 
-abbrev pub invariant_loop : goal.invariant-loop
-invariant_loop l = Steps (space l.task l.mask l.weights l.states l.actions) l.initial.entries l.entries × (length l.entries ≡ length l.initial.entries)
+abbrev pub invariant-loop : goal.invariant-loop
+invariant-loop l = Steps (space l.task l.mask l.weights l.states l.actions) l.initial.entries l.entries × (length l.entries ≡ length l.initial.entries)
 
-abbrev pub decreases_loop : goal.decreases-loop
-decreases_loop l = total l.entries
+abbrev pub decreases-loop : goal.decreases-loop
+decreases-loop l = total l.entries

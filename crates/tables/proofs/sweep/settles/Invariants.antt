@@ -3,8 +3,8 @@ use Rattle.std.proofs.Common.{◌≡◌, ◌-◌, length}
 use Rattle.tables.specs.Steps.{space, Steps}
 use Rattle.tables.proofs.sweep.settles.Given as goal
 
-abbrev pub invariant_loop_pass : goal.invariant-loop-pass
-invariant_loop_pass l = Steps (space l.task l.mask l.weights l.states l.actions) l.initial.entries l.entries × (length l.entries ≡ length l.initial.entries)
+abbrev pub invariant-loop-pass : goal.invariant-loop-pass
+invariant-loop-pass l = Steps (space l.task l.mask l.weights l.states l.actions) l.initial.entries l.entries × (length l.entries ≡ length l.initial.entries)
 
-abbrev pub decreases_loop_pass : goal.decreases-loop-pass
-decreases_loop_pass l = l.passes - l.pass
+abbrev pub decreases-loop-pass : goal.decreases-loop-pass
+decreases-loop-pass l = l.passes - l.pass

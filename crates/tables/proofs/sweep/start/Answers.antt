@@ -3,11 +3,11 @@ use Rattle.std.proofs.Common.{length, refl, arith, length-set}
 use Rattle.tables.proofs.Sweeping.{started-more, started-done}
 use Rattle.tables.proofs.sweep.start.Goals as goal
 
-pub loop_next_init : goal.loop-next-init
-loop_next_init c = (omega arith, refl, λ j l. absurd (omega arith))
+pub loop-next-init : goal.loop-next-init
+loop-next-init c = (omega arith, refl, λ j l. absurd (omega arith))
 
-pub loop_next_preserved : goal.loop-next-preserved
-loop_next_preserved c = let a = c.args in let l = c.loop-next in let t = c.loop-next-test.true in
+pub loop-next-preserved : goal.loop-next-preserved
+loop-next-preserved c = let a = c.args in let l = c.loop-next in let t = c.loop-next-test.true in
     (simp length-set (omega arith), simp length-set l.invariant.1, started-more a.task.now a.mask a.states.now l.entries l.next c.first_entry.result t c.first_entry.ensures l.invariant.2)
 
 pub returns : goal.returns

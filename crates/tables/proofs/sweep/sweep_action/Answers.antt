@@ -4,17 +4,17 @@ use Rattle.tables.proofs.Sweeping.{row_start, row_hit, row_miss, row_end}
 use Rattle.tables.proofs.sweep.sweep_action.Goals as goal
 use Rattle.tables.proofs.sweep.sweep_action.Goals.{then-try_action, else-try_action}
 
-pub loop_i_init : goal.loop-i-init
-loop_i_init c = row_start _ _ _
+pub loop-i-init : goal.loop-i-init
+loop-i-init c = row_start _ _ _
 
-pub bounds_states_i : goal.bounds-states-i
-bounds_states_i c = let p = c.requires in let l = c.loop-i.invariant.long in omega (arith, p.2, l, c.loop-i-test.true)
+pub bounds-states-i : goal.bounds-states-i
+bounds-states-i c = let p = c.requires in let l = c.loop-i.invariant.long in omega (arith, p.2, l, c.loop-i-test.true)
 
-pub try_action_requires : goal.try_action-requires
-try_action_requires c = let p = c.requires in (omega (arith, p.0.actions_few, p.1), p.0.outcomes_few _ p.1, c.loop-i-test.true)
+pub try_action-requires : goal.try_action-requires
+try_action-requires c = let p = c.requires in (omega (arith, p.0.actions_few, p.1), p.0.outcomes_few _ p.1, c.loop-i-test.true)
 
-pub loop_i_preserved : goal.loop-i-preserved
-loop_i_preserved c = let v = c.loop-i.invariant in let l = c.loop-i-test.true in let e = c.try_action.ensures in let p = c.requires in
+pub loop-i-preserved : goal.loop-i-preserved
+loop-i-preserved c = let v = c.loop-i.invariant in let l = c.loop-i-test.true in let e = c.try_action.ensures in let p = c.requires in
     elim c.if-try_action.branch [ then-try_action w ↦ rw w.changed-is (row_hit v l p.1 e.left (sym e.told ∙ w.if-try_action.true)) | else-try_action w ↦ rw w.changed-is (row_miss v l e.left (sym e.told ∙ w.if-try_action.false)) ]
 
 pub returns : goal.returns

@@ -3,13 +3,13 @@ use Rattle.std.proofs.Common.{sym, ◌∙◌, le-ltb, lt-ltb}
 use Rattle.tables.specs.Steps.{lowers, relaxed}
 use Rattle.tables.proofs.sweep.try_action.Goals as goal
 
-pub returns_then_not_permits : goal.returns-then-not-permits
+pub returns-then-not-permits : goal.returns-then-not-permits
 unfolding lowers relaxed
-returns_then_not_permits c = let q = sym c.permits.ensures ∙ c.if-not-permits.true in record { told = simp q; left = simp q }
+returns-then-not-permits c = let q = sym c.permits.ensures ∙ c.if-not-permits.true in record { told = simp q; left = simp q }
 
-pub returns_then_v_e : goal.returns-then-v-e
+pub returns-then-v-e : goal.returns-then-v-e
 unfolding lowers relaxed
-returns_then_v_e c = let q = sym c.permits.ensures ∙ c.if-not-permits.false in
+returns-then-v-e c = let q = sym c.permits.ensures ∙ c.if-not-permits.false in
     let o = c.offer_of-v.ensures.exact c.if-v-e.true in
     record { told = simp (q, ← o, lt-ltb _ _ c.if-v-e.true); left = simp (q, ← o, lt-ltb _ _ c.if-v-e.true) }
 

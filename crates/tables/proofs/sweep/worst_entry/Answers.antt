@@ -12,17 +12,17 @@ entered : (task : List ℕ) (mask : ℕ) (weights entries : List ℕ) (m s o e i
 unfolding outcome_entry
 entered task mask weights entries m s o e i t p q r = simp (← p, ← q) r
 
-pub loop_o_init : goal.loop-o-init
-loop_o_init c = (refl, omega arith, worst-start _ _)
+pub loop-o-init : goal.loop-o-init
+loop-o-init c = (refl, omega arith, worst-start _ _)
 
-pub returns_then_e_limit : goal.returns-then-e-limit
-returns_then_e_limit c = let a = c.args in let l = c.loop-o in let e = entered a.task.now a.mask a.weights.now a.entries.now a.m a.s l.o _ _ _ c.state_after.ensures c.index_of.ensures c.entry_at-e.ensures in
+pub returns-then-e-limit : goal.returns-then-e-limit
+returns-then-e-limit c = let a = c.args in let l = c.loop-o in let e = entered a.task.now a.mask a.weights.now a.entries.now a.m a.s l.o _ _ _ c.state_after.ensures c.index_of.ensures c.entry_at-e.ensures in
     let f = outcome_entry a.task.now a.mask a.weights.now a.entries.now a.m a.s in let n = outcome_count a.task.now a.m in
     let h = worst_reaches f l.o n l.most c.loop-o-test.true l.invariant.2 in
     below_not a.limit (worst f 0 n) c.entry_at-e.result c.if-e-limit.true (omega (arith, e, h, c.if-e-limit.true))
 
-pub loop_o_preserved : goal.loop-o-preserved
-loop_o_preserved c = let a = c.args in let l = c.loop-o in let e = entered a.task.now a.mask a.weights.now a.entries.now a.m a.s l.o _ _ _ c.state_after.ensures c.index_of.ensures c.entry_at-e.ensures in let t = c.loop-o-test.true in
+pub loop-o-preserved : goal.loop-o-preserved
+loop-o-preserved c = let a = c.args in let l = c.loop-o in let e = entered a.task.now a.mask a.weights.now a.entries.now a.m a.s l.o _ _ _ c.state_after.ensures c.index_of.ensures c.entry_at-e.ensures in let t = c.loop-o-test.true in
     let f = outcome_entry a.task.now a.mask a.weights.now a.entries.now a.m a.s in let n = outcome_count a.task.now a.m in
     elim c.if-most-e.branch [
       | then-most-e w ↦ (

@@ -5,12 +5,12 @@ use Rattle.task_record.proofs.Scanning.{gathered_next}
 use Rattle.tables.specs.Squeezed.{plain_cell}
 use Rattle.tables.proofs.words.all_plain.Goals as goal
 
-pub loop_i_init : goal.loop-i-init
+pub loop-i-init : goal.loop-i-init
 unfolding all_below
-loop_i_init c = (omega arith, refl)
+loop-i-init c = (omega arith, refl)
 
-pub loop_i_preserved : goal.loop-i-preserved
-loop_i_preserved c =
+pub loop-i-preserved : goal.loop-i-preserved
+loop-i-preserved c =
     let l = c.loop-i in
     let a = c.args in
     (omega arith, gathered_next (λ k. plain_cell (get_or a.cells.now k 0)) l.i l.bad c.strange-bad.result c.strange-bad.ensures l.invariant.1)

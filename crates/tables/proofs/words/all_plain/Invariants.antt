@@ -4,8 +4,8 @@ use Rattle.task_record.specs.Scan.{all_below}
 use Rattle.tables.specs.Squeezed.{plain_cell}
 use Rattle.tables.proofs.words.all_plain.Given as goal
 
-abbrev pub invariant_loop_i : goal.invariant-loop-i
-invariant_loop_i l = (l.i ≤ 16) × (eqb l.bad 0 ≡ all_below (λ k. plain_cell (get_or l.cells k 0)) l.i)
+abbrev pub invariant-loop-i : goal.invariant-loop-i
+invariant-loop-i l = (l.i ≤ 16) × (eqb l.bad 0 ≡ all_below (λ k. plain_cell (get_or l.cells k 0)) l.i)
 
-abbrev pub decreases_loop_i : goal.decreases-loop-i
-decreases_loop_i l = 16 - l.i
+abbrev pub decreases-loop-i : goal.decreases-loop-i
+decreases-loop-i l = 16 - l.i

@@ -3,17 +3,17 @@ use Rattle.std.proofs.Common.{◌/◌, refl, arith}
 use Rattle.tables.proofs.Squeezing.{pairs_small, pairs_squeezed, squeezed_small}
 use Rattle.tables.proofs.words.squeeze.Goals as goal
 
-pub overflow_mul_y : goal.overflow_mul-y
-overflow_mul_y c = let l = pairs_small (c.args.x / 256) in record { fits = omega (arith, l) }
+pub overflow_mul-y : goal.overflow_mul-y
+overflow_mul-y c = let l = pairs_small (c.args.x / 256) in record { fits = omega (arith, l) }
 
-pub overflow_add_y : goal.overflow_add-y
-overflow_add_y c = let l = pairs_small (c.args.x / 256) in let k = pairs_small c.args.x in record { fits = omega (arith, l, k) }
+pub overflow_add-y : goal.overflow_add-y
+overflow_add-y c = let l = pairs_small (c.args.x / 256) in let k = pairs_small c.args.x in record { fits = omega (arith, l, k) }
 
-pub overflow_mul_result_3 : goal.overflow_mul-result-3
-overflow_mul_result_3 c = let l = pairs_small (c.args.x / 256) in let k = pairs_small c.args.x in record { fits = omega (arith, l, k) }
+pub overflow_mul-result-3 : goal.overflow_mul-result-3
+overflow_mul-result-3 c = let l = pairs_small (c.args.x / 256) in let k = pairs_small c.args.x in record { fits = omega (arith, l, k) }
 
-pub overflow_add_result_3 : goal.overflow_add-result-3
-overflow_add_result_3 c = let l = pairs_small (c.args.x / 256) in let k = pairs_small c.args.x in record { fits = omega (arith, l, k) }
+pub overflow_add-result-3 : goal.overflow_add-result-3
+overflow_add-result-3 c = let l = pairs_small (c.args.x / 256) in let k = pairs_small c.args.x in record { fits = omega (arith, l, k) }
 
 pub returns : goal.returns
 returns c = let e = pairs_squeezed c.args.x _ refl in (e, omega (arith, e, squeezed_small c.args.x))

@@ -4,11 +4,11 @@ use Rattle.task_record.proofs.Sixteens.{filled_next}
 use Rattle.task_record.proofs.blocks.below.Goals as goal
 use Rattle.task_record.proofs.blocks.below.Goals.{then-v-from, else-v-from}
 
-pub loop_v_init : goal.loop-v-init
-loop_v_init c = (omega arith, search rules, λ k h. absurd (omega arith))
+pub loop-v-init : goal.loop-v-init
+loop-v-init c = (omega arith, search rules, λ k h. absurd (omega arith))
 
-pub loop_v_preserved : goal.loop-v-preserved
-loop_v_preserved c = let l = c.loop-v in let s = c.args in let i = l.invariant in (
+pub loop-v-preserved : goal.loop-v-preserved
+loop-v-preserved c = let l = c.loop-v in let s = c.args in let i = l.invariant in (
   omega arith,
   simp length-set i.1,
   filled_next (λ k. cond (ltb k s.n) s.used s.unused) l.r l.v _ (omega arith) (elim c.if-v-from.branch [

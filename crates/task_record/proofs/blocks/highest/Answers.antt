@@ -3,11 +3,11 @@ use Rattle.std.proofs.Common.{◌-◌, get_or, arith, length-set, rules}
 use Rattle.task_record.proofs.Sixteens.{filled_next}
 use Rattle.task_record.proofs.blocks.highest.Goals as goal
 
-pub loop_v_init : goal.loop-v-init
-loop_v_init c = (omega arith, search rules, search rules, λ k h. absurd (omega arith))
+pub loop-v-init : goal.loop-v-init
+loop-v-init c = (omega arith, search rules, search rules, λ k h. absurd (omega arith))
 
-pub loop_v_preserved : goal.loop-v-preserved
-loop_v_preserved c = let l = c.loop-v in let s = c.args in let i = l.invariant in (
+pub loop-v-preserved : goal.loop-v-preserved
+loop-v-preserved c = let l = c.loop-v in let s = c.args in let i = l.invariant in (
   omega arith,
   i.1,
   simp length-set i.2,

@@ -2,8 +2,8 @@
 use Rattle.std.proofs.Common.{◌≡◌, ℕ, ◌-◌, ◌<◌, ◌≤◌, length, get_or}
 use Rattle.task_record.proofs.blocks.highest.Given as goal
 
-abbrev pub invariant_loop_v : goal.invariant-loop-v
-invariant_loop_v l = (l.v ≤ 16) × (length l.sizes ≡ 16) × (length l.r ≡ 16) × ((k : ℕ) → k < l.v → get_or l.r k 0 ≡ get_or l.sizes k 0 - 1)
+abbrev pub invariant-loop-v : goal.invariant-loop-v
+invariant-loop-v l = (l.v ≤ 16) × (length l.sizes ≡ 16) × (length l.r ≡ 16) × ((k : ℕ) → k < l.v → get_or l.r k 0 ≡ get_or l.sizes k 0 - 1)
 
-abbrev pub decreases_loop_v : goal.decreases-loop-v
-decreases_loop_v l = 16 - l.v
+abbrev pub decreases-loop-v : goal.decreases-loop-v
+decreases-loop-v l = 16 - l.v

@@ -4,11 +4,11 @@ use Rattle.task_record.proofs.Sixteens.{filled_next}
 use Rattle.task_record.proofs.Cellwise.{state_cells_lem}
 use Rattle.task_record.proofs.cells.filled_up.Goals as goal
 
-pub loop_i_init : goal.loop-i-init
-loop_i_init c = (omega arith, search rules, λ k h. absurd (omega arith))
+pub loop-i-init : goal.loop-i-init
+loop-i-init c = (omega arith, search rules, λ k h. absurd (omega arith))
 
-pub loop_i_preserved : goal.loop-i-preserved
-loop_i_preserved c =
+pub loop-i-preserved : goal.loop-i-preserved
+loop-i-preserved c =
     let args = c.args in
     let loop = c.loop-i in
     let cell-or-255 = c.cell_or_255 in

@@ -3,8 +3,8 @@ use Rattle.std.proofs.Common.{◌∙◌}
 use Rattle.task_record.proofs.Cellwise.{state_cells_whole}
 use Rattle.task_record.proofs.cells.state_of.Goals as goal
 
-pub returns_then_c_eq16 : goal.returns-then-c-eq16
-returns_then_c_eq16 c =
+pub returns-then-c-eq16 : goal.returns-then-c-eq16
+returns-then-c-eq16 c =
     let args = c.args in
     let if1 = c.if-c-eq16 in
     let copied = c.copied in

@@ -6,24 +6,24 @@ use Rattle.task_record.specs.Record.{cell_ok}
 use Rattle.task_record.proofs.Scanning.{first_on, first_none_left}
 use Rattle.task_record.proofs.columns.actions_fit.Goals as goal
 
-pub loop_m_init : goal.loop-m-init
-loop_m_init c =
+pub loop-m-init : goal.loop-m-init
+loop-m-init c =
     let args = c.args in
     (omega arith, first_none_left (cell_ok args.record.now.rec.now) (at_action 0) (action_size * 0) (omega arith))
 
-pub used_fits_requires : goal.used_fits-requires
-used_fits_requires c =
+pub used_fits-requires : goal.used_fits-requires
+used_fits-requires c =
     let pre = c.requires in
     let action-count = c.action_count in
     let loop-test = c.loop-m-test in
     let t = loop-test.true in let n = action-count.ensures in
     (omega arith, omega arith)
 
-pub returns_then_not_used_fits : goal.returns-then-not-used_fits
-returns_then_not_used_fits c = λ t. let z : ◌≡◌ {A = ℕ} 0 1 = cc in absurd (omega arith)
+pub returns-then-not-used_fits : goal.returns-then-not-used_fits
+returns-then-not-used_fits c = λ t. let z : ◌≡◌ {A = ℕ} 0 1 = cc in absurd (omega arith)
 
-pub loop_m_preserved : goal.loop-m-preserved
-loop_m_preserved c =
+pub loop-m-preserved : goal.loop-m-preserved
+loop-m-preserved c =
     let args = c.args in
     let loop = c.loop-m in
     let loop-test = c.loop-m-test in
@@ -35,8 +35,8 @@ loop_m_preserved c =
     let g : at_action m + action_size ≡ at_action (m + 1) = omega arith in
     (omega arith, rw (e, f, g) at (first_on (cell_ok args.record.now.rec.now) (at_action 0) (action_size * m) action_size (loop.invariant.1 ∙ sym e) (rw e (used-fits.ensures (not-false _ if1.false-raw) ∙ sym g))))
 
-pub loop_m_2_init : goal.loop-m-2-init
-loop_m_2_init c =
+pub loop-m-2-init : goal.loop-m-2-init
+loop-m-2-init c =
     let pre = c.requires in
     let action-count = c.action_count in
     let loop = c.loop-m in
@@ -45,19 +45,19 @@ loop_m_2_init c =
     let e : loop.m ≡ c.from-used.result = omega arith in
     (omega arith, omega arith, rw e at loop.invariant.1)
 
-pub unused_fits_requires : goal.unused_fits-requires
-unused_fits_requires c =
+pub unused_fits-requires : goal.unused_fits-requires
+unused_fits-requires c =
     let pre = c.requires in
     let action-count = c.action_count in
     let loop2-test = c.loop-m-2-test in
     let t = loop2-test.true in let n = action-count.ensures in
     (omega arith, omega arith)
 
-pub returns_then_not_unused_fits : goal.returns-then-not-unused_fits
-returns_then_not_unused_fits c = λ t. let z : ◌≡◌ {A = ℕ} 0 1 = cc in absurd (omega arith)
+pub returns-then-not-unused_fits : goal.returns-then-not-unused_fits
+returns-then-not-unused_fits c = λ t. let z : ◌≡◌ {A = ℕ} 0 1 = cc in absurd (omega arith)
 
-pub loop_m_2_preserved : goal.loop-m-2-preserved
-loop_m_2_preserved c =
+pub loop-m-2-preserved : goal.loop-m-2-preserved
+loop-m-2-preserved c =
     let args = c.args in
     let loop2 = c.loop-m-2 in
     let loop2-test = c.loop-m-2-test in

@@ -7,13 +7,13 @@ use Rattle.task_record.specs.Window.{fits}
 use Rattle.task_record.proofs.ColumnLaws.{faults_next, front_passes, ramp_cell, ramp_window}
 use Rattle.task_record.proofs.columns.front_fits.Goals as goal
 
-pub loop_v_init : goal.loop-v-init
-loop_v_init c =
+pub loop-v-init : goal.loop-v-init
+loop-v-init c =
     let ramp = c.ramp-from in
     (omega arith, search rules, ramp.ensures, λ h k l. absurd (omega arith))
 
-pub loop_v_preserved : goal.loop-v-preserved
-loop_v_preserved c =
+pub loop-v-preserved : goal.loop-v-preserved
+loop-v-preserved c =
     let args = c.args in
     let ramp = c.ramp-from in
     let loop = c.loop-v in

@@ -4,24 +4,24 @@ use lib.Bits.{bit_or}
 use Rattle.task_record.proofs.ColumnLaws.{raised, or_zero_left, or_zero_right, or_ge_left, or_ge_right}
 use Rattle.task_record.proofs.columns.member_fault.Goals as goal
 
-pub loop_j_init : goal.loop-j-init
-loop_j_init c = (omega arith, λ k g l. absurd (omega arith))
+pub loop-j-init : goal.loop-j-init
+loop-j-init c = (omega arith, λ k g l. absurd (omega arith))
 
-pub loop_j_preserved : goal.loop-j-preserved
-loop_j_preserved c =
+pub loop-j-preserved : goal.loop-j-preserved
+loop-j-preserved c =
     let args = c.args in
     let loop = c.loop-j in
     let s = args in let x = get_or s.c.now (s.a + 16 * loop.j) 0 in
     (omega arith, raised (λ (k : ℕ). get_or s.c.now (s.a + 16 * k) 0) 0 loop.j loop.high (bit_or loop.high x) (or_ge_left loop.high x) (or_ge_right loop.high x) loop.invariant.1)
 
-pub loop_j_2_init : goal.loop-j-2-init
-loop_j_2_init c =
+pub loop-j-2-init : goal.loop-j-2-init
+loop-j-2-init c =
     let pre = c.requires in
     let p = pre in
     (omega arith, omega arith, λ k g l. absurd (omega arith))
 
-pub loop_j_2_preserved : goal.loop-j-2-preserved
-loop_j_2_preserved c =
+pub loop-j-2-preserved : goal.loop-j-2-preserved
+loop-j-2-preserved c =
     let args = c.args in
     let loop2 = c.loop-j-2 in
     let s = args in let x = get_or s.c.now (s.a + 16 * loop2.j) 0 in

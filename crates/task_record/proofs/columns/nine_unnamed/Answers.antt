@@ -3,11 +3,11 @@ use Rattle.std.proofs.Common.{ℕ, ◌+◌, ◌*◌, ◌<◌, ◌≤◌, get_or,
 use Rattle.task_record.proofs.ColumnLaws.{faults_next}
 use Rattle.task_record.proofs.columns.nine_unnamed.Goals as goal
 
-pub loop_v_init : goal.loop-v-init
-loop_v_init c = (omega arith, λ h k l. absurd (omega arith))
+pub loop-v-init : goal.loop-v-init
+loop-v-init c = (omega arith, λ h k l. absurd (omega arith))
 
-pub loop_v_preserved : goal.loop-v-preserved
-loop_v_preserved c =
+pub loop-v-preserved : goal.loop-v-preserved
+loop-v-preserved c =
     let args = c.args in
     let loop = c.loop-v in
     let unnamed-fault = c.unnamed_fault-bad in

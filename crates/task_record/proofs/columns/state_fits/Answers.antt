@@ -4,11 +4,11 @@ use Rattle.task_record.specs.Window.{fits}
 use Rattle.task_record.proofs.ColumnLaws.{faults_next}
 use Rattle.task_record.proofs.columns.state_fits.Goals as goal
 
-pub loop_v_init : goal.loop-v-init
-loop_v_init c = (omega arith, search rules, λ h k l. absurd (omega arith))
+pub loop-v-init : goal.loop-v-init
+loop-v-init c = (omega arith, search rules, λ h k l. absurd (omega arith))
 
-pub loop_v_preserved : goal.loop-v-preserved
-loop_v_preserved c =
+pub loop-v-preserved : goal.loop-v-preserved
+loop-v-preserved c =
     let args = c.args in
     let loop = c.loop-v in
     let value-fault = c.value_fault-bad in

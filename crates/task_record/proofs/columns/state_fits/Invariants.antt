@@ -3,8 +3,8 @@ use Rattle.std.proofs.Common.{◌≡◌, ℕ, ◌-◌, ◌<◌, ◌≤◌, true,
 use Rattle.task_record.specs.Window.{fits}
 use Rattle.task_record.proofs.columns.state_fits.Given as goal
 
-abbrev pub invariant_loop_v : goal.invariant-loop-v
-invariant_loop_v l = (l.v ≤ 16) × (length l.sizes ≡ 16) × (l.bad ≡ 0 → (k : ℕ) → k < l.v → fits (get_or l.c k 0) (1 - get_or l.sizes k 0) (get_or l.sizes k 0 - 1) ≡ true)
+abbrev pub invariant-loop-v : goal.invariant-loop-v
+invariant-loop-v l = (l.v ≤ 16) × (length l.sizes ≡ 16) × (l.bad ≡ 0 → (k : ℕ) → k < l.v → fits (get_or l.c k 0) (1 - get_or l.sizes k 0) (get_or l.sizes k 0 - 1) ≡ true)
 
-abbrev pub decreases_loop_v : goal.decreases-loop-v
-decreases_loop_v l = 16 - l.v
+abbrev pub decreases-loop-v : goal.decreases-loop-v
+decreases-loop-v l = 16 - l.v

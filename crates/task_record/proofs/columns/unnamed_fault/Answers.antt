@@ -4,11 +4,11 @@ use lib.Bits.{bit_and, and_le_l, and_le_r}
 use Rattle.task_record.proofs.ColumnLaws.{lowered}
 use Rattle.task_record.proofs.columns.unnamed_fault.Goals as goal
 
-pub loop_j_init : goal.loop-j-init
-loop_j_init c = (omega arith, λ k g l. absurd (omega arith))
+pub loop-j-init : goal.loop-j-init
+loop-j-init c = (omega arith, λ k g l. absurd (omega arith))
 
-pub loop_j_preserved : goal.loop-j-preserved
-loop_j_preserved c =
+pub loop-j-preserved : goal.loop-j-preserved
+loop-j-preserved c =
     let args = c.args in
     let loop = c.loop-j in
     let s = args in let x = get_or s.c.now (s.a + 16 * loop.j) 0 in

@@ -2,8 +2,8 @@
 use Rattle.std.proofs.Common.{ℕ, ◌+◌, ◌-◌, ◌*◌, ◌<◌, ◌≤◌, get_or}
 use Rattle.task_record.proofs.columns.unnamed_fault.Given as goal
 
-abbrev pub invariant_loop_j : goal.invariant-loop-j
-invariant_loop_j l = (l.j ≤ 9) × ((k : ℕ) → 0 ≤ k → k < l.j → l.low ≤ get_or l.c (l.a + 16 * k) 0)
+abbrev pub invariant-loop-j : goal.invariant-loop-j
+invariant-loop-j l = (l.j ≤ 9) × ((k : ℕ) → 0 ≤ k → k < l.j → l.low ≤ get_or l.c (l.a + 16 * k) 0)
 
-abbrev pub decreases_loop_j : goal.decreases-loop-j
-decreases_loop_j l = 9 - l.j
+abbrev pub decreases-loop-j : goal.decreases-loop-j
+decreases-loop-j l = 9 - l.j

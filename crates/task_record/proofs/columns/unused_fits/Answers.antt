@@ -3,8 +3,8 @@ use Rattle.std.proofs.Common.{◌≡◌, ℕ, arith}
 use Rattle.task_record.proofs.ColumnLaws.{action_passes, no_rows}
 use Rattle.task_record.proofs.columns.unused_fits.Goals as goal
 
-pub returns_then_record_a_ne0 : goal.returns-then-record-a-ne0
-returns_then_record_a_ne0 c = λ t. let z : ◌≡◌ {A = ℕ} 0 1 = cc in absurd (omega arith)
+pub returns-then-record-a-ne0 : goal.returns-then-record-a-ne0
+returns-then-record-a-ne0 c = λ t. let z : ◌≡◌ {A = ℕ} 0 1 = cc in absurd (omega arith)
 
 pub returns : goal.returns
 returns c =

@@ -3,8 +3,8 @@ use Rattle.std.proofs.Common.{rules}
 use Rattle.task_record.proofs.ColumnLaws.{action_told}
 use Rattle.task_record.proofs.columns.used_fits.Goals as goal
 
-pub rows_fit_requires : goal.rows_fit-requires
-rows_fit_requires c =
+pub rows_fit-requires : goal.rows_fit-requires
+rows_fit-requires c =
     let l = c.args.record.now.passed.long in search rules
 
 pub returns : goal.returns

@@ -15,25 +15,25 @@ told : (r : List ℕ) → (x : Result Unit Refusal) → x ≡ record_check r →
 unfolding record_by_lines
 told r x e = (e, ap record_numbers e ∙ told_alone _ (record_check r) ∙ after_record_lem (λ u. answered 0 0 0 0) r (λ u. Ok tt))
 
-pub returns_then_rec_lt_RECORD_SIZE : goal.returns-then-rec-lt-RECORD_SIZE
+pub returns-then-rec-lt-RECORD_SIZE : goal.returns-then-rec-lt-RECORD_SIZE
 unfolding record_check
-returns_then_rec_lt_RECORD_SIZE c = let both = let if1 = c.if-rec-lt-RECORD_SIZE in
+returns-then-rec-lt-RECORD_SIZE c = let both = let if1 = c.if-rec-lt-RECORD_SIZE in
     told _ _ (simp (lt-ltb _ _ if1.true)) in record { value = both.0; numbers = both.1 }
 
-pub returns_then_is_sound : goal.returns-then-is_sound
+pub returns-then-is_sound : goal.returns-then-is_sound
 unfolding Sound
-returns_then_is_sound c = let both = let is-sound = c.is_sound in
+returns-then-is_sound c = let both = let is-sound = c.is_sound in
     let if2 = c.if-is_sound in
     told _ _ (sym (is-sound.ensures if2.true)) in record { value = both.0; numbers = both.1 }
 
-pub returns_in_Ok : goal.returns-in-Ok
+pub returns-in-Ok : goal.returns-in-Ok
 unfolding record_check first_bad
-returns_in_Ok c = let both = let r = c.args.rec.now in
+returns-in-Ok c = let both = let r = c.args.rec.now in
     let l = scan_passed (cell_ok r) 0 record_size (sym c.scan_cells.ensures ∙ c.in-Ok.is) in
     told r (Ok tt) (rw (le-ltb (length r) record_size c.if-rec-lt-RECORD_SIZE.false, le-ltb (first_from (cell_ok r) 0 record_size) record_size l)) in record { value = both.0; numbers = both.1 }
 
-pub returns_in_Err : goal.returns-in-Err
+pub returns-in-Err : goal.returns-in-Err
 unfolding record_check first_bad
-returns_in_Err c = let both = let r = c.args.rec.now in
+returns-in-Err c = let both = let r = c.args.rec.now in
     let f = scan_found (cell_ok r) 0 record_size c.in-Err.offset (sym c.scan_cells.ensures ∙ c.in-Err.is) in
     told r (Err (WrongCell c.in-Err.offset)) (rw (le-ltb (length r) record_size c.if-rec-lt-RECORD_SIZE.false, f.0, lt-ltb c.in-Err.offset record_size f.1)) in record { value = both.0; numbers = both.1 }

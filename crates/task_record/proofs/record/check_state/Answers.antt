@@ -14,20 +14,20 @@ told : (r s : List ℕ) → (x : Result Unit Refusal) → x ≡ state_check r s 
 unfolding state_by_lines
 told r s x e = ap state_numbers e ∙ told_alone _ (state_check r s) ∙ after_check (λ u. answered 0 0 0 0) r s (λ u. Ok tt)
 
-of_record : (r s : List ℕ) → (x : Result Unit Refusal) → x ≡ record_check r → after x (λ u. judge_state r s) ≡ state_check r s
-of_record r s x e = ap (λ t. after t (λ u. judge_state r s)) e
+of-record : (r s : List ℕ) → (x : Result Unit Refusal) → x ≡ record_check r → after x (λ u. judge_state r s) ≡ state_check r s
+of-record r s x e = ap (λ t. after t (λ u. judge_state r s)) e
 
-pub returns_in_err_check_record_clause_numbers : goal.returns-in_err-check_record-clause-numbers
-returns_in_err_check_record_clause_numbers c =
+pub returns-in_err-check_record-clause-numbers : goal.returns-in_err-check_record-clause-numbers
+returns-in_err-check_record-clause-numbers c =
     let r = c.args.rec.now in let s = c.args.state.now in
     let q = err_from_is_err_and c.from_residual.result c.from_residual.ensures.1 in
-    told r s _ (q.1 ∙ ap Err q.2 ∙ rw c.in_err-check_record.was at (of_record r s _ c.check_record.ensures.value))
+    told r s _ (q.1 ∙ ap Err q.2 ∙ rw c.in_err-check_record.was at (of-record r s _ c.check_record.ensures.value))
 
-pub judge_state_requires : goal.judge_state-requires
+pub judge_state-requires : goal.judge_state-requires
 unfolding Sound
-judge_state_requires c = sym c.check_record.ensures.value ∙ c.in_ok-check_record.was
+judge_state-requires c = sym c.check_record.ensures.value ∙ c.in_ok-check_record.was
 
-pub returns_clause_numbers : goal.returns-clause-numbers
-returns_clause_numbers c =
+pub returns-clause-numbers : goal.returns-clause-numbers
+returns-clause-numbers c =
     let r = c.args.rec.now in let s = c.args.state.now in
-    told r s _ (c.judge_state.ensures ∙ rw c.in_ok-check_record.was at (of_record r s _ c.check_record.ensures.value))
+    told r s _ (c.judge_state.ensures ∙ rw c.in_ok-check_record.was at (of-record r s _ c.check_record.ensures.value))

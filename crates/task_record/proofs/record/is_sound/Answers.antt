@@ -8,8 +8,8 @@ use Rattle.task_record.proofs.Scanning.{scan_passed, first_le, no_fault}
 use Rattle.task_record.proofs.Soundness.{parts_sound}
 use Rattle.task_record.proofs.record.is_sound.Goals as goal
 
-pub front_fits_requires : goal.front_fits-requires
-front_fits_requires c =
+pub front_fits-requires : goal.front_fits-requires
+front_fits-requires c =
     let pre = c.requires in
     let args = c.args in
     let shared-slice-known = c.shared_slice_known-1 in
@@ -18,14 +18,14 @@ front_fits_requires c =
     let h = scan_passed (cell_ok r) 0 at_sizes (sym c.scan_head.ensures ∙ no_fault c.scan_head.result (sym c.is_err.ensures.value ∙ c.if-is_err.false)) in
     (pre, sizes-of.ensures, head_variables r (λ k. omega (arith, shared-slice-known.given k)) h)
 
-pub returns_then_not_front_fits : goal.returns-then-not-front_fits
-returns_then_not_front_fits c = λ t. let z : ◌≡◌ {A = ℕ} 0 1 = cc in absurd (omega arith)
+pub returns-then-not-front_fits : goal.returns-then-not-front_fits
+returns-then-not-front_fits c = λ t. let z : ◌≡◌ {A = ℕ} 0 1 = cc in absurd (omega arith)
 
-pub returns_then_not_patterns_fit : goal.returns-then-not-patterns_fit
-returns_then_not_patterns_fit c = λ t. let z : ◌≡◌ {A = ℕ} 0 1 = cc in absurd (omega arith)
+pub returns-then-not-patterns_fit : goal.returns-then-not-patterns_fit
+returns-then-not-patterns_fit c = λ t. let z : ◌≡◌ {A = ℕ} 0 1 = cc in absurd (omega arith)
 
-pub actions_fit_requires : goal.actions_fit-requires
-actions_fit_requires c =
+pub actions_fit-requires : goal.actions_fit-requires
+actions_fit-requires c =
     let pre = c.requires in
     let args = c.args in
     let shared-slice-known = c.shared_slice_known-1 in

@@ -7,35 +7,35 @@ use Rattle.task_record.proofs.Soundness.{sound_length, sound_sizes}
 use Rattle.task_record.proofs.ColumnLaws.{state_passes}
 use Rattle.task_record.proofs.record.judge_state.Goals as goal
 
-pub returns_then_state_ne16 : goal.returns-then-state-ne16
+pub returns-then-state-ne16 : goal.returns-then-state-ne16
 unfolding judge_state
-returns_then_state_ne16 c = simp (ne_eqb _ _ c.if-state-ne16.true)
+returns-then-state-ne16 c = simp (ne_eqb _ _ c.if-state-ne16.true)
 
-pub sizes_of_sizes_requires : goal.sizes_of-sizes-requires
-sizes_of_sizes_requires c = sound_length c.args.rec.now c.requires
+pub sizes_of-sizes-requires : goal.sizes_of-sizes-requires
+sizes_of-sizes-requires c = sound_length c.args.rec.now c.requires
 
-pub returns_then_state_fits : goal.returns-then-state_fits
+pub returns-then-state_fits : goal.returns-then-state_fits
 unfolding judge_state
-returns_then_state_fits c =
+returns-then-state_fits c =
     let r = c.args.rec.now in let s = c.args.state.now in let z = c.sizes_of-sizes.ensures in
     let e : first_bad_value r s ≡ 16 = state_passes r (λ k. omega (arith, c.shared_slice_known-1.given k)) (sound_sizes r c.requires) s (λ k. omega (arith, c.shared_slice_known-2-1.given k)) (λ v l. rw (z.cell v l) at (c.state_fits.ensures c.if-state_fits.true v l)) in
     rw (eq-eqb _ _ c.if-state-ne16.false, e)
 
-pub invariant_of_record : goal.invariant_of-record
-invariant_of_record c =
+pub invariant_of-record : goal.invariant_of-record
+invariant_of-record c =
     let r = c.args.rec.now in
     record { passed = record { long = sound_length r c.requires; byte = λ k. omega (arith, c.shared_slice_known-1.given k); right = sound_sizes r c.requires; read = c.sizes_of-sizes.ensures } }
 
-pub returns_in_Ok : goal.returns-in-Ok
+pub returns-in-Ok : goal.returns-in-Ok
 unfolding judge_state first_bad_value
-returns_in_Ok c =
+returns-in-Ok c =
     let r = c.args.rec.now in let s = c.args.state.now in
     let l = scan_passed (state_cell_ok r s 0) 0 16 (sym c.scan_state.ensures ∙ c.in-Ok.is) in
     rw (eq-eqb _ _ c.if-state-ne16.false, le-ltb _ _ l)
 
-pub returns_in_Err : goal.returns-in-Err
+pub returns-in-Err : goal.returns-in-Err
 unfolding judge_state first_bad_value
-returns_in_Err c =
+returns-in-Err c =
     let r = c.args.rec.now in let s = c.args.state.now in
     let f = scan_found (state_cell_ok r s 0) 0 16 c.in-Err.offset (sym c.scan_state.ensures ∙ c.in-Err.is) in
     rw (eq-eqb _ _ c.if-state-ne16.false, f.0, lt-ltb _ _ f.1)

@@ -8,31 +8,31 @@ use Rattle.task_record.proofs.Sixteens.{same_cells}
 use Rattle.task_record.proofs.Parts.{few_used, action_stops, action_scans_on, used_scan, unused_scan}
 use Rattle.task_record.proofs.record.scan_action.Goals as goal
 
-pub scan_requires : goal.scan-requires
-scan_requires c =
+pub scan-requires : goal.scan-requires
+scan-requires c =
     let l = c.args.record.now.passed.long in
     let f = few_used c.args.record.now.rec.now c.args.record.now.passed.byte c.args.m c.in-Some.used (sym c.used_blocks.ensures ∙ c.in-Some.is) in
     (omega arith, omega arith, omega arith)
 
-pub overflow_mul_used : goal.overflow_mul-used
-overflow_mul_used c =
+pub overflow_mul-used : goal.overflow_mul-used
+overflow_mul-used c =
     let f = few_used c.args.record.now.rec.now c.args.record.now.passed.byte c.args.m c.in-Some.used (sym c.used_blocks.ensures ∙ c.in-Some.is) in search rules
 
-pub overflow_add_a_in_Some_3 : goal.overflow_add-a-in-Some-3
-overflow_add_a_in_Some_3 c =
+pub overflow_add-a-in-Some-3 : goal.overflow_add-a-in-Some-3
+overflow_add-a-in-Some-3 c =
     let f = few_used c.args.record.now.rec.now c.args.record.now.passed.byte c.args.m c.in-Some.used (sym c.used_blocks.ensures ∙ c.in-Some.is) in search rules
 
-pub overflow_sub_used : goal.overflow_sub-used
-overflow_sub_used c = few_used c.args.record.now.rec.now c.args.record.now.passed.byte c.args.m c.in-Some.used (sym c.used_blocks.ensures ∙ c.in-Some.is)
+pub overflow_sub-used : goal.overflow_sub-used
+overflow_sub-used c = few_used c.args.record.now.rec.now c.args.record.now.passed.byte c.args.m c.in-Some.used (sym c.used_blocks.ensures ∙ c.in-Some.is)
 
-pub scan_requires_in_Some : goal.scan-requires-in-Some
-scan_requires_in_Some c =
+pub scan-requires-in-Some : goal.scan-requires-in-Some
+scan-requires-in-Some c =
     let l = c.args.record.now.passed.long in
     let f = few_used c.args.record.now.rec.now c.args.record.now.passed.byte c.args.m c.in-Some.used (sym c.used_blocks.ensures ∙ c.in-Some.is) in
     (omega arith, omega arith, omega arith)
 
-pub returns_in_err_scan_in_Some : goal.returns-in_err-scan-in-Some
-returns_in_err_scan_in_Some c =
+pub returns-in_err-scan-in-Some : goal.returns-in_err-scan-in-Some
+returns-in_err-scan-in-Some c =
     let r = c.args.record.now.rec.now in let m = c.args.m in let u = c.in-Some.used in let p = c.args.record.now.passed in
     let is = sym c.used_blocks.ensures ∙ c.in-Some.is in
     let f = few_used r c.args.record.now.passed.byte m u is in
@@ -42,8 +42,8 @@ returns_in_err_scan_in_Some c =
     q.1 ∙ ap Err q.2 ∙ sym (action_scans_on r c.args.record.now.passed.byte m u is
     ∙ scan_ends (cell_ok r) (at_action m + 1) (16 * u) (16 * (9 - u)) 144 _ (omega arith) (sym first ∙ sym c.scan.ensures ∙ c.in_err-scan-in-Some.was))
 
-pub returns_in_ok_scan_in_Some : goal.returns-in_ok-scan-in-Some
-returns_in_ok_scan_in_Some c =
+pub returns-in_ok-scan-in-Some : goal.returns-in_ok-scan-in-Some
+returns-in_ok-scan-in-Some c =
     let r = c.args.record.now.rec.now in let m = c.args.m in let u = c.in-Some.used in let p = c.args.record.now.passed in
     let is = sym c.used_blocks.ensures ∙ c.in-Some.is in
     let f = few_used r c.args.record.now.passed.byte m u is in
@@ -54,5 +54,5 @@ returns_in_ok_scan_in_Some c =
     ∙ sym (action_scans_on r c.args.record.now.passed.byte m u is
     ∙ scan_on (cell_ok r) (at_action m + 1) (16 * u) (16 * (9 - u)) 144 (omega arith) (sym first ∙ sym c.scan.ensures ∙ c.in_ok-scan-in-Some.was))
 
-pub returns_in_None : goal.returns-in-None
-returns_in_None c = sym (action_stops c.args.record.now.rec.now c.args.record.now.passed.byte c.args.m (sym c.used_blocks.ensures ∙ c.in-None.is))
+pub returns-in-None : goal.returns-in-None
+returns-in-None c = sym (action_stops c.args.record.now.rec.now c.args.record.now.passed.byte c.args.m (sym c.used_blocks.ensures ∙ c.in-None.is))

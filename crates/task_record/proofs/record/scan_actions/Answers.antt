@@ -6,18 +6,18 @@ use Rattle.task_record.specs.Record.{cell_ok}
 use Rattle.task_record.proofs.Scanning.{scan_on, scan_ends, scan_none_left}
 use Rattle.task_record.proofs.record.scan_actions.Goals as goal
 
-pub loop_m_init : goal.loop-m-init
-loop_m_init c = (omega arith, refl)
+pub loop-m-init : goal.loop-m-init
+loop-m-init c = (omega arith, refl)
 
-pub returns_in_err_scan_action : goal.returns-in_err-scan_action
-returns_in_err_scan_action c =
+pub returns-in_err-scan_action : goal.returns-in_err-scan_action
+returns-in_err-scan_action c =
     let r = c.args.record.now.rec.now in let m = c.loop-m.m in let t = c.loop-m-test.true in
     let q = err_from_is_err_and c.from_residual.result c.from_residual.ensures.1 in
     q.1 ∙ ap Err q.2 ∙ sym (c.loop-m.invariant.1
     ∙ scan_ends (cell_ok r) (at_action m) action_size (action_size * (64 - (m + 1))) (action_size * (64 - m)) _ (omega arith) (sym c.scan_action.ensures ∙ c.in_err-scan_action.was))
 
-pub loop_m_preserved : goal.loop-m-preserved
-loop_m_preserved c =
+pub loop-m-preserved : goal.loop-m-preserved
+loop-m-preserved c =
     let r = c.args.record.now.rec.now in let m = c.loop-m.m in let t = c.loop-m-test.true in
     let g : at_action m + action_size ≡ at_action (m + 1) = omega arith in (
       omega arith,

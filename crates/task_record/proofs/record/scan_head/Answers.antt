@@ -5,24 +5,24 @@ use Rattle.task_record.specs.Scan.{scan}
 use Rattle.task_record.specs.Record.{cell_ok, head_ok}
 use Rattle.task_record.proofs.record.scan_head.Goals as goal
 
-pub returns_then_n_lt1 : goal.returns-then-n-lt1
+pub returns-then-n-lt1 : goal.returns-then-n-lt1
 unfolding scan cell_ok head_ok
-returns_then_n_lt1 c =
+returns-then-n-lt1 c =
     let variable-count = c.variable_count-n in
     let if1 = c.if-n-lt1 in
     simp (← variable-count.ensures, lt-leb _ _ if1.true)
 
-pub returns_then_n_gt16 : goal.returns-then-n-gt16
+pub returns-then-n-gt16 : goal.returns-then-n-gt16
 unfolding scan cell_ok head_ok
-returns_then_n_gt16 c =
+returns-then-n-gt16 c =
     let variable-count = c.variable_count-n in
     let if1 = c.if-n-lt1 in
     let if2 = c.if-n-gt16 in
     simp (← variable-count.ensures, le-leb _ _ if1.false, lt-leb _ _ if2.true)
 
-pub returns_then_action_count_gt64 : goal.returns-then-action_count-gt64
+pub returns-then-action_count-gt64 : goal.returns-then-action_count-gt64
 unfolding scan cell_ok head_ok
-returns_then_action_count_gt64 c =
+returns-then-action_count-gt64 c =
     let variable-count = c.variable_count-n in
     let if1 = c.if-n-lt1 in
     let if2 = c.if-n-gt16 in
@@ -30,9 +30,9 @@ returns_then_action_count_gt64 c =
     let if3 = c.if-action_count-gt64 in
     simp (← variable-count.ensures, ← action-count.ensures, le-leb _ _ if1.false, le-leb _ _ if2.false, lt-leb _ _ if3.true)
 
-pub returns_then_pattern_count_gt8 : goal.returns-then-pattern_count-gt8
+pub returns-then-pattern_count-gt8 : goal.returns-then-pattern_count-gt8
 unfolding scan cell_ok head_ok
-returns_then_pattern_count_gt8 c =
+returns-then-pattern_count-gt8 c =
     let variable-count = c.variable_count-n in
     let if1 = c.if-n-lt1 in
     let if2 = c.if-n-gt16 in
@@ -42,9 +42,9 @@ returns_then_pattern_count_gt8 c =
     let if4 = c.if-pattern_count-gt8 in
     simp (← variable-count.ensures, ← action-count.ensures, ← pattern-count.ensures, le-leb _ _ if1.false, le-leb _ _ if2.false, le-leb _ _ if3.false, lt-leb _ _ if4.true)
 
-pub returns_then_limit_gt32 : goal.returns-then-limit-gt32
+pub returns-then-limit-gt32 : goal.returns-then-limit-gt32
 unfolding scan cell_ok head_ok
-returns_then_limit_gt32 c =
+returns-then-limit-gt32 c =
     let variable-count = c.variable_count-n in
     let if1 = c.if-n-lt1 in
     let if2 = c.if-n-gt16 in
@@ -56,9 +56,9 @@ returns_then_limit_gt32 c =
     let if5 = c.if-limit-gt32 in
     simp (← variable-count.ensures, ← action-count.ensures, ← pattern-count.ensures, ← limit.ensures, le-leb _ _ if1.false, le-leb _ _ if2.false, le-leb _ _ if3.false, le-leb _ _ if4.false, lt-leb _ _ if5.true)
 
-pub returns_then_budget_gt1000000 : goal.returns-then-budget-gt1000000
+pub returns-then-budget-gt1000000 : goal.returns-then-budget-gt1000000
 unfolding scan cell_ok head_ok
-returns_then_budget_gt1000000 c =
+returns-then-budget-gt1000000 c =
     let variable-count = c.variable_count-n in
     let if1 = c.if-n-lt1 in
     let if2 = c.if-n-gt16 in

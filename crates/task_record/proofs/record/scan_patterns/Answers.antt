@@ -9,8 +9,8 @@ use Rattle.task_record.proofs.Sixteens.{same_cells}
 use Rattle.task_record.proofs.Parts.{patterns_scan, unused_patterns_scan}
 use Rattle.task_record.proofs.record.scan_patterns.Goals as goal
 
-pub returns_in_err_scan : goal.returns-in_err-scan
-returns_in_err_scan c =
+pub returns-in_err-scan : goal.returns-in_err-scan
+returns-in_err-scan c =
     let r = c.args.rec.now in let w = c.from-used.result in let few = c.requires.1 in
     let e : w ≡ pattern_count r = omega (arith, c.from-used.ensures, c.pattern_count.ensures) in
     let q = err_from_is_err_and c.from_residual.result c.from_residual.ensures.1 in

@@ -4,18 +4,18 @@ use borrow.Author.Tests.{lt-leb}
 use Rattle.task_record.specs.Window.{used_blocks}
 use Rattle.task_record.proofs.record.used_blocks.Goals as goal
 
-pub returns_then_count_lt1 : goal.returns-then-count-lt1
+pub returns-then-count-lt1 : goal.returns-then-count-lt1
 unfolding used_blocks
-returns_then_count_lt1 c =
+returns-then-count-lt1 c =
     let cell = c.cell in
     let action-count = c.action_count in let h = c.from-count.ensures in let g = c.from.ensures in
     let if1 = c.if-m-from in
     let if2 = c.if-count-lt1 in
     simp (← cell.ensures, ← action-count.ensures, lt-ltb c.args.m c.action_count.result (omega arith), lt-leb 1 c.cell.result (omega arith))
 
-pub returns_then_count_gt8 : goal.returns-then-count-gt8
+pub returns-then-count-gt8 : goal.returns-then-count-gt8
 unfolding used_blocks
-returns_then_count_gt8 c =
+returns-then-count-gt8 c =
     let cell = c.cell in
     let action-count = c.action_count in let h = c.from-count.ensures in let g = c.from.ensures in
     let if1 = c.if-m-from in
@@ -23,9 +23,9 @@ returns_then_count_gt8 c =
     let if3 = c.if-count-gt8 in
     simp (← cell.ensures, ← action-count.ensures, lt-ltb c.args.m c.action_count.result (omega arith), le-leb 1 c.cell.result (omega arith), lt-leb c.cell.result 8 (omega arith))
 
-pub returns_then_m_from : goal.returns-then-m-from
+pub returns-then-m-from : goal.returns-then-m-from
 unfolding used_blocks
-returns_then_m_from c =
+returns-then-m-from c =
     let cell = c.cell in
     let action-count = c.action_count in let h = c.from-count.ensures in let g = c.from.ensures in
     let if1 = c.if-m-from in
@@ -33,9 +33,9 @@ returns_then_m_from c =
     let if3 = c.if-count-gt8 in
     simp (c.from-count.ensures, ← cell.ensures, ← action-count.ensures, lt-ltb c.args.m c.action_count.result (omega arith), le-leb 1 c.cell.result (omega arith), le-leb c.cell.result 8 (omega arith))
 
-pub returns_then_count_ne0 : goal.returns-then-count-ne0
+pub returns-then-count-ne0 : goal.returns-then-count-ne0
 unfolding used_blocks
-returns_then_count_ne0 c =
+returns-then-count-ne0 c =
     let cell = c.cell in
     let action-count = c.action_count in let h = c.from-count.ensures in let g = c.from.ensures in
     let if1 = c.if-m-from in

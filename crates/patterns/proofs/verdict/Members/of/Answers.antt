@@ -12,8 +12,8 @@ use Rattle.patterns.proofs.Sizes.{pattern_whole}
 use Rattle.patterns.proofs.verdict.Members.of.Invariants.{member}
 use Rattle.patterns.proofs.verdict.Members.of.Goals as goal
 
-pub loop_p_init : goal.loop-p-init
-loop_p_init c = let r = c.args.rec.now in
+pub loop-p-init : goal.loop-p-init
+loop-p-init c = let r = c.args.rec.now in
     rw c.pattern_count-p.ensures (omega arith, refl, λ k l. zeros 16 k ∙ sym (set_empty (member r k) (pattern_count r)))
 
 one_or_none : (b : Bool) → bool_byte b ≡ cond b 1 0
@@ -24,22 +24,22 @@ one_or_none false = refl
 small : (r : List ℕ) (v p x : ℕ) → pattern_count r ≤ 8 → x ≡ set_from (member r v) (p + 1) (pattern_count r - (p + 1)) → x ≤ 127
 small r v p x n e = let s = set_small (member r v) (p + 1) (pattern_count r - (p + 1)) (omega arith) in omega arith
 
-pub overflow_mul_set : goal.overflow_mul-set
-overflow_mul_set c = let r = c.args.rec.now in let l = c.loop-v in let i = l.invariant in
+pub overflow_mul-set : goal.overflow_mul-set
+overflow_mul-set c = let r = c.args.rec.now in let l = c.loop-v in let i = l.invariant in
     let t : l.v < 16 = omega (arith, c.loop-v-test.true) in
     let s = small r l.v (c.loop-p.p - 1) _ (patterns_right r c.requires) (i.3 l.v (omega arith) t) in omega arith
 
-pub bounds_cells_v : goal.bounds-cells-v
-bounds_cells_v c = let i = c.loop-v.invariant in
+pub bounds-cells-v : goal.bounds-cells-v
+bounds-cells-v c = let i = c.loop-v.invariant in
     rw (c.pattern_cells-cells.ensures, pattern_whole c.args.rec.now c.requires (c.loop-p.p - 1) i.1) (omega (arith, c.loop-v-test.true))
 
-pub overflow_add_set : goal.overflow_add-set
-overflow_add_set c = let r = c.args.rec.now in let l = c.loop-v in let i = l.invariant in
+pub overflow_add-set : goal.overflow_add-set
+overflow_add-set c = let r = c.args.rec.now in let l = c.loop-v in let i = l.invariant in
     let t : l.v < 16 = omega (arith, c.loop-v-test.true) in
     let s = small r l.v (c.loop-p.p - 1) _ (patterns_right r c.requires) (i.3 l.v (omega arith) t) in let f : c.from.result < 2 = rw (c.from.ensures, one_or_none) (digit_small _) in omega arith
 
-pub loop_v_preserved : goal.loop-v-preserved
-loop_v_preserved c = let r = c.args.rec.now in let l = c.loop-v in let i = l.invariant in let p = c.loop-p.p - 1 in let v = l.v in
+pub loop-v-preserved : goal.loop-v-preserved
+loop-v-preserved c = let r = c.args.rec.now in let l = c.loop-v in let i = l.invariant in let p = c.loop-p.p - 1 in let v = l.v in
     let t : v < 16 = omega (arith, c.loop-v-test.true) in
     let x = get_or l.set-items v 0 * 2 + c.from.result in
     let d : c.from.result ≡ cond (member r v p) 1 0 = c.from.ensures ∙ one_or_none _ ∙ ap (λ (s : List ℕ). cond (eqb (get_or s v 0) 1) 1 0) c.pattern_cells-cells.ensures in
@@ -50,9 +50,9 @@ loop_v_preserved c = let r = c.args.rec.now in let l = c.loop-v in let i = l.inv
       λ k g h. get_or-set_other l.set-items v k x 0 (λ q. omega arith) ∙ i.3 k (omega arith) h,
     )
 
-pub invariant_of_result : goal.invariant_of-result
+pub invariant_of-result : goal.invariant_of-result
 unfolding member_set
-invariant_of_result c =
+invariant_of-result c =
     let i = c.loop-p.invariant in
     let z : c.loop-p.p ≡ 0 = omega (arith, c.loop-p-test.false) in
     (c.requires, record { whole = i.1; cell = λ k l. rw (z, sub-zero) at (i.2 k l) })

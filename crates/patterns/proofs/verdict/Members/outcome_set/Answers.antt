@@ -16,17 +16,17 @@ use Rattle.patterns.proofs.Named.{affects_step, affects_end}
 use Rattle.patterns.proofs.Sizes.{pattern_whole}
 use Rattle.patterns.proofs.verdict.Members.outcome_set.Goals as goal
 
-pub loop_v_init : goal.loop-v-init
-loop_v_init c = let r = c.args.self.now in let i = rw c.self.view_is at c.self.invariant in
+pub loop-v-init : goal.loop-v-init
+loop-v-init c = let r = c.args.self.now in let i = rw c.self.view_is at c.self.invariant in
     (i.1, gather_start (pattern_count r) (λ j. affects (cells_at r (at_pattern j)) (cells_at r (at_outcome c.args.m c.args.k))))
 
-pub bounds_cells_v : goal.bounds-cells-v
-bounds_cells_v c = let r = c.args.self.now in let i = rw c.self.view_is at c.self.invariant in let w = (outcome_assigns r i.0 c.args.m c.args.k c.requires.0 c.requires.1).whole in
+pub bounds-cells-v : goal.bounds-cells-v
+bounds-cells-v c = let r = c.args.self.now in let i = rw c.self.view_is at c.self.invariant in let w = (outcome_assigns r i.0 c.args.m c.args.k c.requires.0 c.requires.1).whole in
     rw (c.outcome_cells-cells.ensures, c.self.view_is, w) (let t = c.loop-v-test.true in omega (arith, c.loop-v.invariant.0.whole))
 
-pub loop_v_preserved : goal.loop-v-preserved
+pub loop-v-preserved : goal.loop-v-preserved
 unfolding member_set
-loop_v_preserved c = let r = c.args.self.now in let l = c.loop-v in let i = rw c.self.view_is at c.self.invariant in
+loop-v-preserved c = let r = c.args.self.now in let l = c.loop-v in let i = rw c.self.view_is at c.self.invariant in
     let t : l.v < 16 = omega (arith, l.invariant.0.whole, c.loop-v-test.true) in let w = (outcome_assigns r i.0 c.args.m c.args.k c.requires.0 c.requires.1).whole in
     let f : ℕ → Bool = (λ j. eqb (get_or (cells_at r (at_pattern j)) l.v 0) 1) in
     let e = c.named-affected.ensures ∙ ap₂ (λ x y. cond (eqb (get_or x l.v 0) 255) 0 y) (rw c.self.view_is at c.outcome_cells-cells.ensures) (l.invariant.0.cell l.v t) ∙ set-named f (get_or (cells_at r (at_outcome c.args.m c.args.k)) l.v 0) (pattern_count r) in (

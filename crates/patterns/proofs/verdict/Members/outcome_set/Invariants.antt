@@ -9,6 +9,6 @@ use Rattle.patterns.specs.Sets.{member_set}
 use Rattle.patterns.proofs.Gathering.{Gathering}
 use Rattle.patterns.proofs.verdict.Members.outcome_set.Given as goal
 
-abbrev pub invariant_loop_v : goal.invariant-loop-v
-invariant_loop_v l = Sixteen (member_set l.self) l.set-items
+abbrev pub invariant-loop-v : goal.invariant-loop-v
+invariant-loop-v l = Sixteen (member_set l.self) l.set-items
     × Gathering (pattern_count l.self) (λ j. affects (cells_at l.self (at_pattern j)) (cells_at l.self (at_outcome l.m l.k))) (λ j. affects (drop l.v (cells_at l.self (at_pattern j))) (drop l.v (cells_at l.self (at_outcome l.m l.k)))) l.affected

@@ -11,18 +11,18 @@ use Rattle.task_record.proofs.SoundTask.{actions_right, outcomes_right, outcome_
 use Rattle.patterns.proofs.Touched.{seen_start, seen_next, seen_covers}
 use Rattle.patterns.proofs.verdict.Members.touched_set.Goals as goal
 
-pub loop_v_init : goal.loop-v-init
-loop_v_init c = let i = rw c.self.view_is at c.self.invariant in (i.1, seen_start c.args.self.now c.args.m)
+pub loop-v-init : goal.loop-v-init
+loop-v-init c = let i = rw c.self.view_is at c.self.invariant in (i.1, seen_start c.args.self.now c.args.m)
 
-pub common_cell_requires : goal.common_cell-requires
-common_cell_requires c =
+pub common_cell-requires : goal.common_cell-requires
+common_cell-requires c =
     let i = rw c.self.view_is at c.self.invariant in
     let r = c.args.self.now in let n = sound_length r i.0 in let a = actions_right r i.0 in let w = c.from.ensures in let l = c.requires in
     let t : c.loop-v.v < 16 = omega (arith, c.loop-v.invariant.0.whole, c.loop-v-test.true) in
     rw c.self.view_is (omega arith, omega arith)
 
-pub loop_v_preserved : goal.loop-v-preserved
-loop_v_preserved c =
+pub loop-v-preserved : goal.loop-v-preserved
+loop-v-preserved c =
     let i = rw c.self.view_is at c.self.invariant in
     let loop = c.loop-v in
     let common-cell = c.common_cell in

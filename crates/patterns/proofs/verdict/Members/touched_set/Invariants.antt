@@ -4,5 +4,5 @@ use Rattle.patterns.specs.Sets.{member_set}
 use Rattle.patterns.proofs.Touched.{Seen}
 use Rattle.patterns.proofs.verdict.Members.touched_set.Given as goal
 
-abbrev pub invariant_loop_v : goal.invariant-loop-v
-invariant_loop_v l = Sixteen (member_set l.self) l.set-items × Seen l.self l.m l.v l.touched
+abbrev pub invariant-loop-v : goal.invariant-loop-v
+invariant-loop-v l = Sixteen (member_set l.self) l.set-items × Seen l.self l.m l.v l.touched

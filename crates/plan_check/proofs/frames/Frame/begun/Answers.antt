@@ -5,8 +5,8 @@ use Rattle.task_record.proofs.Soundness.{sound_length}
 use Rattle.plan_check.specs.Stack.{begun_frame}
 use Rattle.plan_check.proofs.frames.Frame.begun.Goals as goal
 
-pub bounds_task_inside_action : goal.bounds-task-inside-action
-bounds_task_inside_action c =
+pub bounds-task-inside-action : goal.bounds-task-inside-action
+bounds-task-inside-action c =
     let sound = c.task.invariant.0 in
     let few = actions_right _ sound in
     let long = sound_length _ sound in

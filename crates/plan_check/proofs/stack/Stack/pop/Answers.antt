@@ -3,17 +3,17 @@ use Rattle.plan_check.specs.Stack.{topmost_first, frame_at}
 use Rattle.plan_check.proofs.Waiting.{topmost_goes}
 use Rattle.plan_check.proofs.stack.Stack.pop.Goals as goal
 
-pub returns_then_self_eq0_clause_topmost : goal.returns-then-self-eq0-clause-topmost
+pub returns-then-self-eq0-clause-topmost : goal.returns-then-self-eq0-clause-topmost
 unfolding topmost_first
-returns_then_self_eq0_clause_topmost c = rw (← c.self.view_is, c.if-self-eq0.true)
+returns-then-self-eq0-clause-topmost c = rw (← c.self.view_is, c.if-self-eq0.true)
 
-pub returns_then_self_eq0_clause_rest : goal.returns-then-self-eq0-clause-rest
+pub returns-then-self-eq0-clause-rest : goal.returns-then-self-eq0-clause-rest
 unfolding topmost_first
-returns_then_self_eq0_clause_rest c = rw (← c.self.view_is, c.if-self-eq0.true)
+returns-then-self-eq0-clause-rest c = rw (← c.self.view_is, c.if-self-eq0.true)
 
-pub returns_clause_topmost : goal.returns-clause-topmost
+pub returns-clause-topmost : goal.returns-clause-topmost
 unfolding frame_at
-returns_clause_topmost c = rw (← c.self.view_is, topmost_goes c.self.inside.frames c.self.inside.used c.if-self-eq0.false)
+returns-clause-topmost c = rw (← c.self.view_is, topmost_goes c.self.inside.frames c.self.inside.used c.if-self-eq0.false)
 
-pub returns_clause_rest : goal.returns-clause-rest
-returns_clause_rest c = rw (← c.self.view_is, topmost_goes c.self.inside.frames c.self.inside.used c.if-self-eq0.false)
+pub returns-clause-rest : goal.returns-clause-rest
+returns-clause-rest c = rw (← c.self.view_is, topmost_goes c.self.inside.frames c.self.inside.used c.if-self-eq0.false)

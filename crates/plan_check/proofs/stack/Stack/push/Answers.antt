@@ -3,14 +3,14 @@ use Rattle.std.proofs.Common.{◌≡◌, ◌∷◌, length, ap, ◌∙◌, arith
 use Rattle.plan_check.proofs.Waiting.{length-topmost_first, top_stored}
 use Rattle.plan_check.proofs.stack.Stack.push.Goals as goal
 
-pub bounds_self_inside_self_inside : goal.bounds-self-inside-self-inside
-bounds_self_inside_self_inside c =
+pub bounds-self-inside-self-inside : goal.bounds-self-inside-self-inside
+bounds-self-inside-self-inside c =
     let n = length-topmost_first c.self.inside.frames c.self.inside.used in
     let same = ap length c.self.view_is in
     omega (arith, c.requires)
 
-pub invariant_of_self : goal.invariant_of-self
-invariant_of_self c =
+pub invariant_of-self : goal.invariant_of-self
+invariant_of-self c =
     let n = length-topmost_first c.self.inside.frames c.self.inside.used in
     let same = ap length c.self.view_is in
     omega (arith, c.requires)

@@ -5,8 +5,8 @@ use Rattle.task_record.proofs.Soundness.{sound_length}
 use Rattle.plan_check.proofs.Tower.{tower_enabled, tower_actions}
 use Rattle.plan_check.proofs.task.Task.action_met.Goals as goal
 
-pub cells_at_requires : goal.cells_at-requires
-cells_at_requires c =
+pub cells_at-requires : goal.cells_at-requires
+cells_at-requires c =
     let sound = c.self.invariant.0 in
     let few = actions_right _ sound in
     let long = sound_length _ sound in

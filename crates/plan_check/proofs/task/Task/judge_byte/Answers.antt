@@ -7,17 +7,17 @@ use Rattle.plan_check.proofs.Tower.{tower_actions, tower_goal}
 use Rattle.plan_check.proofs.task.Task.judge_byte.Goals.{then-not-action_met-via-then-not-action_met, then-not-action_met-via-else-not-action_met+then-met}
 use Rattle.plan_check.proofs.task.Task.judge_byte.Goals as goal
 
-pub returns_then_depth_ge_MOST_MOVES : goal.returns-then-depth-ge-MOST_MOVES
+pub returns-then-depth-ge-MOST_MOVES : goal.returns-then-depth-ge-MOST_MOVES
 unfolding byte_judged
-returns_then_depth_ge_MOST_MOVES c =
+returns-then-depth-ge-MOST_MOVES c =
     rw (← c.self.view_is, tower_actions, ← c.self.invariant.1) (simp (lt-ltb _ _ c.if-b-self.true, le-leb _ _ c.if-depth-ge-MOST_MOVES.true))
 
-pub action_met_requires : goal.action_met-requires
-action_met_requires c = rw (← c.self.view_is, ← c.self.invariant.1) c.if-b-self.true
+pub action_met-requires : goal.action_met-requires
+action_met-requires c = rw (← c.self.view_is, ← c.self.invariant.1) c.if-b-self.true
 
-pub returns_then_not_action_met : goal.returns-then-not-action_met
+pub returns-then-not-action_met : goal.returns-then-not-action_met
 unfolding byte_judged applies
-returns_then_not_action_met c =
+returns-then-not-action_met c =
     let t = c.self.invariant in
     let l = lt-ltb _ _ c.if-b-self.true in
     let k = lt-leb _ _ c.if-depth-ge-MOST_MOVES.false in
@@ -31,22 +31,22 @@ returns_then_not_action_met c =
           rw (← c.self.view_is, tower_actions, ← t.1, l, k, p, g)
     ]
 
-pub returns_then_b_self : goal.returns-then-b-self
+pub returns-then-b-self : goal.returns-then-b-self
 unfolding byte_judged applies
-returns_then_b_self c =
+returns-then-b-self c =
     let t = c.self.invariant in
     let p = rw (← c.self.view_is) at (sym c.action_met.ensures ∙ c.if-not-action_met.false) in
     let g = sym (tower_goal _ t.0 _) ∙ (rw t.2 at (sym c.met.ensures ∙ c.if-met.false)) in
     rw (← c.self.view_is, tower_actions, ← t.1, lt-ltb _ _ c.if-b-self.true, lt-leb _ _ c.if-depth-ge-MOST_MOVES.false, p, g)
 
-pub returns_then_b_ne_ARRIVED : goal.returns-then-b-ne-ARRIVED
+pub returns-then-b-ne-ARRIVED : goal.returns-then-b-ne-ARRIVED
 unfolding byte_judged
-returns_then_b_ne_ARRIVED c =
+returns-then-b-ne-ARRIVED c =
     rw (← c.self.view_is, tower_actions, ← c.self.invariant.1) (simp (le-ltb _ _ c.if-b-self.false, ne_eqb _ _ c.if-b-ne-ARRIVED.true))
 
-pub returns_then_not_met : goal.returns-then-not-met
+pub returns-then-not-met : goal.returns-then-not-met
 unfolding byte_judged
-returns_then_not_met c =
+returns-then-not-met c =
     let t = c.self.invariant in
     let g = sym (tower_goal _ t.0 _) ∙ (rw t.2 at (sym c.met-2.ensures ∙ c.if-not-met.true)) in
     rw (← c.self.view_is, tower_actions, ← t.1, le-ltb _ _ c.if-b-self.false, eq-eqb _ _ c.if-b-ne-ARRIVED.false, g)

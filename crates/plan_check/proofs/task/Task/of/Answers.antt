@@ -3,5 +3,5 @@ use Rattle.std.proofs.Common.{arith}
 use Rattle.task_record.proofs.Soundness.{sound_length}
 use Rattle.plan_check.proofs.task.Task.of.Goals as goal
 
-pub cells_at_requires : goal.cells_at-requires
-cells_at_requires c = let long = sound_length _ c.requires in omega arith
+pub cells_at-requires : goal.cells_at-requires
+cells_at-requires c = let long = sound_length _ c.requires in omega arith

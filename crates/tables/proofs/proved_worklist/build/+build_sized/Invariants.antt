@@ -2,5 +2,5 @@
 use Rattle.std.proofs.Common.{◌-◌}
 use Rattle.tables.proofs.proved_worklist.build.+build_sized.Given as goal
 
-abbrev pub decreases_build_sized : goal.decreases-build_sized
-decreases_build_sized l = 2 - l.size
+abbrev pub decreases-build_sized : goal.decreases-build_sized
+decreases-build_sized l = 2 - l.size

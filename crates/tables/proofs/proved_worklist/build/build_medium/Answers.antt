@@ -4,8 +4,8 @@ use Rattle.tables.proofs.Starting.{queue_empty}
 use Rattle.tables.proofs.Rounds.{sets_room}
 use Rattle.tables.proofs.proved_worklist.build.build_medium.Goals as goal
 
-pub build_within_requires : goal.build_within-requires
-build_within_requires c = let p = c.requires in (
+pub build_within-requires : goal.build_within-requires
+build_within-requires c = let p = c.requires in (
   p.0,
   p.1,
   p.2,

@@ -4,7 +4,7 @@ use Rattle.tables.specs.Packed.{digit_by}
 use Rattle.tables.proofs.Standing.{walkable_as}
 use Rattle.tables.proofs.proved_worklist.build.build_table.Goals as goal
 
-pub build_sized_requires : goal.build_sized-requires
+pub build_sized-requires : goal.build_sized-requires
 unfolding digit_by
-build_sized_requires c = let p = c.requires in let e = c.edge_count-edges.ensures in let m = c.pack-mask.ensures in
+build_sized-requires c = let p = c.requires in let e = c.edge_count-edges.ensures in let m = c.pack-mask.ensures in
     (p.0, walkable_as m p.1, p.2, m, c.lively-live.ensures, p.3, omega (arith, e.0), e.1)

@@ -6,8 +6,8 @@ use Rattle.tables.proofs.Standing.{regular_as, weights_short, parted_whole}
 use Rattle.tables.proofs.Starting.{queue_empty}
 use Rattle.tables.proofs.proved_worklist.build.build_tiny.Goals as goal
 
-pub settle_requires : goal.settle-requires
-settle_requires c = let p = c.requires in let w = c.weights_of-weights.ensures in let f = c.fill_states.ensures in let g = regular_as (sym p.5) (p.1.regular _ _ w f) in (
+pub settle-requires : goal.settle-requires
+settle-requires c = let p = c.requires in let w = c.weights_of-weights.ensures in let f = c.fill_states.ensures in let g = regular_as (sym p.5) (p.1.regular _ _ w f) in (
   p.0,
   p.4,
   g,

@@ -5,11 +5,11 @@ use Rattle.tables.proofs.Building.{parts_settled}
 use Rattle.tables.proofs.Standing.{regular_as, weights_short, parted_as}
 use Rattle.tables.proofs.proved_worklist.build.build_within.Goals as goal
 
-pub fill_states_requires : goal.fill_states-requires
-fill_states_requires c = let p = c.requires in (p.2, omega (arith, p.5, p.6), p.7)
+pub fill_states-requires : goal.fill_states-requires
+fill_states-requires c = let p = c.requires in (p.2, omega (arith, p.5, p.6), p.7)
 
-pub settle_requires : goal.settle-requires
-settle_requires c = let p = c.requires in let w = c.weights_of-weights.ensures in let f = c.fill_states.ensures in let s = c.parts_of-parts.ensures in (
+pub settle-requires : goal.settle-requires
+settle-requires c = let p = c.requires in let w = c.weights_of-weights.ensures in let f = c.fill_states.ensures in let s = c.parts_of-parts.ensures in (
   p.0,
   p.4,
   regular_as (sym p.5) (p.1.regular _ _ w f),

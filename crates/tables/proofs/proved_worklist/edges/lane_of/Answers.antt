@@ -5,20 +5,20 @@ use Rattle.tables.specs.Made.{one, none}
 use Rattle.tables.proofs.Digits.{place_small, place_word, digit-least}
 use Rattle.tables.proofs.proved_worklist.edges.lane_of.Goals as goal
 
-pub overflow_cast_u : goal.overflow_cast-u
-overflow_cast_u c = record { fits = omega (arith, trailing_le 64 c.args.free) }
+pub overflow_cast-u : goal.overflow_cast-u
+overflow_cast-u c = record { fits = omega (arith, trailing_le 64 c.args.free) }
 
-pub nonzero_div_free : goal.nonzero_div-free
-nonzero_div_free c = let u = count_trailing_zeros 64 c.args.free / 4 % 16 in let l : u < 16 = omega arith in rw (place_word u l) (omega (arith, (place_small u l).1))
+pub nonzero_div-free : goal.nonzero_div-free
+nonzero_div-free c = let u = count_trailing_zeros 64 c.args.free / 4 % 16 in let l : u < 16 = omega arith in rw (place_word u l) (omega (arith, (place_small u l).1))
 
-pub returns_then_free_place_ne15 : goal.returns-then-free-place-ne15
-returns_then_free_place_ne15 c = (none refl refl, omega arith)
+pub returns-then-free-place-ne15 : goal.returns-then-free-place-ne15
+returns-then-free-place-ne15 c = (none refl refl, omega arith)
 
-pub overflow_mul_result : goal.overflow_mul-result
-overflow_mul_result c = let u = count_trailing_zeros 64 c.args.free / 4 % 16 in let l : u < 16 = omega arith in record { fits = rw (place_word u l) (omega (arith, (place_small u l).0)) }
+pub overflow_mul-result : goal.overflow_mul-result
+overflow_mul-result c = let u = count_trailing_zeros 64 c.args.free / 4 % 16 in let l : u < 16 = omega arith in record { fits = rw (place_word u l) (omega (arith, (place_small u l).0)) }
 
-pub overflow_sub_result : goal.overflow_sub-result
-overflow_sub_result c = let u = count_trailing_zeros 64 c.args.free / 4 % 16 in let l : u < 16 = omega arith in rw (place_word u l) (digit-least u c.args.free (rw (place_word u l) at c.if-free-place-ne15.false))
+pub overflow_sub-result : goal.overflow_sub-result
+overflow_sub-result c = let u = count_trailing_zeros 64 c.args.free / 4 % 16 in let l : u < 16 = omega arith in rw (place_word u l) (digit-least u c.args.free (rw (place_word u l) at c.if-free-place-ne15.false))
 
 pub returns : goal.returns
 returns c = let a = c.args in let u = count_trailing_zeros 64 a.free / 4 % 16 in let l : u < 16 = omega arith in let w = c.wide.ensures in let z = c.count_of.ensures in (

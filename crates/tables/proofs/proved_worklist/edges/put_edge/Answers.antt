@@ -5,23 +5,23 @@ use Rattle.tables.specs.Made.{twin}
 use Rattle.tables.proofs.Making.{untouched_none, edge_put}
 use Rattle.tables.proofs.proved_worklist.edges.put_edge.Goals as goal
 
-pub returns_then_is_twin : goal.returns-then-is_twin
-returns_then_is_twin c = let t = c.is_twin.ensures c.if-is_twin.true in (untouched_none, twin t.0 t.1 (record { keeps = t.2; sets = t.3 }) refl)
+pub returns-then-is_twin : goal.returns-then-is_twin
+returns-then-is_twin c = let t = c.is_twin.ensures c.if-is_twin.true in (untouched_none, twin t.0 t.1 (record { keeps = t.2; sets = t.3 }) refl)
 
-pub overflow_sub_names : goal.overflow_sub-names
-overflow_sub_names c = let a = c.args in omega (arith, and_le_r (get_or a.task.now (20 * a.m + 4 + 2 * a.o) 0) a.mask)
+pub overflow_sub-names : goal.overflow_sub-names
+overflow_sub-names c = let a = c.args in omega (arith, and_le_r (get_or a.task.now (20 * a.m + 4 + 2 * a.o) 0) a.mask)
 
-pub overflow_sub_names_2 : goal.overflow_sub-names-2
-overflow_sub_names_2 c = let a = c.args in omega (arith, and_le_r (get_or a.task.now (20 * a.m) 0) (a.mask - bit_and (get_or a.task.now (20 * a.m + 4 + 2 * a.o) 0) a.mask))
+pub overflow_sub-names-2 : goal.overflow_sub-names-2
+overflow_sub-names-2 c = let a = c.args in omega (arith, and_le_r (get_or a.task.now (20 * a.m) 0) (a.mask - bit_and (get_or a.task.now (20 * a.m + 4 + 2 * a.o) 0) a.mask))
 
-pub bounds_tests_e_2 : goal.bounds-tests-e-2
-bounds_tests_e_2 c = let p = c.requires in simp length-set (omega (arith, p.3))
+pub bounds-tests-e-2 : goal.bounds-tests-e-2
+bounds-tests-e-2 c = let p = c.requires in simp length-set (omega (arith, p.3))
 
-pub bounds_edges_e_2 : goal.bounds-edges-e-2
-bounds_edges_e_2 c = let p = c.requires in simp length-set (omega (arith, p.4))
+pub bounds-edges-e-2 : goal.bounds-edges-e-2
+bounds-edges-e-2 c = let p = c.requires in simp length-set (omega (arith, p.4))
 
-pub bounds_edges_e_3 : goal.bounds-edges-e-3
-bounds_edges_e_3 c = let p = c.requires in simp length-set (omega (arith, p.4))
+pub bounds-edges-e-3 : goal.bounds-edges-e-3
+bounds-edges-e-3 c = let p = c.requires in simp length-set (omega (arith, p.4))
 
 pub returns : goal.returns
 returns c = let a = c.args in let w = c.way_back-back in let l = c.lane_of-one in let k = c.lane_of-two in let g = c.index_of in let f = c.index_of-2 in let u = c.cut-weight in

@@ -3,8 +3,8 @@ use Rattle.std.proofs.Common.{◌≡◌, ◌+◌, ◌-◌, ◌*◌, ◌≤◌}
 use Rattle.tables.specs.Made.{Spanned}
 use Rattle.tables.proofs.proved_worklist.edges.put_span.Given as goal
 
-abbrev pub invariant_loop_e : goal.invariant-loop-e
-invariant_loop_e l = (l.word ≡ l.first + 1024 * l.end) × (l.first ≤ l.e) × (l.e ≤ l.end) × Spanned l.initial.edges l.edges l.first l.e l.word
+abbrev pub invariant-loop-e : goal.invariant-loop-e
+invariant-loop-e l = (l.word ≡ l.first + 1024 * l.end) × (l.first ≤ l.e) × (l.e ≤ l.end) × Spanned l.initial.edges l.edges l.first l.e l.word
 
-abbrev pub decreases_loop_e : goal.decreases-loop-e
-decreases_loop_e l = l.end - l.e
+abbrev pub decreases-loop-e : goal.decreases-loop-e
+decreases-loop-e l = l.end - l.e

@@ -5,8 +5,8 @@ use Rattle.tables.proofs.Gathering.{Gathered}
 use Rattle.tables.proofs.SetsFilled.{Slotting}
 use Rattle.tables.proofs.proved_worklist.incoming.enter_edges.Given as goal
 
-abbrev pub invariant_loop_q : goal.invariant-loop-q
-invariant_loop_q l = (l.q ≤ l.count) × Slotting (edge_need l.tests l.first) 16 l.slots l.bit l.q × Gathered (λ j. true) l.q l.all l.bit
+abbrev pub invariant-loop-q : goal.invariant-loop-q
+invariant-loop-q l = (l.q ≤ l.count) × Slotting (edge_need l.tests l.first) 16 l.slots l.bit l.q × Gathered (λ j. true) l.q l.all l.bit
 
-abbrev pub decreases_loop_q : goal.decreases-loop-q
-decreases_loop_q l = l.count - l.q
+abbrev pub decreases-loop-q : goal.decreases-loop-q
+decreases-loop-q l = l.count - l.q

@@ -3,8 +3,8 @@ use Rattle.std.proofs.Common.{◌-◌}
 use Rattle.tables.proofs.Rowing.{PartTo}
 use Rattle.tables.proofs.proved_worklist.incoming.fill_part.Given as goal
 
-abbrev pub invariant_loop_h : goal.invariant-loop-h
-invariant_loop_h l = PartTo l.states l.slots l.initial.sets l.sets l.all l.part l.step l.n l.base l.h l.at
+abbrev pub invariant-loop-h : goal.invariant-loop-h
+invariant-loop-h l = PartTo l.states l.slots l.initial.sets l.sets l.all l.part l.step l.n l.base l.h l.at
 
-abbrev pub decreases_loop_h : goal.decreases-loop-h
-decreases_loop_h l = l.n - l.h
+abbrev pub decreases-loop-h : goal.decreases-loop-h
+decreases-loop-h l = l.n - l.h

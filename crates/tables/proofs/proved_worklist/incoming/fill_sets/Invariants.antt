@@ -3,8 +3,8 @@ use Rattle.std.proofs.Common.{◌-◌}
 use Rattle.tables.proofs.Rowing.{RowsTo}
 use Rattle.tables.proofs.proved_worklist.incoming.fill_sets.Given as goal
 
-abbrev pub invariant_loop_c : goal.invariant-loop-c
-invariant_loop_c l = RowsTo l.states l.tests l.initial.sets l.sets l.k l.low l.high l.lower l.upper l.c l.base
+abbrev pub invariant-loop-c : goal.invariant-loop-c
+invariant-loop-c l = RowsTo l.states l.tests l.initial.sets l.sets l.k l.low l.high l.lower l.upper l.c l.base
 
-abbrev pub decreases_loop_c : goal.decreases-loop-c
-decreases_loop_c l = 8 - l.c
+abbrev pub decreases-loop-c : goal.decreases-loop-c
+decreases-loop-c l = 8 - l.c

@@ -4,14 +4,14 @@ use Rattle.tables.proofs.Rowing.{meeting_starts, meeting_goes_on, digit_out, dig
 use Rattle.tables.proofs.proved_worklist.incoming.meet_digits.Goals as goal
 use Rattle.tables.proofs.proved_worklist.incoming.meet_digits.Goals.{then-rest-ne0, else-rest-ne0}
 
-pub loop_v_init : goal.loop-v-init
-loop_v_init c = meeting_starts
+pub loop-v-init : goal.loop-v-init
+loop-v-init c = meeting_starts
 
-pub returns_then_rest_eq0 : goal.returns-then-rest-eq0
-returns_then_rest_eq0 c = meeting_early c.loop-v.invariant c.if-rest-eq0.true
+pub returns-then-rest-eq0 : goal.returns-then-rest-eq0
+returns-then-rest-eq0 c = meeting_early c.loop-v.invariant c.if-rest-eq0.true
 
-pub loop_v_preserved : goal.loop-v-preserved
-loop_v_preserved c = let l = c.loop-v in meeting_goes_on l.invariant c.if-rest-ne0.set c.loop-v-test.true (elim c.if-rest-ne0.branch [ then-rest-ne0 w ↦ w.set-is ∙ digit_in l.invariant w.if-rest-ne0.true | else-rest-ne0 w ↦ w.set-is ∙ digit_out l.invariant w.if-rest-ne0.false ])
+pub loop-v-preserved : goal.loop-v-preserved
+loop-v-preserved c = let l = c.loop-v in meeting_goes_on l.invariant c.if-rest-ne0.set c.loop-v-test.true (elim c.if-rest-ne0.branch [ then-rest-ne0 w ↦ w.set-is ∙ digit_in l.invariant w.if-rest-ne0.true | else-rest-ne0 w ↦ w.set-is ∙ digit_out l.invariant w.if-rest-ne0.false ])
 
 pub returns : goal.returns
 returns c = meeting_ends c.loop-v.invariant c.loop-v-test.false

@@ -3,8 +3,8 @@ use Rattle.std.proofs.Common.{◌-◌}
 use Rattle.tables.proofs.Rowing.{Meeting}
 use Rattle.tables.proofs.proved_worklist.incoming.meet_digits.Given as goal
 
-abbrev pub invariant_loop_v : goal.invariant-loop-v
-invariant_loop_v l = Meeting l.slots l.part l.word l.all l.set l.rest l.w l.v
+abbrev pub invariant-loop-v : goal.invariant-loop-v
+invariant-loop-v l = Meeting l.slots l.part l.word l.all l.set l.rest l.w l.v
 
-abbrev pub decreases_loop_v : goal.decreases-loop-v
-decreases_loop_v l = 16 - l.v
+abbrev pub decreases-loop-v : goal.decreases-loop-v
+decreases-loop-v l = 16 - l.v

@@ -6,11 +6,11 @@ use Rattle.tables.proofs.Gathering.{gathered_none, gathered_next, gathered_all}
 use Rattle.tables.proofs.Rowing.{row_tested}
 use Rattle.tables.proofs.proved_worklist.incoming.tested.Goals as goal
 
-pub loop_q_init : goal.loop-q-init
-loop_q_init c = (omega arith, gathered_none _)
+pub loop-q-init : goal.loop-q-init
+loop-q-init c = (omega arith, gathered_none _)
 
-pub loop_q_preserved : goal.loop-q-preserved
-loop_q_preserved c = let l = c.loop-q in let f : ℕ → Bool = λ j. eqb (bit_and c.args.word (edge_mask c.args.tests.now (64 * c.args.c + j))) (edge_value c.args.tests.now (64 * c.args.c + j)) in
+pub loop-q-preserved : goal.loop-q-preserved
+loop-q-preserved c = let l = c.loop-q in let f : ℕ → Bool = λ j. eqb (bit_and c.args.word (edge_mask c.args.tests.now (64 * c.args.c + j))) (edge_value c.args.tests.now (64 * c.args.c + j)) in
     (omega (arith, c.loop-q-test.true), gathered_next f l.q l.set l.bit c.joined-set.result (omega (arith, c.at_most_64-count.ensures, c.loop-q-test.true)) c.joined-set.ensures l.invariant.1)
 
 pub returns : goal.returns

@@ -3,8 +3,8 @@ use Rattle.std.proofs.Common.{◌-◌, ◌≤◌}
 use Rattle.tables.proofs.Spacing.{Weighed}
 use Rattle.tables.proofs.proved_worklist.parts.lower_variables.Given as goal
 
-abbrev pub invariant_loop_v : goal.invariant-loop-v
-invariant_loop_v l = Weighed l.sizes l.pattern l.n l.w l.v × (l.w ≤ 64)
+abbrev pub invariant-loop-v : goal.invariant-loop-v
+invariant-loop-v l = Weighed l.sizes l.pattern l.n l.w l.v × (l.w ≤ 64)
 
-abbrev pub decreases_loop_v : goal.decreases-loop-v
-decreases_loop_v l = l.n - l.v
+abbrev pub decreases-loop-v : goal.decreases-loop-v
+decreases-loop-v l = l.n - l.v

@@ -3,8 +3,8 @@ use Rattle.std.proofs.Common.{arith}
 use Rattle.tables.proofs.Ring.{first_known, taken}
 use Rattle.tables.proofs.proved_worklist.queue.take.Goals as goal
 
-pub bounds_marks_j : goal.bounds-marks-j
-bounds_marks_j c = let p = c.requires in omega (arith, first_known p.0 p.1 _ c.wide-j.ensures.0, p.0.room)
+pub bounds-marks-j : goal.bounds-marks-j
+bounds-marks-j c = let p = c.requires in omega (arith, first_known p.0 p.1 _ c.wide-j.ensures.0, p.0.room)
 
 pub returns : goal.returns
 returns c = let p = c.requires in taken p.0 p.1 _ c.wide-j.ensures.0

@@ -4,31 +4,31 @@ use Rattle.tables.specs.Steps.{permitted_at}
 use Rattle.tables.proofs.Asking.{asked_never, asked_miss, asked_hit}
 use Rattle.tables.proofs.proved_worklist.visits.ask.Goals as goal
 
-pub overflow_mul_m : goal.overflow_mul-m
-overflow_mul_m c = let p = c.requires in omega (arith, p.1.few, p.2)
+pub overflow_mul-m : goal.overflow_mul-m
+overflow_mul-m c = let p = c.requires in omega (arith, p.1.few, p.2)
 
-pub offset_bounds_edges_e : goal.offset_bounds-edges-e
-offset_bounds_edges_e c = let p = c.requires in omega (arith, p.1.few, p.2)
+pub offset_bounds-edges-e : goal.offset_bounds-edges-e
+offset_bounds-edges-e c = let p = c.requires in omega (arith, p.1.few, p.2)
 
-pub bounds_edges_e : goal.bounds-edges-e
-bounds_edges_e c = let p = c.requires in omega (arith, p.1.edges_room, p.2)
+pub bounds-edges-e : goal.bounds-edges-e
+bounds-edges-e c = let p = c.requires in omega (arith, p.1.edges_room, p.2)
 
-pub permits_requires : goal.permits-requires
-permits_requires c = let p = c.requires in omega (arith, p.1.known _ p.2, p.0.actions_few)
+pub permits-requires : goal.permits-requires
+permits-requires c = let p = c.requires in omega (arith, p.1.known _ p.2, p.0.actions_few)
 
-pub returns_then_not_permits : goal.returns-then-not-permits
+pub returns-then-not-permits : goal.returns-then-not-permits
 unfolding permitted_at
-returns_then_not_permits c = let p = c.requires in asked_never p.3 p.6 (sym c.permits.ensures ∙ c.if-not-permits.true)
+returns-then-not-permits c = let p = c.requires in asked_never p.3 p.6 (sym c.permits.ensures ∙ c.if-not-permits.true)
 
-pub offer_along_v_requires : goal.offer_along-v-requires
+pub offer_along-v-requires : goal.offer_along-v-requires
 unfolding permitted_at
-offer_along_v_requires c = let p = c.requires in (p.1, p.2, p.3, p.4, p.6.room, p.6.states_few, p.5, sym c.permits.ensures ∙ c.if-not-permits.false)
+offer_along-v-requires c = let p = c.requires in (p.1, p.2, p.3, p.4, p.6.room, p.6.states_few, p.5, sym c.permits.ensures ∙ c.if-not-permits.false)
 
-pub returns_then_v_entries : goal.returns-then-v-entries
-returns_then_v_entries c = let p = c.requires in asked_miss p.3 p.6 _ c.offer_along-v.ensures c.if-v-entries.true
+pub returns-then-v-entries : goal.returns-then-v-entries
+returns-then-v-entries c = let p = c.requires in asked_miss p.3 p.6 _ c.offer_along-v.ensures c.if-v-entries.true
 
-pub put_requires : goal.put-requires
-put_requires c = let p = c.requires in let a = c.args in let z = length-set a.entries.now a.i c.offer_along-v.result in (rw z p.6, omega (arith, z, p.3))
+pub put-requires : goal.put-requires
+put-requires c = let p = c.requires in let a = c.args in let z = length-set a.entries.now a.i c.offer_along-v.result in (rw z p.6, omega (arith, z, p.3))
 
 pub returns : goal.returns
 unfolding permitted_at

@@ -3,9 +3,9 @@ use Rattle.std.proofs.Common.{arith, le-ltb, lt-ltb}
 use Rattle.tables.specs.Visits.{above}
 use Rattle.tables.proofs.proved_worklist.visits.is_above.Goals as goal
 
-pub returns_then_i_entries : goal.returns-then-i-entries
+pub returns-then-i-entries : goal.returns-then-i-entries
 unfolding above
-returns_then_i_entries c = let a = c.args in let k = c.type_inv.entries a.i in (simp (lt-ltb _ _ c.if-i-entries.true, c.wide.ensures.0), omega (arith, k))
+returns-then-i-entries c = let a = c.args in let k = c.type_inv.entries a.i in (simp (lt-ltb _ _ c.if-i-entries.true, c.wide.ensures.0), omega (arith, k))
 
 pub returns : goal.returns
 unfolding above

@@ -5,13 +5,13 @@ use Rattle.task_record.specs.Window.{block_fits}
 use Rattle.task_record.proofs.Scanning.{gathered_next}
 use Rattle.task_record.proofs.blocks.Windows.pass.Goals as goal
 
-pub loop_i_init : goal.loop-i-init
+pub loop-i-init : goal.loop-i-init
 unfolding all_below
-loop_i_init c = (omega arith, refl)
+loop-i-init c = (omega arith, refl)
 
-pub loop_i_preserved : goal.loop-i-preserved
+pub loop-i-preserved : goal.loop-i-preserved
 unfolding block_fits
-loop_i_preserved c = let l = c.loop-i in let s = c.args in
+loop-i-preserved c = let l = c.loop-i in let s = c.args in
     (omega arith, gathered_next (block_fits s.c.now s.self.now.shift s.self.now.top s.a) l.i l.bad c.misfit-bad.result c.misfit-bad.ensures l.invariant.1)
 
 pub returns : goal.returns

@@ -4,8 +4,8 @@ use Rattle.task_record.specs.Scan.{scan}
 use Rattle.task_record.specs.Window.{row_fits}
 use Rattle.task_record.proofs.blocks.Windows.scan.Given as goal
 
-abbrev pub invariant_loop_j : goal.invariant-loop-j
-invariant_loop_j l = (l.j ≤ l.blocks) × (scan (row_fits l.c l.self.shift l.self.top l.a) l.a (16 * l.blocks) ≡ scan (row_fits l.c l.self.shift l.self.top l.a) (l.a + 16 * l.j) (16 * (l.blocks - l.j)))
+abbrev pub invariant-loop-j : goal.invariant-loop-j
+invariant-loop-j l = (l.j ≤ l.blocks) × (scan (row_fits l.c l.self.shift l.self.top l.a) l.a (16 * l.blocks) ≡ scan (row_fits l.c l.self.shift l.self.top l.a) (l.a + 16 * l.j) (16 * (l.blocks - l.j)))
 
-abbrev pub decreases_loop_j : goal.decreases-loop-j
-decreases_loop_j l = l.blocks - l.j
+abbrev pub decreases-loop-j : goal.decreases-loop-j
+decreases-loop-j l = l.blocks - l.j

@@ -4,15 +4,15 @@ use Rattle.task_record.specs.Window.{row_fits}
 use Rattle.task_record.proofs.Scanning.{scan_next, scan_here, scan_none_left}
 use Rattle.task_record.proofs.blocks.Windows.scan_block.Goals as goal
 
-pub returns_then_misfit_ne0 : goal.returns-then-misfit-ne0
+pub returns-then-misfit-ne0 : goal.returns-then-misfit-ne0
 unfolding row_fits
-returns_then_misfit_ne0 c = let l = c.loop-i in let s = c.args in
+returns-then-misfit-ne0 c = let l = c.loop-i in let s = c.args in
     let e : (s.a + l.i - s.a) % 16 ≡ l.i = omega arith in
     sym (l.invariant.1 ∙ scan_here (row_fits s.c.now s.self.now.shift s.self.now.top s.a) s.a l.i 16 c.loop-i-test.true (rw e (sym c.misfit.ensures ∙ ne_eqb _ _ c.if-misfit-ne0.true)))
 
-pub loop_i_preserved : goal.loop-i-preserved
+pub loop-i-preserved : goal.loop-i-preserved
 unfolding row_fits
-loop_i_preserved c = let l = c.loop-i in let s = c.args in
+loop-i-preserved c = let l = c.loop-i in let s = c.args in
     let e : (s.a + l.i - s.a) % 16 ≡ l.i = omega arith in
     (omega arith, l.invariant.1 ∙ scan_next (row_fits s.c.now s.self.now.shift s.self.now.top s.a) s.a l.i 16 c.loop-i-test.true (rw e (sym c.misfit.ensures ∙ eq-eqb _ _ c.if-misfit-ne0.false)))
 
