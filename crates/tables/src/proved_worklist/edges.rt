@@ -8,7 +8,40 @@ ghost use Rattle.tables.specs.Edges.{outcomes_from, EdgesOf, Regular};
 ghost use Rattle.tables.specs.Incoming.{Tests};
 ghost use Rattle.tables.specs.Made.{LaneOf, back_of, Untouched, EdgePut, Spanned, ActionPut};
 
+use std::marker::Model;
+
 use crate::sweep::{index_of, wide};
+
+// The abstract states of a pattern with the edges between them: what the build works on, the tests and words of the edges, and for each state the
+// edges that lead into it, by the lower and the upper part of its index.
+#[derive(Drop)]
+pub(crate) struct Graph<'a> {
+    pub(crate) task: &'a [u64; 1282],
+    pub(crate) mask: u64,
+    pub(crate) weights: &'a [u16; 16],
+    pub(crate) states: &'a [u64],
+    pub(crate) actions: usize,
+    pub(crate) sizes: [u8; 16],
+    pub(crate) n: usize,
+    pub(crate) tests: &'a [u64],
+    pub(crate) edges: &'a [u64],
+    pub(crate) k: usize,
+    pub(crate) sets: &'a [u64],
+    pub(crate) lower: usize,
+    pub(crate) upper: usize,
+    pub(crate) inverse: usize,
+}
+
+impl<'a> Model for Graph<'a> {
+    ghost use Rattle.tables.specs.Steps.{space};
+    ghost use Rattle.tables.specs.Graph.{Graphed, Walked};
+
+    ghost Value = { Graphed };
+
+    ghost view = { λ g. record { space = space g.task.now g.mask g.weights.now g.states.now g.actions; sizes = g.sizes; number = g.n; tests = g.tests.now; edges = g.edges.now; edge_number = g.k; sets = g.sets.now; lower = g.lower; upper = g.upper; inverse = g.inverse } };
+
+    ghost invariant = { λ g. Walked (record { space = space g.task.now g.mask g.weights.now g.states.now g.actions; sizes = g.sizes; number = g.n; tests = g.tests.now; edges = g.edges.now; edge_number = g.k; sets = g.sets.now; lower = g.lower; upper = g.upper; inverse = g.inverse }) };
+}
 
 // A free digit as a lane, and the free digits without it.
 #[derive(Clone, Copy)]
