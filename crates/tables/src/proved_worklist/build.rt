@@ -7,14 +7,13 @@ ghost use Rattle.tables.specs.Edges.{outcomes_from, Walkable};
 ghost use Rattle.tables.specs.Incoming.{SetsRoom};
 ghost use Rattle.tables.specs.Built.{Built};
 
-use std::marker::Model;
-
-use crate::proved_worklist::edges::edge_count;
 use crate::packed::{PICKING, pack};
+use crate::proved_worklist::edges::edge_count;
 use crate::proved_worklist::parts::parts_of;
+use crate::proved_worklist::worklist::settle;
 use crate::ranking::{fill_states, weights_of};
 use crate::sweep::{lively, start};
-use crate::proved_worklist::worklist::settle;
+use std::marker::Model;
 
 // A pattern of a compiled task: its mask, and the actions that leave no state of it as it is.
 #[derive(Drop)]

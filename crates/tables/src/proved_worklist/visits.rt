@@ -57,8 +57,8 @@ fn offer_along(graph: &Graph, entries: &[u16], marks: &[u8], e: usize, i: usize)
     let s = states[i];
     let end = (edges[4 * e + 3] / 1024) as usize;
     let mut most = 0u16;
-    let mut f = (edges[4 * e + 3] % 1024) as usize;
-    while f < end {
+    let first = (edges[4 * e + 3] % 1024) as usize;
+    for f in first..end {
         let j = index_after(edges, graph.weights, f, i, s);
         let v = entry_at(entries, j);
         if v == 65535 {
@@ -68,7 +68,6 @@ fn offer_along(graph: &Graph, entries: &[u16], marks: &[u8], e: usize, i: usize)
             return 65535;
         }
         most = most.max(v);
-        f += 1;
     }
     raise(edges[4 * e] / 65536 % 65536, most)
 }
@@ -150,19 +149,15 @@ fn visit_lanes<const N: usize>(
     let ones = (lanes / 16777216 % 256) as usize;
     let twos = (lanes / 4294967296 / 16777216 % 256) as usize;
     let mut row = at;
-    let mut y = 0usize;
-    while y < twos {
+    for y in 0..twos {
         let mut i = row;
-        let mut x = 0usize;
-        while x < ones {
+        for x in 0..ones {
             if is_above(entries, i, said) {
                 ask(graph, entries, ring, e, i);
             }
             i += one;
-            x += 1;
         }
         row += two;
-        y += 1;
     }
 }
 
@@ -197,11 +192,9 @@ fn visit_free<const N: usize>(
         return;
     }
     let end = values_of(free % 16, graph.sizes[v]);
-    let mut d = 0u64;
-    while d < end {
+    for d in 0..end {
         let next = at + times(d, weights[v]);
         visit_free(graph, entries, ring, e, j, entry, v + 1, free / 16, next);
-        d += 1;
     }
 }
 

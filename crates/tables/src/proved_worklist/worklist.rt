@@ -11,8 +11,8 @@ ghost use Rattle.tables.specs.Visits.{RowDone, Visited, GoalsWait, Level};
 use crate::proved_worklist::edges::{Graph, make_edges};
 use crate::proved_worklist::incoming::{edges_into, fill_sets, upper_part};
 use crate::proved_worklist::queue::Ring;
-use crate::sweep::start;
 use crate::proved_worklist::visits::visit_edge;
+use crate::sweep::start;
 
 // The edges of a set: of the 64 from 64 * c on.
 fn visit_row<const N: usize>(
@@ -31,7 +31,7 @@ fn visit_row<const N: usize>(
     while rest != 0 {
         let q = u64::trailing_zeros(rest) as usize;
         visit_edge(graph, entries, ring, 64 * c + q, j, entry);
-        rest = rest & (rest - 1);
+        rest &= rest - 1;
     }
 }
 
@@ -41,12 +41,11 @@ fn visit<const N: usize>(graph: &Graph, entries: &mut [u16], ring: &mut Ring<N>,
     ensures { (Visited graph.now.space j entries.old ring.old.marks ring.old.count entries.new ring.new.places ring.new.marks ring.old.head ring.new.count) × (ring.new.states ≡ ring.old.states) × (ring.new.head ≡ ring.old.head) }
 {
     let k = graph.k;
-    let n = graph.n;
     let entry = usize::from(entries[j]);
     let h = upper_part(j, graph.lower, graph.inverse);
     let mut c = 0usize;
     while 64 * c < k {
-        let set = edges_into(graph.states, graph.tests, n, k, graph.lower, graph.upper, graph.sets, j, h, c);
+        let set = edges_into(graph, j, h, c);
         visit_row(graph, entries, ring, j, entry, c, set);
         c += 1;
     }
@@ -80,13 +79,10 @@ fn put_goals<const N: usize>(entries: &[u16], ring: &mut Ring<N>)
     requires { (ring.old.states ≡ length entries.now) × (ring.old.head ≡ 0) × (ring.old.count ≡ 0) }
     ensures { (GoalsWait entries.now ring.new.places ring.new.marks ring.new.count) × (ring.new.states ≡ ring.old.states) × (ring.new.head ≡ 0) }
 {
-    let n = entries.len();
-    let mut i = 0usize;
-    while i < n {
-        if entries[i] == 0 {
+    for (i, entry) in entries.iter().enumerate() {
+        if *entry == 0 {
             ring.put(i);
         }
-        i += 1;
     }
 }
 

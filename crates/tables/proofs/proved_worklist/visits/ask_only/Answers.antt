@@ -22,5 +22,9 @@ pub returns : goal.returns
 unfolding permitted_at
 returns g c = let a = c.args in let p = rw (← c.graph.view_is) at c.requires in let w = c.graph.invariant in let f = sym c.permits.ensures ∙ c.if-not-permits.false in
     let n : edge_lanes c.graph.inside.edges.now a.e ≡ 72057594054705152 = p.5 in let u = c.put.ensures in
-    rw (← c.graph.view_is) (asked_hit p.1 (queue_as p.3 a.ring.now.waits) c.raise-said.result (w.edges_of.known _ p.0) f (omega arith)
-        (offered_only (edges_here w p.2) p.0 p.1 (few_here w p.2) f p.4 (omega (arith, n)) (omega (arith, n)) p.6 p.7 p.8 (omega arith) (omega arith) c.raise-said.ensures) c.if-said-entries.false refl p.3 u.0, u.1, u.2)
+    rw (← c.graph.view_is) (
+      asked_hit p.1 (queue_as p.3 a.ring.now.waits) c.raise-said.result (w.edges_of.known _ p.0) f (omega arith)
+          (offered_only (edges_here w p.2) p.0 p.1 (few_here w p.2) f p.4 (omega (arith, n)) (omega (arith, n)) p.6 p.7 p.8 (omega arith) (omega arith) c.raise-said.ensures) c.if-said-entries.false refl p.3 u.0,
+      u.1,
+      u.2,
+    )

@@ -10,8 +10,12 @@ use Rattle.tables.proofs.proved_worklist.visits.visit_edge.Goals as goal
 pub returns-then-not-is_above : goal.returns-then-not-is_above
 unfolding way_back
 returns-then-not-is_above g c = let p = rw (← c.graph.view_is) at c.requires in let w = c.graph.invariant in
-    rw (← c.graph.view_is) (passed_plain refl c.if-free-eq0.true (omega (arith, c.if-edges-e-eq-PLAIN.true)) (omega (arith, c.if-edges-e-eq-PLAIN.true)) (going_none (queue_as p.2 c.args.ring.now.waits))
-    (λ b f z. heard_told _ _ _ _ _ _ _ _ _ (w.edges_of.weight _ p.0) refl p.3 b p.4 (sym c.is_above.ensures.0 ∙ c.if-not-is_above.true) c.is_above.ensures.1 z), refl, refl)
+    rw (← c.graph.view_is) (
+      passed_plain refl c.if-free-eq0.true (omega (arith, c.if-edges-e-eq-PLAIN.true)) (omega (arith, c.if-edges-e-eq-PLAIN.true)) (going_none (queue_as p.2 c.args.ring.now.waits))
+          (λ b f z. heard_told _ _ _ _ _ _ _ _ _ (w.edges_of.weight _ p.0) refl p.3 b p.4 (sym c.is_above.ensures.0 ∙ c.if-not-is_above.true) c.is_above.ensures.1 z),
+      refl,
+      refl,
+    )
 
 pub ask_only-requires : goal.ask_only-requires
 unfolding way_back

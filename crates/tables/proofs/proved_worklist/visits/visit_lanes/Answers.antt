@@ -20,9 +20,6 @@ ask-requires g c = let p = c.requires in let v = c.loop-x.invariant in let l = v
 pub overflow_add-i : goal.overflow_add-i
 overflow_add-i g c = let p = c.requires in let v = c.loop-x.invariant in let o = c.loop-y.invariant in record { fits = omega (arith, p.6, v.2, o.2, o.3, v.3) }
 
-pub loop-x-smaller : goal.loop-x-smaller
-loop-x-smaller g c = omega (arith, c.loop-x-test.true)
-
 pub loop-x-preserved : goal.loop-x-preserved
 loop-x-preserved g c = let p = c.requires in let v = c.loop-x.invariant in let o = c.loop-y.invariant in let q = v.0.going in let l = q.moved.long ∙ o.0.going.moved.long in (
   rw (← c.graph.view_is) (elim c.if-is_above.branch [
@@ -39,9 +36,6 @@ loop-x-preserved g c = let p = c.requires in let v = c.loop-x.invariant in let o
 
 pub overflow_add-row : goal.overflow_add-row
 overflow_add-row g c = let p = c.requires in let o = c.loop-y.invariant in record { fits = omega (arith, p.6, o.2, o.3) }
-
-pub loop-y-smaller : goal.loop-y-smaller
-loop-y-smaller g c = omega (arith, c.loop-y-test.true)
 
 pub loop-y-preserved : goal.loop-y-preserved
 loop-y-preserved g c = let o = c.loop-y.invariant in let v = c.loop-x.invariant in

@@ -1,5 +1,5 @@
 -- `visit`: the rows of the edges that may lead into a state, one by one. Assumes nothing.
-use Rattle.std.proofs.Common.{◌≡◌, ◌<◌, ◌≤◌, sym, refl, ◌∙◌, arith}
+use Rattle.std.proofs.Common.{◌≤◌, sym, refl, ◌∙◌, arith}
 use Rattle.tables.specs.Waiting.{is}
 use Rattle.tables.proofs.Law.{told_moved}
 use Rattle.tables.proofs.Rounds.{rows_start, rows_next, rows_end, queue_as}
@@ -16,12 +16,11 @@ pub loop-c-init : goal.loop-c-init
 loop-c-init g c = (rows_start (queue_as c.requires.1 c.args.ring.now.waits), omega arith, refl, refl)
 
 pub edges_into-set-requires : goal.edges_into-set-requires
-edges_into-set-requires g c = let w = c.graph.invariant in let p = rw (← c.graph.view_is) at c.requires in let e : c.graph.inside.n ≡ _ = p.0 in
-    (w.plain, w.incoming, omega (arith, p.2, e), w.room, w.few, w.lower_few, w.upper_few, c.upper_part-h.ensures, c.loop-c-test.true)
+edges_into-set-requires g c = let p = rw (← c.graph.view_is) at c.requires in rw (← c.graph.view_is) (rw (sym p.0) at p.2, c.upper_part-h.ensures, c.loop-c-test.true)
 
 pub visit_row-requires : goal.visit_row-requires
-visit_row-requires g c = let p = rw (← c.graph.view_is) at c.requires in let v = c.loop-c.invariant in let m = v.0.going.moved in
-    rw (← c.graph.view_is) (omega (arith, c.args.ring.now.small), (p.0 ∙ sym m.long, v.2 ∙ p.1 ∙ sym m.long, omega (arith, p.2, m.long), told_moved m (is (sym c.from-entry.ensures)), omega arith, c.edges_into-set.ensures, omega (arith, v.1)))
+visit_row-requires g c = let p = c.requires in let v = c.loop-c.invariant in let m = v.0.going.moved in
+    (omega (arith, c.args.ring.now.small), (p.0 ∙ sym m.long, v.2 ∙ p.1 ∙ sym m.long, omega (arith, p.2, m.long), told_moved m (is (sym c.from-entry.ensures)), omega arith, c.edges_into-set.ensures, omega (arith, v.1)))
 
 pub loop-c-smaller : goal.loop-c-smaller
 loop-c-smaller g c = let f : c.graph.inside.k ≤ 512 = c.graph.invariant.edges_of.few in omega (arith, c.loop-c-test.true, f)
