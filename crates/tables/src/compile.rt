@@ -6,7 +6,6 @@ ghost use Rattle.tables.specs.Packed.{pack_by, digit_by};
 ghost use Rattle.tables.specs.Compiling.{outcome_word, ActionCompiled};
 
 use crate::packed::{NAMING, pack};
-use crate::ranking::wide;
 use crate::words::{Words, words_of};
 use task_record::cells::{outcome_cells, outcome_count, precondition_cells};
 
@@ -45,7 +44,7 @@ pub(crate) fn named_digits(pre: &[u8], keep: u64) -> u64
     ensures { result ≡ pack_by (digit_by 0) pre.now }
 {
     if pre.len() == 16 {
-        return 18446744073709551615 - keep;
+        return u64::MAX - keep;
     }
     pack(NAMING, pre)
 }
@@ -68,16 +67,14 @@ pub(crate) fn compile_action(rec: &[u8], m: u8, task: &mut [u64])
     requires { (outcome_count rec.now m ≤ 8) × (m < 64) × (1280 ≤ length task.old) }
     ensures { ActionCompiled task.old task.new m (action_of rec.now m) }
 {
-    let at = 20 * wide(m);
+    let at = 20 * usize::from(m);
     put_head(
         precondition_cells(rec, m),
-        outcome_count(rec, m) as u64,
+        u64::from(outcome_count(rec, m)),
         task,
         at,
     );
-    let mut k = 0u8;
-    while k < 8 {
-        put_outcome(rec, m, k, task, at + 4 + 2 * wide(k));
-        k += 1;
+    for k in 0..8u8 {
+        put_outcome(rec, m, k, task, at + 4 + 2 * usize::from(k));
     }
 }

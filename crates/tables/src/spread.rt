@@ -12,7 +12,7 @@ ghost use Rattle.tables.specs.RecordTables.{Buildable, built_over};
 ghost use Rattle.tables.specs.Spread.{costs_named, states_named, table_spread, tables_spread, row_spread};
 
 use crate::builder::{ProvedWorklist, TableBuilder, Tested};
-use crate::ranking::{state_count, wide};
+use crate::ranking::state_count;
 use crate::record_tables::build_checked;
 use patterns::space::{check_tables, sizes_of};
 use task_record::cells::{pattern_cells, pattern_count, state_of, variable_count};
@@ -64,7 +64,7 @@ fn part_of(rec: &[u8], p: u8) -> Part
     ensures { (result.begin ≡ entries_needed (task_of rec.now).sizes (take p (patterns_of rec.now))) × (result.end ≡ entries_needed (task_of rec.now).sizes (take (p + 1) (patterns_of rec.now))) }
 {
     let sizes = sizes_of(rec);
-    let n = wide(variable_count(rec));
+    let n = usize::from(variable_count(rec));
     let mut begin = 0usize;
     let mut end = 0usize;
     for q in 0..p + 1 {
@@ -89,7 +89,7 @@ fn count_pattern(rec: &[u8], pattern: u64, tables: &[u16], row: &mut [u32]) -> u
     ensures { (result ≡ states_named rec.now pattern) × (row.new ≡ spread (costs_named rec.now pattern)) }
 {
     clear(row);
-    if pattern < wide(pattern_count(rec)) as u64 {
+    if pattern < u64::from(pattern_count(rec)) {
         let p = narrow(pattern);
         let part = part_of(rec, p);
         let begin = part.begin;
