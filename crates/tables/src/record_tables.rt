@@ -14,7 +14,7 @@ ghost use Rattle.tables.specs.RecordTables.{Buildable, table_build, built_over, 
 use crate::applying::fill_sets;
 use crate::builder::{ProvedWorklist, TableBuilder, Tested};
 use crate::compile_record::{compile_cleared, compile_record};
-use crate::packed::{LOW, pack};
+use crate::packed::{DigitRule, pack};
 use crate::ranking::state_count;
 use patterns::estimate::check_estimate;
 use patterns::space::{check_tables, sizes_of};
@@ -102,7 +102,7 @@ fn start_word(rec: &[u8]) -> u64
 {
     let n = usize::from(variable_count(rec));
     let cells = start_cells(rec);
-    pack(LOW, &cells[..n])
+    pack(DigitRule::Low, &cells[..n])
 }
 
 // All that a search needs before it starts: patterns that are additive, their tables, the compiled task, its sets of applying actions, and the
