@@ -29,12 +29,14 @@ unfolding started
 finished_by_steps x first new n f e = let l : length new ≡ n = steps_length e.steps ∙ ap length f ∙ length-tabulate _ 0 n in stepped (rw (l, ← f) e)
 
 -- Where every action may leave each state as it is, the start is the table.
-pub finished_idle : (x : Space) (new : List ℕ) (live n : ℕ) → live ≡ set_from (λ m. not (idles x.task x.mask m)) 0 x.actions → live ≡ 0 → new ≡ started x.task x.mask x.states n → Finished x new
-finished_idle x new live n e z f =
-    finished_by_steps x new new n f (record { steps = none; stable = record { low = λ m i l b q h. false_true (sym (rw q at (idle m l))) } })
+pub settled_idle : (x : Space) (t : List ℕ) (live : ℕ) → live ≡ set_from (λ m. not (idles x.task x.mask m)) 0 x.actions → live ≡ 0 → Settled x t t
+settled_idle x t live e z = record { steps = none; stable = record { low = λ m i l b q h. false_true (sym (rw q at (idle m l))) } }
   where
     idle : (m : ℕ) → m < x.actions → not (idles x.task x.mask m) ≡ false
     idle m l = none_left (λ m. not (idles x.task x.mask m)) 0 x.actions live (left_all (λ m. not (idles x.task x.mask m)) x.actions live e) z m (omega arith) l
+
+pub finished_idle : (x : Space) (new : List ℕ) (live n : ℕ) → live ≡ set_from (λ m. not (idles x.task x.mask m)) 0 x.actions → live ≡ 0 → new ≡ started x.task x.mask x.states n → Finished x new
+finished_idle x new live n e z f = finished_by_steps x new new n f (settled_idle x new live e z)
 
 -- A task without actions: its states are those of the sizes.
 abbrev bare : List ℕ → Task

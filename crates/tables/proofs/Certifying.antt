@@ -13,24 +13,6 @@ use Rattle.tables.proofs.SetWords.{set_meet, set_more, Left, left_all, Next, nex
 use Rattle.tables.proofs.Settled.{inside}
 use Rattle.tables.proofs.Sweeping.{raised_high, below_raised, false_true}
 
--- The set of the numbers below m that pass f, and the bit of m.
-pub record Gathered (f : ℕ → Bool) (m set bit : ℕ) : Type 0 where
-  pub so_far : set ≡ set_from f 0 m
-  pub next_bit : m < 64 → bit ≡ 2 ^ m
-
-pub gathered_none : (f : ℕ → Bool) → Gathered f 0 0 1
-unfolding set_from
-gathered_none f = record { so_far = refl; next_bit = λ l. refl }
-
-pub gathered_next : (f : ℕ → Bool) (m set bit new : ℕ) → m < 64 → new ≡ cond (f m) (bit_or set bit) set → Gathered f m set bit → Gathered f (m + 1) new (bit % 9223372036854775808 * 2)
-gathered_next f m set bit new l e g = record {
-  so_far = e ∙ rw (g.next_bit l, g.so_far) (sym (set_more f m));
-  next_bit = λ h. let q = pow-le-pow_right {n = 2} (omega arith) (let z : m ≤ 62 = omega arith in z) in let s = pow-suc 2 m in let b = g.next_bit l in let z : 2 ^ (m + 1) ≡ 2 ^ suc m = rw add-one in omega arith;
-}
-
-pub gathered_all : (f : ℕ → Bool) (m n set bit : ℕ) → m ≤ n → n ≤ m → Gathered f m set bit → set ≡ set_from f 0 n
-gathered_all f m n set bit l h g = let e : m ≡ n = omega arith in rw e at g.so_far
-
 -- What stands at an index whose word is z is the entry of z.
 pub guessed : (weights states entries : List ℕ) (g z : ℕ) → Indexed weights states (length entries) → g < length entries → get_or states g 0 ≡ z → get_or entries g 0 ≡ get_or entries (weigh weights z) 65535
 guessed weights states entries g z x l e = let q : weigh weights z ≡ g = rw (sym e) (x.place g l) in rw q (inside entries g 0 65535 l)

@@ -67,32 +67,36 @@ spread_most : (bytes : ℕ) → spread bytes ≤ 8
 unfolding spread
 spread_most bytes = by_test (leb bytes 2) (λ e. rw e (omega arith)) (λ e. by_test (leb bytes 4) (λ f. rw (e, f) (omega arith)) (λ f. rw (e, f) (omega arith)))
 
--- Actions below m are entered, and `bit` is that of action m.
-pub record Slotting (task : List ℕ) (mask digits : ℕ) (slots : List ℕ) (bit m : ℕ) : Type 0 where
+-- Numbers below m are entered, and `bit` is that of number m.
+pub record Slotting (needs : ℕ → ℕ → ℕ) (digits : ℕ) (slots : List ℕ) (bit m : ℕ) : Type 0 where
   pub long : length slots ≡ 272
-  pub slot_at : (v k : ℕ) → v < digits → k < 17 → get_or slots (17 * v + k) 0 ≡ set_from (λ j. eqb k (action_need task mask j v)) 0 m
+  pub slot_at : (v k : ℕ) → v < digits → k < 17 → get_or slots (17 * v + k) 0 ≡ set_from (λ j. eqb k (needs j v)) 0 m
   pub power : m < 64 → bit ≡ 2 ^ m
 
-module _ (task : List ℕ) (mask digits : ℕ) where
-  pub slotting_starts : (slots : List ℕ) → length slots ≡ 272 → ((i : ℕ) → get_or slots i 0 ≡ 0) → Slotting task mask digits slots 1 0
+module _ (needs : ℕ → ℕ → ℕ) (digits : ℕ) where
+  pub slotting_starts : (slots : List ℕ) → length slots ≡ 272 → ((i : ℕ) → get_or slots i 0 ≡ 0) → Slotting needs digits slots 1 0
   unfolding set_from
   slotting_starts slots l z = record { long = l; slot_at = λ v k h g. z (17 * v + k); power = λ h. refl }
 
-  module _ {slots new : List ℕ} {bit m : ℕ} (s : Slotting task mask digits slots bit m) (few : m < 64) (kept : length new ≡ length slots)
-      (g : Entered slots new (bit_and (pre_mask task m) mask) (bit_and (pre_value task m) mask) bit digits) where
-    slot-after : (v k : ℕ) → v < digits → k < 17 → get_or new (17 * v + k) 0 ≡ set_from (λ j. eqb k (action_need task mask j v)) 0 (m + 1)
-    unfolding action_need
-    slot-after v k h i = g.slots v k h i ∙ rw (s.slot_at v k h i, s.power few) (sym (set_more (λ j. eqb k (action_need task mask j v)) m))
+  module _ {slots new : List ℕ} {bit m : ℕ} (s : Slotting needs digits slots bit m) (few : m < 64) (kept : length new ≡ length slots)
+      {need value : ℕ} (of : (v : ℕ) → needs m v ≡ need_at need value v) (g : Entered slots new need value bit digits) where
+    slot-after : (v k : ℕ) → v < digits → k < 17 → get_or new (17 * v + k) 0 ≡ set_from (λ j. eqb k (needs j v)) 0 (m + 1)
+    slot-after v k h i = g.slots v k h i ∙ rw (s.slot_at v k h i, s.power few, ← of v) (sym (set_more (λ j. eqb k (needs j v)) m))
 
     power_after : m + 1 < 64 → bit % 9223372036854775808 * 2 ≡ 2 ^ (m + 1)
     power_after h = let l : m + 1 ≤ 63 = omega arith in let e : m + 1 ≡ suc m = omega arith in let p = pow-suc 2 m in let q = pow-le-pow_right {n = 2} (omega arith) l in
         let b = s.power few in let r : 2 ^ suc m ≤ 9223372036854775808 = rw e at q in rw (b, e) (omega arith)
 
-    pub slotting_goes_on : Slotting task mask digits new (bit % 9223372036854775808 * 2) (m + 1)
+    pub slotting_goes_on : Slotting needs digits new (bit % 9223372036854775808 * 2) (m + 1)
     slotting_goes_on = record { long = kept ∙ s.long; slot_at = slot-after; power = power_after }
 
-pub slotted : {task slots : List ℕ} {mask digits bit m : ℕ} (actions : ℕ) → Slotting task mask digits slots bit m → m ≤ actions → actions ≤ m → SlotsOf task mask actions digits slots
-slotted {m = m} actions s l h = let e : m ≡ actions = omega arith in record { slot_at = rw e at s.slot_at }
+pub slotted : {needs : ℕ → ℕ → ℕ} {slots : List ℕ} {digits bit m : ℕ} (n : ℕ) → Slotting needs digits slots bit m → m ≤ n → n ≤ m → SlotsOf needs n digits slots
+slotted {m = m} n s l h = let e : m ≡ n = omega arith in record { slot_at = rw e at s.slot_at }
+
+-- What action m needs is in two words.
+pub action_needs : (task : List ℕ) (mask m v : ℕ) → action_need task mask m v ≡ need_at (bit_and (pre_mask task m) mask) (bit_and (pre_value task m) mask) v
+unfolding action_need
+action_needs task mask m v = refl
 
 -- Row q is being filled, as far as l; rows below q are filled.
 pub record FillingRow (slots old new : List ℕ) (q l : ℕ) : Type 0 where
@@ -144,7 +148,7 @@ module _ {slots old sets : List ℕ} {q : ℕ} (f : FillingRows slots old sets q
   rows_end bytes l h n = record { long = n; rows = λ b x. row_of_byte bytes b x h; rest = λ i k. f.rest i (omega arith) }
 
 -- The rows are the sets.
-pub sets_filled_lem : (task slots sets : List ℕ) (mask actions bytes : ℕ) → SlotsOf task mask actions (2 * bytes) slots →
+pub sets_filled_lem : (task slots sets : List ℕ) (mask actions bytes : ℕ) → SlotsOf (action_need task mask) actions (2 * bytes) slots →
     ((b x : ℕ) → b < bytes → x < 256 → get_or sets (256 * b + x) 0 ≡ slot_meet slots b (x / 16) (x % 16)) → SetsOf task mask actions bytes sets
 unfolding slot_meet suits byte_suits
 sets_filled_lem task slots sets mask actions bytes s f = record {
@@ -168,7 +172,7 @@ unfolding word_of_sets
 word_beyond task old mask actions bytes i t = rw t
 
 -- What the code fills is what the definition says.
-pub filled_as_defined : (task slots old sets : List ℕ) (mask actions bytes : ℕ) → actions ≤ 64 → SlotsOf task mask actions (2 * spread bytes) slots → RowsFilled slots old sets (spread bytes) →
+pub filled_as_defined : (task slots old sets : List ℕ) (mask actions bytes : ℕ) → actions ≤ 64 → SlotsOf (action_need task mask) actions (2 * spread bytes) slots → RowsFilled slots old sets (spread bytes) →
     sets ≡ sets_filled task mask actions bytes old
 unfolding sets_filled
 filled_as_defined task slots old sets mask actions bytes few s f = rw (T_true (leb actions 64) (le→leb actions 64 few))

@@ -80,4 +80,9 @@ module _ (r : List ℕ) (sound : Sound r) where
     compiled_weight = action_weight_is (task_of r) sound_packable.actions_few m (rw (actions_length r) l) ∙ ap (λ a. a.weight) (action_at_lem r m l)
 
   pub sound_readable : Readable (compiled (task_of r)) (action_count r)
-  sound_readable = record { actions_few = actions_right r sound; outcomes_few = compiled_outcomes_few }
+  sound_readable = record {
+    actions_few = actions_right r sound;
+    outcomes_few = compiled_outcomes_few;
+    outcomes_some = λ m l. rw (compiled_outcomes m l) (outcomes_right r sound m l).0;
+    weights_some = λ m l. let e = compiled_weight m l in omega (arith, e);
+  }

@@ -220,13 +220,13 @@ next_place : (v place : ℕ) → v + 1 < 16 → place ≡ 16 ^ v → place % 115
 next_place v place l e = let q : v ≤ 14 = omega arith in let p = pow-le-pow_right {n = 16} (omega arith) q in let s : place < 1152921504606846976 = omega arith in
     rw (add-one v, pow-suc 16 v, mod-eq_of_lt s, e)
 
-size_at : (sizes : List ℕ) (P : ℕ → Type 0) (n v : ℕ) → All P (take n sizes) → v < n → v < length sizes → P (get_or sizes v 0)
+pub size_at : (sizes : List ℕ) (P : ℕ → Type 0) (n v : ℕ) → All P (take n sizes) → v < n → v < length sizes → P (get_or sizes v 0)
 size_at [] P n v h l b = absurd (omega arith)
 size_at (z ∷ sizes) P zero v h l b = absurd (omega arith)
 size_at (z ∷ sizes) P (suc n) zero h l b = h.0
 size_at (z ∷ sizes) P (suc n) (suc v) h l b = size_at sizes P n v h.1 (omega arith) (omega arith)
 
-sizes_fewer : (sizes : List ℕ) (P : ℕ → Type 0) (n v : ℕ) → v ≤ n → All P (take n sizes) → All P (take v sizes)
+pub sizes_fewer : (sizes : List ℕ) (P : ℕ → Type 0) (n v : ℕ) → v ≤ n → All P (take n sizes) → All P (take v sizes)
 sizes_fewer sizes P n zero l h = tt
 sizes_fewer [] P n (suc v) l h = tt
 sizes_fewer (z ∷ sizes) P zero (suc v) l h = absurd (omega arith)

@@ -125,7 +125,7 @@ started-done a k states e i n l q h = ext_get_or 0 e _ (q ∙ sym (length-tabula
     (λ j b. h j (omega arith) ∙ sym (get_or_tabulate (first_of a k states) 0 n j 0 (omega arith) ∙ (let z : 0 + j ≡ j = omega arith in rw z)))
 
 -- The sum of the entries falls with every step.
-total-set : (t : List ℕ) (i v : ℕ) → i < length t → total (set t i v) + get_or t i 0 ≡ total t + v
+pub total-set : (t : List ℕ) (i v : ℕ) → i < length t → total (set t i v) + get_or t i 0 ≡ total t + v
 unfolding total
 total-set [] i v l = absurd (omega arith)
 total-set (x ∷ t) zero v l = omega arith

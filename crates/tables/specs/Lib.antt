@@ -6,6 +6,13 @@ pub mod Packable
 pub mod Sets
 pub mod Steps
 pub mod Certified
+pub mod Waiting
+pub mod Queue
+pub mod Edges
+pub mod Incoming
+pub mod Made
+pub mod Visits
+pub mod Builder
 pub mod Built
 pub mod Compiling
 pub mod RecordTables

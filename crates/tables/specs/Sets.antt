@@ -52,9 +52,9 @@ meet_from sets b (suc n) s = bit_and (slice_index sets (256 * b + s % 256)) (mee
 pub record Entered (old new : List ℕ) (need value bit digits : ℕ) : Type 0 where
   pub slots : (v k : ℕ) → v < digits → k < 17 → slice_index new (17 * v + k) ≡ cond (k == need_at need value v) (bit_or (slice_index old (17 * v + k)) bit) (slice_index old (17 * v + k))
 
--- Every action was entered.
-pub record SlotsOf (task : List ℕ) (mask actions digits : ℕ) (slots : List ℕ) : Type 0 where
-  pub slot_at : (v k : ℕ) → v < digits → k < 17 → slice_index slots (17 * v + k) ≡ set_from (λ m. nat_eq k (action_need task mask m v)) 0 actions
+-- The numbers below n were entered, of which number m needs `needs m v` of digit v.
+pub record SlotsOf (needs : ℕ → ℕ → ℕ) (n digits : ℕ) (slots : List ℕ) : Type 0 where
+  pub slot_at : (v k : ℕ) → v < digits → k < 17 → slice_index slots (17 * v + k) ≡ set_from (λ m. nat_eq k (needs m v)) 0 n
 
 -- The set for value x of byte b from the slots of its digits, and sixteen such sets in their places: those of row q, 16 rows for each byte.
 unfoldable pub slot_meet : List ℕ → ℕ → ℕ → ℕ → ℕ

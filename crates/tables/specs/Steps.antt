@@ -92,10 +92,12 @@ lowers a k w entries m i s = permitted a k m s && nat_lt (offer a k w entries m 
 unfoldable pub relaxed : List ℕ → ℕ → List ℕ → List ℕ → ℕ → ℕ → ℕ → List ℕ
 relaxed a k w entries m i s = cond (lowers a k w entries m i s) (slice_set entries i (offer a k w entries m s)) entries
 
--- The numbers of outcomes in a compiled task are such that they can be read.
+-- The numbers of outcomes in a compiled task are such that they can be read, every action has an outcome, and none weighs nothing.
 pub record Readable (a : List ℕ) (actions : ℕ) : Type 0 where
   pub actions_few : actions ≤ 64
   pub outcomes_few : (m : ℕ) → m < actions → outcome_count a m ≤ 8
+  pub outcomes_some : (m : ℕ) → m < actions → 1 ≤ outcome_count a m
+  pub weights_some : (m : ℕ) → m < actions → 1 ≤ action_weight a m
 
 -- A pass over the entries with one action, a pass with every action, and passes until nothing changes.
 pub record RowSwept (x : Space) (m : ℕ) (t new : List ℕ) (changed : Bool) : Type 0 where

@@ -3,7 +3,7 @@
 // 4 or 8 are looked at. `applying` is public for the innermost loop of the search and is no entry of the product: it answers for any 2,048
 // words, any state and any number of bytes what its equation says, and a search has its sets from `record_tables::prepare`.
 ghost use Rattle.std.specs.Prelude.{◌≡◌, ℕ, ◌+◌, ◌*◌, ◌/◌, ◌%◌, ◌<◌, ◌≤◌, length, bit_and, slice_index};
-ghost use Rattle.tables.specs.Sets.{lowest_need, spread, meet_from, Entered, SlotsOf, RowFilled, RowsFilled, sets_filled};
+ghost use Rattle.tables.specs.Sets.{lowest_need, action_need, spread, meet_from, Entered, SlotsOf, RowFilled, RowsFilled, sets_filled};
 
 fn lowest_need(need: u64, value: u64) -> usize
     ensures { (result ≡ lowest_need need value) × (result < 17) }
@@ -15,7 +15,7 @@ fn lowest_need(need: u64, value: u64) -> usize
 }
 
 // Enters an action in the slots of what it needs of each digit.
-fn enter(slots: &mut [u64], need: u64, value: u64, bit: u64, digits: usize)
+pub(crate) fn enter(slots: &mut [u64], need: u64, value: u64, bit: u64, digits: usize)
     requires { (length slots.old ≡ 272) × (digits ≤ 16) }
     ensures { Entered slots.old slots.new need value bit digits }
 {
@@ -32,7 +32,7 @@ fn enter(slots: &mut [u64], need: u64, value: u64, bit: u64, digits: usize)
 // Enters every action.
 fn enter_all(task: &[u64; 1282], mask: u64, actions: usize, digits: usize, slots: &mut [u64])
     requires { (length slots.old ≡ 272) × (actions ≤ 64) × (digits ≤ 16) × ((i : ℕ) → slice_index slots.old i ≡ 0) }
-    ensures { SlotsOf task.now mask actions digits slots.new }
+    ensures { SlotsOf (action_need task.now mask) actions digits slots.new }
 {
     let mut bit = 1u64;
     for m in 0..actions {

@@ -1,7 +1,6 @@
 // The abstract states of a pattern: the weights that give their indices, and their words by index.
-ghost use Rattle.std.specs.Prelude.{◌≡◌, ℕ, ◌+◌, ◌-◌, ◌*◌, ◌%◌, ◌^◌, ◌<◌, ◌≤◌, ◌++◌, length, take, replicate, if◌then◌else◌, nat_eq, slice_index};
+ghost use Rattle.std.specs.Prelude.{◌≡◌, ℕ, ◌+◌, ◌-◌, ◌*◌, ◌%◌, ◌<◌, ◌≤◌, ◌++◌, length, take, replicate, if◌then◌else◌, nat_eq, slice_index};
 ghost use Rattle.planning.specs.Table.{state_count, state_at};
-ghost use Rattle.planning.specs.Finite.{All};
 ghost use Rattle.tables.specs.Packed.{pack_by, low};
 ghost use Rattle.tables.specs.Steps.{weights_from, Sized, Extended};
 
@@ -23,7 +22,7 @@ fn weight_in(b: u8, w: usize) -> u16
 }
 
 // The weight of the next variable in the pattern after one of size z.
-fn next_weight(b: u8, w: usize, z: u8) -> usize
+pub(crate) fn next_weight(b: u8, w: usize, z: u8) -> usize
     requires { w ≤ 4096 }
     ensures { result ≡ (if nat_eq b 1 then w * z else w) }
 {

@@ -205,7 +205,7 @@ fn may_idle(task: &[u64; 1282], mask: u64, m: usize) -> bool
     false
 }
 
-fn joined(set: u64, bit: u64, wanted: bool) -> u64
+pub(crate) fn joined(set: u64, bit: u64, wanted: bool) -> u64
     ensures { result ≡ (if wanted then bit_or set bit else set) }
 {
     if wanted {

@@ -1,6 +1,6 @@
 // The two words of an outcome or a precondition from its sixteen cells, eight cells at once: where every cell is a value or 255, its high digit tells
 // whether it names a value, and its low digit which.
-ghost use Rattle.std.specs.Prelude.{◌≡◌, ◌+◌, ◌<◌, ◌≤◌, true, length, take, drop, ◌==◌, slice_index};
+ghost use Rattle.std.specs.Prelude.{◌≡◌, ◌+◌, ◌<◌, ◌≤◌, length, take, drop, ◌==◌, slice_index};
 ghost use Rattle.task_record.specs.Scan.{all_below};
 ghost use Rattle.tables.specs.Packed.{pack_by, digit_by};
 ghost use Rattle.tables.specs.Squeezed.{bytes_of, plain_cell, squeezed};

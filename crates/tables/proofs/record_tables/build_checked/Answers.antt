@@ -5,7 +5,7 @@ use Rattle.tables.proofs.TableChain.{none_to_build}
 use Rattle.tables.proofs.record_tables.build_checked.Goals as goal
 
 pub returns-then-pattern_count-eq0 : goal.returns-then-pattern_count-eq0
-returns-then-pattern_count-eq0 c = let a = c.args in none_to_build a.rec.now a.tables.now (sym c.pattern_count.ensures ∙ c.if-pattern_count-eq0.true)
+returns-then-pattern_count-eq0 g c = let a = c.args in none_to_build a.rec.now a.tables.now (sym c.pattern_count.ensures ∙ c.if-pattern_count-eq0.true)
 
 pub compile_cleared-requires : goal.compile_cleared-requires
-compile_cleared-requires c = (search rules, λ i k l. zeros 1282 i)
+compile_cleared-requires g c = (search rules, λ i k l. zeros 1282 i)

@@ -1,7 +1,7 @@
 -- `tables::sweep::lively` meets its contract. Assumes nothing.
 use Rattle.std.proofs.Common.{ℕ, Bool, not, arith}
 use Rattle.tables.specs.Steps.{idles}
-use Rattle.tables.proofs.Certifying.{gathered_none, gathered_next, gathered_all}
+use Rattle.tables.proofs.Gathering.{gathered_none, gathered_next, gathered_all}
 use Rattle.tables.proofs.sweep.lively.Goals as goal
 
 pub loop-m-init : goal.loop-m-init

@@ -1,7 +1,7 @@
 -- `tables::sweep::lively` meets its contract. Assumes nothing.
 use Rattle.std.proofs.Common.{◌-◌, ◌≤◌, not}
 use Rattle.tables.specs.Steps.{idles}
-use Rattle.tables.proofs.Certifying.{Gathered}
+use Rattle.tables.proofs.Gathering.{Gathered}
 use Rattle.tables.proofs.sweep.lively.Given as goal
 
 abbrev pub invariant-loop-m : goal.invariant-loop-m

@@ -1,0 +1,192 @@
+-- Laws of what an action says along its edges, and of asking it about one state. Assumes nothing.
+use Rattle.std.proofs.Common.{◌≡◌, ℕ, zero, suc, ◌+◌, ◌*◌, ◌<◌, ◌≤◌, min, max, true, false, ◌⊎◌, List, length, get_or, drop, set, sym, refl, ap, ◌∙◌, inl, inr, mul-le-mul, zero-add, arith, length-set, drop_of_length-le, get_or-set_other, le-ltb}
+use native.Mathlib.Decide.{ℕ_discrete, dec_lt}
+use lib.Bits.{bit_and, and_zero_r}
+use lib.ListN.{get_or-eq_default}
+use Rattle.tables.specs.Packed.{outcome_count, action_weight}
+use Rattle.tables.specs.Steps.{Space, weigh, after, worst, raised, outcome_entry, offer, offer_at, permitted_at, none, more}
+use Rattle.tables.specs.Waiting.{index_after, Waits, Heard, low, later}
+use Rattle.tables.specs.Queue.{Queue, Put}
+use Rattle.tables.specs.Edges.{edge_action, edge_weight, edge_lanes, edge_free, edge_first, edge_end, lane_weight, lane_sum, lane_after, way_back, Before, EdgesOf}
+use Rattle.tables.specs.Visits.{way_forward, Offered, Asked}
+use Rattle.tables.proofs.Settled.{inside}
+use Rattle.tables.proofs.Sweeping.{weigh-zero, total-set, false_true}
+use Rattle.tables.proofs.Law.{worst_at, outcome_bound, heard_lowered, heard_here}
+use Rattle.tables.proofs.Visiting.{going_none}
+
+-- The index of no digits, and of those that a word without a digit leaves.
+pub weigh-over : (w : List ℕ) (v s : ℕ) → length w ≤ v → weigh (drop v w) s ≡ 0
+unfolding weigh
+weigh-over w v s l = rw (drop_of_length-le w l)
+
+pub weigh_apart : (w : List ℕ) (s free : ℕ) → free ≡ 0 → weigh w (bit_and s free) ≡ 0
+weigh_apart w s free e = rw (e, and_zero_r s) (weigh-zero w)
+
+pub lane_low : (digit weight : ℕ) → digit < 16 → weight < 65536 → digit * weight ≤ 983025
+lane_low digit weight l b = let x : digit ≤ 15 = omega arith in let y : weight ≤ 65535 = omega arith in let p = mul-le-mul x y in omega (arith, p)
+
+-- A lane without weight adds nothing.
+pub lane_none : (lane s : ℕ) → lane_weight lane ≡ 0 → lane_sum lane s ≡ 0
+unfolding lane_sum
+lane_none lane s e = rw e (omega arith)
+
+-- The way back, gone forward, leads where the edge does.
+pub way_on : (x : Space) (ts es : List ℕ) (f i j : ℕ) → i ≤ 4096 → Before x ts es f i j → way_forward es x.weights f i (get_or x.states i 0) ≡ j
+unfolding way_forward way_back
+way_on x ts es f i j l b = omega (arith, l, b.near, b.sum)
+
+finite_inside : (t : List ℕ) (j : ℕ) → get_or t j 65535 < 65535 → j < length t
+finite_inside t j l = either (dec_lt j (length t))
+  where
+    either : Dec (j < length t) → j < length t
+    either (yes b) = b
+    either (no b) = let z : get_or t j 65535 ≡ 65535 = get_or-eq_default t 65535 (let n : length t ≤ j = omega arith in n) in absurd (omega (arith, z, l))
+
+worst-least : (f : ℕ → ℕ) (b j n : ℕ) → ((o : ℕ) → o < n → f (j + o) ≤ b) → worst f j n ≤ b
+unfolding worst
+worst-least f b j zero h = omega arith
+worst-least f b j (suc n) h = let e : j + 0 ≡ j = omega arith in let a : f j ≤ b = rw e at (h 0 (omega arith)) in
+    let r = worst-least f b (suc j) n (λ o l. let q : j + suc o ≡ suc j + o = omega arith in rw q at (h (suc o) (omega arith))) in omega (arith, a, r)
+
+-- A weight from 65,535 on counts as that.
+raised_cut : (w v : ℕ) → raised (min w 65535) v ≡ raised w v
+unfolding raised
+raised_cut w v = either (dec_lt (w + v) 65535)
+  where
+    either : Dec (w + v < 65535) → raised (min w 65535) v ≡ raised w v
+    either (yes l) = let e : min w 65535 ≡ w = omega arith in rw e
+    either (no l) = rw (le-ltb (w + v) 65535 (omega arith), le-ltb (min w 65535 + v) 65535 (omega arith))
+
+-- Nothing makes an infinite entry finite.
+raised_infinite : (w v : ℕ) → v ≡ 65535 → raised w v ≡ 65535
+unfolding raised
+raised_infinite w v z = rw (le-ltb (w + v) 65535 (omega arith))
+
+-- Where edge g leads from state i.
+abbrev pub onward : Space → List ℕ → ℕ → ℕ → ℕ
+onward x es i g = way_forward es x.weights g i (get_or x.states i 0)
+
+-- The action of edge e, edge by edge: f is the next one, and `most` the largest entry so far, none infinite.
+pub record Offering (x : Space) (es t : List ℕ) (e i f most : ℕ) : Type 0 where
+  pub begun : edge_first es e ≤ f
+  pub finite : most < 65535
+  pub over : (g : ℕ) → edge_first es e ≤ g → g < f → get_or t (onward x es i g) 65535 ≤ most
+  pub met : most ≤ worst (outcome_entry x.task x.mask x.weights t (edge_action es e) (get_or x.states i 0)) 0 (outcome_count x.task (edge_action es e))
+
+pub offering_start : (x : Space) (es t : List ℕ) (e i : ℕ) → Offering x es t e i (edge_first es e) 0
+offering_start x es t e i = record { begun = omega arith; finite = omega arith; over = λ g l b. absurd (omega arith); met = omega arith }
+
+-- An outcome's entry is at most the largest.
+pub entry_met : (x : Space) (t : List ℕ) (m i n j : ℕ) → n < outcome_count x.task m → index_after x m i n ≡ j →
+    get_or t j 65535 ≤ worst (outcome_entry x.task x.mask x.weights t m (get_or x.states i 0)) 0 (outcome_count x.task m)
+unfolding outcome_entry index_after
+entry_met x t m i n j l e = let f = outcome_entry x.task x.mask x.weights t m (get_or x.states i 0) in
+    let h : f n ≤ worst f 0 (outcome_count x.task m) = rw (zero-add n) at (worst_at f 0 (outcome_count x.task m) n l) in
+    let q : f n ≡ get_or t j 65535 = ap (λ y. get_or t y 65535) e in omega (arith, h, q)
+
+module _ {x : Space} {sizes ts es t : List ℕ} {k e i f most : ℕ} (o : EdgesOf x sizes (length t) ts es k) (l : e < k) (b : i < length t) (few : length t ≤ 4096)
+    (p : permitted_at x (edge_action es e) i ≡ true) (w : Offering x es t e i f most) where
+  -- An outcome that edge f stands for.
+  here : f < edge_end es e → (n : ℕ) × (n < outcome_count x.task (edge_action es e)) × (index_after x (edge_action es e) i n ≡ onward x es i f)
+  here d = let a = o.each e f l (record { after = w.begun; before = d }) in (a.0, a.1, sym (way_on x ts es f i _ (omega (arith, b, few)) (a.2.back i b p)))
+
+  module _ (j v : ℕ) (at : j ≡ onward x es i f) (is : v ≡ get_or t j 65535) (d : f < edge_end es e) where
+    pub offering_inside : v ≤ 65535 → (v ≡ 65535 → ⊥) → j < length t
+    offering_inside u n = finite_inside t j (omega (arith, u, n, is))
+
+    now_over : (m g : ℕ) → m ≡ max most v → edge_first es e ≤ g → g < f + 1 → Dec (g < f) → get_or t (onward x es i g) 65535 ≤ m
+    now_over m g q y z (yes r) = let h = w.over g y r in omega (arith, h, q)
+    now_over m g q y z (no r) = let s : g ≡ f = omega arith in rw (s, sym at, sym is) (omega (arith, q))
+
+    pub offering_next : (m : ℕ) → m ≡ max most v → v ≤ 65535 → (v ≡ 65535 → ⊥) → Offering x es t e i (f + 1) m
+    offering_next m q u n = let a = here d in let h = entry_met x t (edge_action es e) i a.0 j a.1 (a.2 ∙ sym at) in record {
+      begun = omega (arith, w.begun);
+      finite = omega (arith, w.finite, q, u, n);
+      over = λ g y z. now_over m g q y z (dec_lt g f);
+      met = omega (arith, h, w.met, q, is);
+    }
+
+    -- An entry is infinite, or its state waits.
+    pub offered_infinite : {marks : List ℕ} {r : ℕ} → r ≡ 65535 → get_or t i 0 ≤ 65535 → v ≡ 65535 → Offered x t marks (edge_action es e) i r
+    offered_infinite q c z = let a = here d in let y : get_or t (index_after x (edge_action es e) i a.0) 65535 ≡ 65535 = rw (a.2, sym at) (sym is ∙ z) in
+        record { said = λ h. absurd (omega (arith, h, q)); nothing = λ h. low (outcome_bound x t (edge_action es e) i a.0 (get_or t i 0) a.1 c (omega (arith, y, c))) }
+
+    pub offered_waits : {marks : List ℕ} {r : ℕ} → r ≡ 65535 → Waits marks j → Offered x t marks (edge_action es e) i r
+    offered_waits q z = let a = here d in record { said = λ h. absurd (omega (arith, h, q)); nothing = λ h. later a.0 a.1 (rw (a.2, sym at) z) }
+
+  -- Every outcome has an edge, so the largest entry of the edges is that of the outcomes.
+  all_over : edge_end es e ≤ f → worst (outcome_entry x.task x.mask x.weights t (edge_action es e) (get_or x.states i 0)) 0 (outcome_count x.task (edge_action es e)) ≤ most
+  unfolding outcome_entry index_after
+  all_over d = worst-least _ most 0 _ (λ n q. let a = o.all e n l q in let z = zero-add n in
+      let s = way_on x ts es a.0 i (index_after x (edge_action es e) i n) (omega (arith, b, few)) (a.2.back i b p) in
+      let h = rw s at (w.over a.0 a.1.after (omega (arith, a.1.before, d))) in rw z h)
+
+  pub offered_end : {marks : List ℕ} {r : ℕ} → edge_end es e ≤ f → get_or t i 0 ≤ 65535 → r ≡ raised (edge_weight es e) most → Offered x t marks (edge_action es e) i r
+  unfolding offer_at offer
+  offered_end d c q = let z : most ≡ worst (outcome_entry x.task x.mask x.weights t (edge_action es e) (get_or x.states i 0)) 0 (outcome_count x.task (edge_action es e)) = omega (arith, w.met, all_over d) in
+      let y = q ∙ rw (o.weight e l) (raised_cut (action_weight x.task (edge_action es e)) most) ∙ ap (raised (action_weight x.task (edge_action es e))) z in
+      record { said = λ h. y; nothing = λ h. low (omega (arith, y, h, c)) }
+
+-- An edge without a free digit leads from the state before j to j alone.
+only_on : (x : Space) (es : List ℕ) (e i j : ℕ) → j < 65536 → lane_weight (edge_lanes es e) ≡ 0 → lane_weight (lane_after (edge_lanes es e)) ≡ 0 → edge_free es e ≡ 0 → i ≡ way_back es e j → onward x es i e ≡ j
+unfolding way_forward way_back
+only_on x es e i j d m n f a = let s = get_or x.states i 0 in
+    rw (lane_none (edge_lanes es e) s m, lane_none (lane_after (edge_lanes es e)) s n, weigh_apart x.weights s (edge_free es e) f) (omega (arith, a, d))
+
+-- Where it is the only edge of its action, that says its weight and the entry of j.
+pub offered_only : {x : Space} {sizes ts es t marks : List ℕ} {k e i j r : ℕ} → EdgesOf x sizes (length t) ts es k → e < k → i < length t → length t ≤ 4096 → permitted_at x (edge_action es e) i ≡ true →
+    j < length t → lane_weight (edge_lanes es e) ≡ 0 → lane_weight (lane_after (edge_lanes es e)) ≡ 0 → edge_free es e ≡ 0 → i ≡ way_back es e j → edge_end es e ≡ edge_first es e + 1 →
+    get_or t i 0 ≤ 65535 → get_or t j 0 ≤ 65535 → r ≡ raised (edge_weight es e) (get_or t j 0) → Offered x t marks (edge_action es e) i r
+offered_only {x} {sizes} {ts} {es} {t} {marks} {k} {e} {i} {j} {r} o l b few p d m n f a single c u q = either (ℕ_discrete (get_or t j 0) 65535)
+  where
+    is : get_or t j 0 ≡ get_or t j 65535
+    is = inside t j 0 65535 d
+
+    near : edge_first es e < edge_end es e
+    near = omega (arith, single)
+
+    first : j ≡ onward x es i (edge_first es e)
+    first = let w = o.own e l in let z : edge_first es e ≡ e = omega (arith, w.after, w.before, single) in rw z (sym (only_on x es e i j (omega (arith, d, few)) m n f a))
+
+    start : Offering x es t e i (edge_first es e) 0
+    start = offering_start x es t e i
+
+    either : Dec (get_or t j 0 ≡ 65535) → Offered x t marks (edge_action es e) i r
+    either (yes z) = offered_infinite o l b few p start j (get_or t j 0) first is near (q ∙ raised_infinite (edge_weight es e) (get_or t j 0) z) c z
+    either (no z) = offered_end o l b few p (offering_next o l b few p start j (get_or t j 0) first is near (get_or t j 0) (omega arith) u z) (omega (arith, single)) c q
+
+-- The action is asked about one state.
+module _ {x : Space} {m i : ℕ} {t q marks : List ℕ} {h c : ℕ} (l : i < length t) (k : Queue (length t) q marks h c) where
+  pub asked_never : permitted_at x m i ≡ false → Asked x m i t marks c t q marks h c
+  asked_never e = record { going = going_none k; heard = λ p. false_true (sym e ∙ p) }
+
+  pub asked_miss : (v : ℕ) → Offered x t marks m i v → get_or t i 0 ≤ v → Asked x m i t marks c t q marks h c
+  asked_miss v o b = record { going = going_none k; heard = λ p. either (dec_lt v 65535) }
+    where
+      either : Dec (v < 65535) → Heard x t marks m i
+      either (yes a) = low (omega (arith, o.said a, b))
+      either (no a) = o.nothing (omega arith)
+
+  hit : {q₁ marks₁ : List ℕ} {d : ℕ} → m < x.actions → permitted_at x m i ≡ true → offer_at x t m i < get_or t i 0 → Put (length t) q marks h c i q₁ marks₁ d → Asked x m i t marks c (set t i (offer_at x t m i)) q₁ marks₁ h d
+  hit {q₁} {marks₁} {d} a e f p = let w = offer_at x t m i in let n = total-set t i w l in let b : w ≤ get_or t i 0 = omega (arith, f) in record {
+    going = record {
+      moved = record {
+        long = length-set t i w;
+        steps = more m i a l e f none;
+        keeps = heard_lowered x t marks marks₁ m i w l b p.still p.here;
+        lowered = λ j. changed w p.here j (ℕ_discrete j i);
+        still = p.still;
+        falls = omega (arith, f, p.few, n);
+      };
+      queue = rw (length-set t i w) p.queue;
+    };
+    heard = λ a. heard_here x t marks marks₁ m i w l b p.still p.here refl;
+  }
+    where
+      changed : (w : ℕ) → Waits marks₁ i → (j : ℕ) → Dec (j ≡ i) → (get_or (set t i w) j 0 ≡ get_or t j 0) ⊎ Waits marks₁ j
+      changed w z j (yes g) = inr (rw g z)
+      changed w z j (no g) = inl (get_or-set_other t i j w 0 g)
+
+  pub asked_hit : {u q₁ marks₁ : List ℕ} {n d : ℕ} (v : ℕ) → m < x.actions → permitted_at x m i ≡ true → get_or t i 0 ≤ 65535 → Offered x t marks m i v → v < get_or t i 0 → u ≡ set t i v → n ≡ length t →
+      Put n q marks h c i q₁ marks₁ d → Asked x m i t marks c u q₁ marks₁ h d
+  asked_hit v a e b o f g y p = let z = o.said (omega (arith, b, f)) in let g₁ = rw z at g in rw g₁ (hit a e (omega (arith, z, f)) (rw y at p))

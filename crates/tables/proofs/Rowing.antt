@@ -1,0 +1,258 @@
+-- Sets of edges by the digits of a part of the index: what the slots say, that the meet of two sets misses no edge, and how they are filled.
+-- Assumes nothing.
+use Rattle.std.proofs.Common.{◌≡◌, ℕ, zero, suc, ◌+◌, ◌-◌, ◌*◌, ◌/◌, ◌%◌, ◌^◌, ◌<◌, ◌≤◌, min, Bool, true, false, cond, ◌&&◌, ◌||◌, eqb, List, length, get_or, set, sym, refl, ap, ◌∙◌, ⊎_elim, mul-le-mul_right, mod-lt, div-lt_iff_lt-mul, mul-le-mul, mul-le-mul_left, div-mul-le_self, arith, length-set, get_or-set_other, get_or-set_same, eq-eqb}
+use mathlib.Core.Bool.{and-true, and_assoc, or-true}
+use native.Mathlib.Nat.{div-add-mod}
+use lib.Arith.{digits_div}
+use native.Mathlib.Decide.{dec_lt}
+use lib.Bits.{bit_and, bit_or}
+use Rattle.planning.proofs.Test.{by_test}
+use Rattle.tables.specs.Sets.{set_from, lowest_need, need_at, SlotsOf}
+use Rattle.tables.specs.Edges.{edge_mask, edge_value, digit, PlainMask}
+use Rattle.tables.specs.Incoming.{Row, Tests, Parted, Incoming, edge_need, digit_meet, digits_meet, digit_suits, part_suits, PartFilled, EdgeRow}
+use Rattle.tables.proofs.SetWords.{set_same, set_meet, set_join}
+use Rattle.tables.proofs.Bitwise.{further, deeper, and_mod, and_div, and_all}
+
+-- What is needed of digit v, and digit v of a meet.
+need_digit : (need value v : ℕ) → need_at need value v ≡ cond (eqb (digit need v) 0) 16 (digit value v)
+unfolding need_at lowest_need
+need_digit need value zero = let a : need / 16 ^ 0 ≡ need = omega arith in let b : value / 16 ^ 0 ≡ value = omega arith in rw (a, b)
+need_digit need value (suc v) = need_digit (need / 16) (value / 16) v ∙ rw (deeper need v, deeper value v)
+
+and_from : (a b u : ℕ) → bit_and a b / 16 ^ u ≡ bit_and (a / 16 ^ u) (b / 16 ^ u)
+and_from a b zero = let x : (y : ℕ) → y / 16 ^ 0 ≡ y = λ y. omega arith in rw (x (bit_and a b), x a, x b)
+and_from a b (suc u) = rw (← deeper (bit_and a b) u, ← deeper a u, ← deeper b u, and_div a b) (and_from (a / 16) (b / 16) u)
+
+and_digit : (a b u : ℕ) → digit (bit_and a b) u ≡ bit_and (digit a u) (digit b u)
+and_digit a b u = rw (and_from a b u) (and_mod (a / 16 ^ u) (b / 16 ^ u))
+
+all_of_digit : (a b u : ℕ) → digit b u ≡ 15 → digit (bit_and a b) u ≡ digit a u
+all_of_digit a b u e = and_digit a b u ∙ rw e (and_all (digit a u) (omega arith))
+
+-- A word that agrees within a part with one that passes a test suits it at each digit of the part.
+module _ (mask value part s w : ℕ) (plain : PlainMask mask) (inside : PlainMask part) (passes : bit_and w mask ≡ value) (same : bit_and s part ≡ bit_and w part) where
+  need_none : (v : ℕ) → digit mask v ≡ 0 → need_at mask value v ≡ 16
+  need_none v e = need_digit mask value v ∙ rw (eq-eqb (digit mask v) 0 e)
+
+  need_some : (v : ℕ) → digit part v ≡ 15 → digit mask v ≡ 15 → need_at mask value v ≡ digit s v
+  need_some v e f = need_digit mask value v ∙ rw f (ap (λ y. digit y v) (sym passes) ∙ all_of_digit w mask v f ∙ sym (all_of_digit w part v e) ∙ ap (λ y. digit y v) (sym same) ∙ all_of_digit s part v e)
+
+  digit_suits_lem : (v : ℕ) → digit_suits (need_at mask value) part s v ≡ true
+  unfolding digit_suits
+  digit_suits_lem v = ⊎_elim
+      (λ e. rw (eq-eqb (digit part v) 0 e))
+      (λ e. ⊎_elim
+      (λ f. rw (need_none v f, or-true (eqb (digit s v) 16), or-true (eqb (digit part v) 0)))
+      (λ f. rw (eq-eqb (digit s v) (need_at mask value v) (sym (need_some v e f)), or-true (eqb (digit part v) 0))) (plain v)) (inside v)
+
+  part_suits_lem : (v n : ℕ) → part_suits (need_at mask value) part s v n ≡ true
+  unfolding part_suits
+  part_suits_lem v zero = refl
+  part_suits_lem v (suc n) = rw (digit_suits_lem v, part_suits_lem (v + 1) n)
+
+edge_suits : (ts : List ℕ) (first q part s w : ℕ) → PlainMask (edge_mask ts (first + q)) → PlainMask part → bit_and w (edge_mask ts (first + q)) ≡ edge_value ts (first + q) → bit_and s part ≡ bit_and w part →
+    part_suits (edge_need ts first q) part s 0 16 ≡ true
+unfolding edge_need
+edge_suits ts first q part s w a b p e = part_suits_lem (edge_mask ts (first + q)) (edge_value ts (first + q)) part s w a b p e 0 16
+
+pub edge_needs : (ts : List ℕ) (first q v : ℕ) → edge_need ts first q v ≡ need_at (edge_mask ts (first + q)) (edge_value ts (first + q)) v
+unfolding edge_need
+edge_needs ts first q v = refl
+
+-- The slots met are the set of the edges that the word suits.
+module _ {needs : ℕ → ℕ → ℕ} {count : ℕ} {slots : List ℕ} (s : SlotsOf needs count 16 slots) (part word : ℕ) where
+  meet_digit : (g : ℕ → Bool) (v : ℕ) → v < 16 → digit_meet slots part word (set_from g 0 count) v ≡ set_from (λ q. g q && digit_suits (needs q) part word v) 0 count
+  unfolding digit_meet digit_suits
+  meet_digit g v l = by_test (eqb (digit part v) 0)
+      (λ e. rw e (set_same g _ 0 count (λ j h k. sym (and-true (g j)))))
+      (λ e. rw (e, s.slot_at v (digit word v) l (omega arith), s.slot_at v 16 l (omega arith), set_join (λ q. eqb (digit word v) (needs q v)) (λ q. eqb 16 (needs q v)) 0 count)
+      (set_meet g (λ q. eqb (digit word v) (needs q v) || eqb 16 (needs q v)) 0 count))
+
+  meet_digits_lem : (n v : ℕ) (g : ℕ → Bool) → v + n ≤ 16 → digits_meet slots part word (set_from g 0 count) v n ≡ set_from (λ q. g q && part_suits (needs q) part word v n) 0 count
+  unfolding digits_meet part_suits
+  meet_digits_lem zero v g l = set_same g _ 0 count (λ j h k. sym (and-true (g j)))
+  meet_digits_lem (suc n) v g l = rw (meet_digit g v (omega arith)) (meet_digits_lem n (v + 1) (λ q. g q && digit_suits (needs q) part word v) (omega arith)
+      ∙ set_same _ _ 0 count (λ j h k. and_assoc (g j) (digit_suits (needs j) part word v) (part_suits (needs j) part word (v + 1) n)))
+
+  met : (all : ℕ) → all ≡ set_from (λ q. true) 0 count → digits_meet slots part word all 0 16 ≡ set_from (λ q. part_suits (needs q) part word 0 16) 0 count
+  met all e = rw e (meet_digits_lem 16 0 (λ q. true) (omega arith))
+
+-- The digits below v are met.
+pub record Meeting (slots : List ℕ) (part word all set rest w v : ℕ) : Type 0 where
+  pub rest_is : rest ≡ part / 16 ^ v
+  pub word_is : w ≡ word / 16 ^ v
+  pub within : v ≤ 16
+  pub goes : digits_meet slots part word all 0 16 ≡ digits_meet slots part word set v (16 - v)
+
+pub meeting_starts : {slots : List ℕ} {part word all : ℕ} → Meeting slots part word all all part word 0
+meeting_starts = record { rest_is = omega arith; word_is = omega arith; within = omega arith; goes = refl }
+
+module _ {slots : List ℕ} {part word all set rest w v : ℕ} (m : Meeting slots part word all set rest w v) where
+  pub meeting_goes_on : (new : ℕ) → v < 16 → new ≡ digit_meet slots part word set v → Meeting slots part word all new (rest / 16) (w / 16) (v + 1)
+  unfolding digits_meet
+  meeting_goes_on new l e = record {
+    rest_is = ap (λ y. y / 16) m.rest_is ∙ further part v;
+    word_is = ap (λ y. y / 16) m.word_is ∙ further word v;
+    within = omega arith;
+    goes = m.goes ∙ (let k : 16 - v ≡ suc (16 - (v + 1)) = omega arith in rw (k, e));
+  }
+
+  pub digit_out : rest % 16 ≡ 0 → set ≡ digit_meet slots part word set v
+  unfolding digit_meet
+  digit_out e = let r = m.rest_is in rw (eq-eqb (digit part v) 0 (rw r at e))
+
+  pub digit_in : (rest % 16 ≡ 0 → ⊥) → bit_and set (bit_or (get_or slots (17 * v + w % 16) 0) (get_or slots (17 * v + 16) 0)) ≡ digit_meet slots part word set v
+  unfolding digit_meet
+  digit_in n = let r = m.rest_is in let x = m.word_is in rw (borrow.Author.Tests.ne_eqb (digit part v) 0 (λ e. n (rw r e)), ← x)
+
+  pub meeting_ends : 16 ≤ v → set ≡ digits_meet slots part word all 0 16
+  unfolding digits_meet
+  meeting_ends l = let k : 16 - v ≡ 0 = omega arith in sym (rw k at m.goes)
+
+-- Where nothing is left of a part, nothing more is met.
+meet_none : (slots : List ℕ) (part word set n v : ℕ) → part / 16 ^ v ≡ 0 → digits_meet slots part word set v n ≡ set
+unfolding digits_meet digit_meet
+meet_none slots part word set zero v e = refl
+meet_none slots part word set (suc n) v e = rw (eq-eqb (digit part v) 0 (ap (λ y. y % 16) e)) (meet_none slots part word set n (v + 1) (sym (further part v) ∙ ap (λ y. y / 16) e))
+
+pub meeting_early : {slots : List ℕ} {part word all set rest w v : ℕ} → Meeting slots part word all set rest w v → rest ≡ 0 → set ≡ digits_meet slots part word all 0 16
+meeting_early {slots} {part} {word} {all} {set} {rest} {w} {v} m e = sym (m.goes ∙ meet_none slots part word set (16 - v) v (sym m.rest_is ∙ e))
+
+-- The place of a state is among the words.
+pub place_in : (h m step n : ℕ) → h < m → 1 ≤ step → m * step ≤ n → h * step + step ≤ n
+place_in h m step n l s b = let k : h + 1 ≤ m = omega arith in let e = mul-le-mul_right step k in omega (arith, e)
+
+-- A part, filled below h.
+pub record PartTo (states slots old new : List ℕ) (all part step n base h at : ℕ) : Type 0 where
+  pub place : at ≡ h * step
+  pub within : h ≤ n
+  pub long : length new ≡ length old
+  pub here : (j : ℕ) → j < h → get_or new (base + j) 0 ≡ digits_meet slots part (get_or states (j * step) 0) all 0 16
+  pub before : (i : ℕ) → i < base → get_or new i 0 ≡ get_or old i 0
+
+pub part_to_start : {states slots old : List ℕ} {all part step n base : ℕ} → PartTo states slots old old all part step n base 0 0
+part_to_start = record { place = omega arith; within = omega arith; long = refl; here = λ j l. absurd (omega arith); before = λ i l. refl }
+
+pub part_to_next : {states slots old u : List ℕ} {all part step n base h at : ℕ} (r : ℕ) → h < n → base + n ≤ length old → r ≡ digits_meet slots part (get_or states at 0) all 0 16 →
+    PartTo states slots old u all part step n base h at → PartTo states slots old (set u (base + h) r) all part step n base (h + 1) (at + step)
+part_to_next {states} {slots} {old} {u} {all} {part} {step} {n} {base} {h} {at} r l b e v = record {
+  place = omega (arith, v.place);
+  within = omega arith;
+  long = length-set u (base + h) r ∙ v.long;
+  here = λ j d. either j d (dec_lt j h);
+  before = λ i d. get_or-set_other u (base + h) i r 0 (λ z. omega arith) ∙ v.before i d;
+}
+  where
+    either : (j : ℕ) → j < h + 1 → Dec (j < h) → get_or (set u (base + h) r) (base + j) 0 ≡ digits_meet slots part (get_or states (j * step) 0) all 0 16
+    either j d (yes y) = get_or-set_other u (base + h) (base + j) r 0 (λ z. omega arith) ∙ v.here j y
+    either j d (no y) = let z : j ≡ h = omega arith in let p = v.place in rw z (get_or-set_same u (base + h) r 0 (omega (arith, v.long)) ∙ e ∙ rw p)
+
+pub part_to_end : {states slots old u : List ℕ} {all part step n base h at : ℕ} → n ≤ h → PartTo states slots old u all part step n base h at → PartFilled states slots old u all part step n base
+part_to_end l v = record { here = λ j b. v.here j (omega arith); before = v.before }
+
+-- Two parts make a row.
+pub row_made : {states ts slots old mid new : List ℕ} {all low high lower upper first count base : ℕ} → SlotsOf (edge_need ts first) count 16 slots → all ≡ set_from (λ q. true) 0 count →
+    PartFilled states slots old mid all low 1 lower base → PartFilled states slots mid new all high lower upper (base + lower) →
+    EdgeRow states ts new low high lower upper first count base × ((i : ℕ) → i < base → get_or new i 0 ≡ get_or old i 0)
+row_made {states} {ts} {slots} {old} {mid} {new} {all} {low} {high} {lower} {upper} {first} {count} {base} s e f g = (
+  record {
+    lows = λ l b. let z : l * 1 ≡ l = omega arith in g.before (base + l) (omega arith) ∙ f.here l b ∙ rw z (met s low (get_or states l 0) all e);
+    highs = λ h b. g.here h b ∙ met s high (get_or states (h * lower) 0) all e;
+  },
+  λ i b. g.before i (omega arith) ∙ f.before i b,
+)
+
+-- The rows below c.
+pub record RowsTo (states ts old new : List ℕ) (k low high lower upper c base : ℕ) : Type 0 where
+  pub place : base ≡ (lower + upper) * c
+  pub within : c ≤ 8
+  pub long : length new ≡ length old
+  pub rows : (d : ℕ) → d < c → 64 * d < k → EdgeRow states ts new low high lower upper (64 * d) (min 64 (k - 64 * d)) ((lower + upper) * d)
+
+pub rows_to_start : {states ts old : List ℕ} {k low high lower upper : ℕ} → RowsTo states ts old old k low high lower upper 0 0
+rows_to_start = record { place = omega arith; within = omega arith; long = refl; rows = λ d l. absurd (omega arith) }
+
+row_kept : {states ts old new : List ℕ} {low high lower upper first count base : ℕ} → EdgeRow states ts old low high lower upper first count base → ((i : ℕ) → i < base + lower + upper → get_or new i 0 ≡ get_or old i 0) →
+    EdgeRow states ts new low high lower upper first count base
+row_kept {lower = lower} {base = base} r g = record { lows = λ l b. g (base + l) (omega arith) ∙ r.lows l b; highs = λ h b. g (base + lower + h) (omega arith) ∙ r.highs h b }
+
+pub rows_to_next : {states ts old u new : List ℕ} {k low high lower upper c base count : ℕ} → c < 8 → count ≡ min 64 (k - 64 * c) → RowsTo states ts old u k low high lower upper c base →
+    EdgeRow states ts new low high lower upper (64 * c) count base × ((i : ℕ) → i < base → get_or new i 0 ≡ get_or u i 0) → length new ≡ length u → RowsTo states ts old new k low high lower upper (c + 1) (base + (lower + upper))
+rows_to_next {states} {ts} {old} {u} {new} {k} {low} {high} {lower} {upper} {c} {base} {count} l e v r n = record {
+  place = omega (arith, v.place);
+  within = omega arith;
+  long = n ∙ v.long;
+  rows = λ d o y. either d o y (dec_lt d c);
+}
+  where
+    either : (d : ℕ) → d < c + 1 → 64 * d < k → Dec (d < c) → EdgeRow states ts new low high lower upper (64 * d) (min 64 (k - 64 * d)) ((lower + upper) * d)
+    either d o y (yes x) = row_kept (v.rows d x y) (λ i b. r.1 i (let f : d + 1 ≤ c = omega arith in let g = mul-le-mul_left (lower + upper) f in omega (arith, g, v.place)))
+    either d o y (no x) = let f : d ≡ c = omega arith in let p = v.place in rw (f, ← e, ← p) r.0
+
+-- The meet of the two sets of a row misses no edge.
+both_true : (a b : Bool) → (a && b) ≡ false → a ≡ true → b ≡ true → ⊥
+both_true a b e f g = let z : true ≡ false = sym (rw (f, g)) ∙ e in Rattle.tables.proofs.Sweeping.false_true (sym z)
+
+row_of : {states ts sets : List ℕ} {n k low high lower upper c base : ℕ} → Tests ts k → Parted states n lower low high → n ≡ upper * lower → EdgeRow states ts sets low high lower upper (64 * c) (min 64 (k - 64 * c)) base →
+    (j : ℕ) → j < n → 64 * c < k → Row ts (get_or states j 0) k c (bit_and (get_or sets (base + j % lower) 0) (get_or sets (base + lower + j / lower) 0))
+row_of {states} {ts} {sets} {n} {k} {low} {high} {lower} {upper} {c} {base} t p e r j l b = record {
+  chosen = λ q. lows q && highs q;
+  count = min 64 (k - 64 * c);
+  few = omega arith;
+  inside = omega arith;
+  whole = λ q d g. omega arith;
+  is = rw (r.lows (j % lower) (mod-lt j p.lower_some), r.highs (j / lower) ((div-lt_iff_lt-mul p.lower_some).1 (omega (arith, l, e)))) (set_meet lows highs 0 (min 64 (k - 64 * c)));
+  missed = λ q d f g. let o : 64 * c + q < k = omega arith in both_true (lows q) (highs q) f
+      (edge_suits ts (64 * c) q low (get_or states (j % lower) 0) (get_or states j 0) (t.plain (64 * c + q) o) p.low_plain g (p.below j l))
+      (edge_suits ts (64 * c) q high (get_or states (j / lower * lower) 0) (get_or states j 0) (t.plain (64 * c + q) o) p.high_plain g (p.above j l));
+}
+  where
+    lows : ℕ → Bool
+    lows q = part_suits (edge_need ts (64 * c) q) low (get_or states (j % lower) 0) 0 16
+
+    highs : ℕ → Bool
+    highs q = part_suits (edge_need ts (64 * c) q) high (get_or states (j / lower * lower) 0) 0 16
+
+pub incoming_of : {states ts old sets : List ℕ} {n k low high lower upper c base : ℕ} → Tests ts k → Parted states n lower low high → n ≡ upper * lower →
+    (1 ≤ length old → (d : ℕ) → 64 * d < k → (lower + upper) * d + lower + upper ≤ length old) → RowsTo states ts old sets k low high lower upper c base → k ≤ 64 * c → Incoming states ts n k lower upper sets
+incoming_of {lower = lower} {upper = upper} t p e room v l = record {
+  lower_some = p.lower_some;
+  upper_whole = omega (arith, e);
+  room = λ a d b. rw v.long (room (rw (← v.long) a) d b);
+  row = λ a j d b y. row_of t p e (v.rows d (omega arith) y) j b y;
+}
+
+-- No sets, or no states.
+pub incoming_none : {states ts sets : List ℕ} {n k low high lower upper : ℕ} → Parted states n lower low high → n ≡ upper * lower →
+    (1 ≤ length sets → (d : ℕ) → 64 * d < k → (lower + upper) * d + lower + upper ≤ length sets) → (1 ≤ length sets → n ≡ 0) → Incoming states ts n k lower upper sets
+incoming_none p e room none = record { lower_some = p.lower_some; upper_whole = omega (arith, e); room = room; row = λ a j d b y. absurd (let z = none a in omega arith) }
+
+-- Edges that were tested one by one.
+pub row_tested : (ts : List ℕ) (word k c count r : ℕ) → count ≡ min 64 (k - 64 * c) → 64 * c < k → r ≡ set_from (λ q. eqb (bit_and word (edge_mask ts (64 * c + q))) (edge_value ts (64 * c + q))) 0 count → Row ts word k c r
+row_tested ts word k c count r e l h = record {
+  chosen = λ q. eqb (bit_and word (edge_mask ts (64 * c + q))) (edge_value ts (64 * c + q));
+  count = count;
+  few = omega arith;
+  inside = omega arith;
+  whole = λ q d g. omega arith;
+  is = h;
+  missed = λ q d f g. Rattle.tables.proofs.Sweeping.false_true (sym f ∙ eq-eqb (bit_and word (edge_mask ts (64 * c + q))) (edge_value ts (64 * c + q)) g);
+}
+
+-- The upper part of an index, and where its sets are.
+pub upper_is : (j lower h : ℕ) → h * lower ≤ j → j - h * lower < lower → h ≡ j / lower
+upper_is j lower h a b = let e : j ≡ h * lower + (j - h * lower) = omega arith in sym (ap (λ y. y / lower) e ∙ digits_div h b)
+
+pub upper_fits : (j lower inverse : ℕ) → j < 65536 → lower ≤ 64 → inverse < 4294967296 → (j * inverse ≤ 281474976710656) × (j * inverse / 1048576 * lower ≤ 17179869184)
+upper_fits j lower inverse a b d = let e : j ≤ 65536 = omega arith in let f : inverse ≤ 4294967296 = omega arith in let g = mul-le-mul e f in
+    let h : j * inverse / 1048576 ≤ 268435456 = omega (arith, g) in let i = mul-le-mul h b in (omega (arith, g), omega (arith, i))
+
+module _ {states ts sets : List ℕ} {n k lower upper : ℕ} (t : Tests ts k) (v : Incoming states ts n k lower upper sets) (j h c : ℕ) (some : length sets ≡ 0 → ⊥) (l : j < n) (e : h ≡ j / lower) (b : 64 * c < k) where
+  rest_there : j - h * lower ≡ j % lower
+  rest_there = rw e (let d = div-add-mod j lower in omega (arith, d))
+
+  pub row_places : (h * lower ≤ j) × (j - h * lower < lower) × (h < upper) × (c ≤ 8) × ((lower + upper) * c + lower + upper ≤ length sets)
+  row_places = (rw e (div-mul-le_self j lower), rw rest_there (mod-lt j v.lower_some), rw e ((div-lt_iff_lt-mul v.lower_some).1 (omega (arith, l, v.upper_whole))), omega (arith, t.few), v.room (omega arith) c b)
+
+  pub row_there : Row ts (get_or states j 0) k c (bit_and (get_or sets ((lower + upper) * c + (j - h * lower)) 0) (get_or sets ((lower + upper) * c + lower + h) 0))
+  row_there = rw (rest_there, e) (v.row (omega arith) j c l b)

@@ -1,0 +1,136 @@
+-- Laws of the loops over waiting states: the start, at which every state whose entry is 0 waits, the look at all entries, and the taking of one
+-- state after the other. Assumes nothing.
+use Rattle.std.proofs.Common.{◌≡◌, ℕ, zero, suc, ◌+◌, ◌-◌, ◌%◌, ◌<◌, ◌≤◌, cond, List, length, get_or, replicate, sym, refl, ◌∙◌, subst, zero-add, arith}
+use native.Mathlib.Decide.{dec_lt}
+use lib.ListN.{length-replicate}
+use Rattle.planning.proofs.Finite.{get_or_tabulate, length-tabulate}
+use Rattle.tables.specs.Packed.{outcome_count, action_weight}
+use Rattle.tables.specs.Steps.{Space, is_goal, started, total, Settled}
+use Rattle.tables.specs.Waiting.{Waits, Kept}
+use Rattle.tables.specs.Queue.{Queue, Put, Taken}
+use Rattle.tables.specs.Visits.{Visited, GoalsWait, Level}
+use Rattle.tables.proofs.Law.{kept_start, kept_visited, kept_settled, kept_level}
+use Rattle.tables.proofs.Ring.{none_waits, count_few}
+
+-- The states below i whose entry is 0 wait.
+pub record GoalsTo (t : List ℕ) (n : ℕ) (q marks : List ℕ) (c i : ℕ) : Type 0 where
+  pub size : n ≡ length t
+  pub queue : Queue n q marks 0 c
+  pub zeros : (j : ℕ) → j < i → get_or t j 0 ≡ 0 → Waits marks j
+
+pub goals_none : {t q marks : List ℕ} → Queue (length t) q marks 0 0 → GoalsTo t (length t) q marks 0 0
+goals_none v = record { size = refl; queue = v; zeros = λ j l. absurd (omega arith) }
+
+module _ {t : List ℕ} {n : ℕ} {q marks : List ℕ} {c i : ℕ} (v : GoalsTo t n q marks c i) where
+  pub goals_put : {q₁ marks₁ : List ℕ} {d : ℕ} → Put n q marks 0 c i q₁ marks₁ d → GoalsTo t n q₁ marks₁ d (i + 1)
+  goals_put {q₁} {marks₁} p = record { size = v.size; queue = p.queue; zeros = λ j l z. either j l z (dec_lt j i) }
+    where
+      either : (j : ℕ) → j < i + 1 → get_or t j 0 ≡ 0 → Dec (j < i) → Waits marks₁ j
+      either j l z (yes b) = p.still j (v.zeros j b z)
+      either j l z (no b) = let e : j ≡ i = omega arith in rw e p.here
+
+  pub goals_pass : (get_or t i 0 ≡ 0 → ⊥) → GoalsTo t n q marks c (i + 1)
+  goals_pass f = record { size = v.size; queue = v.queue; zeros = λ j l z. either j l z (dec_lt j i) }
+    where
+      either : (j : ℕ) → j < i + 1 → get_or t j 0 ≡ 0 → Dec (j < i) → Waits marks j
+      either j l z (yes b) = v.zeros j b z
+      either j l z (no b) = let e : j ≡ i = omega arith in absurd (f (rw e at z))
+
+  pub goals_all : n ≤ i → GoalsWait t q marks c
+  goals_all l = let e = v.size in record { queue = rw e at v.queue; zeros = λ j b z. v.zeros j (omega arith) z }
+
+-- Marks that are all 0.
+total_zeros : (n : ℕ) → total (replicate n 0) ≡ 0
+unfolding total
+total_zeros zero = refl
+total_zeros (suc n) = omega (arith, total_zeros n)
+
+zeros_at : (n j : ℕ) → ◌≡◌ {A = ℕ} (get_or (replicate n 0) j 0) 0
+zeros_at zero j = refl
+zeros_at (suc n) zero = refl
+zeros_at (suc n) (suc j) = zeros_at n j
+
+pub queue_empty : (n a b : ℕ) → n ≤ a → n ≤ b → n ≤ 4096 → 1 ≤ a → Queue n (replicate a 0) (replicate b 0) 0 0
+queue_empty n a b l₁ l₂ few some = record {
+  ring = rw (length-replicate {A = ℕ} a 0) l₁;
+  room = rw (length-replicate {A = ℕ} b 0) l₂;
+  states_few = few;
+  head_in = rw (length-replicate {A = ℕ} a 0) some;
+  bits = λ j. let z = zeros_at b j in omega (arith, z);
+  inside = λ j w. let z = zeros_at b j in absurd (omega (arith, z, w));
+  counted = total_zeros b;
+  filled = λ k l. absurd (omega arith);
+  apart = λ j k u l. absurd (omega arith);
+}
+
+-- The start is kept.
+pub start_kept : (x : Space) (t q marks : List ℕ) (n c : ℕ) → ((m : ℕ) → m < x.actions → 1 ≤ outcome_count x.task m) → t ≡ started x.task x.mask x.states n → GoalsWait t q marks c → Kept x t t marks
+unfolding started
+start_kept x t q marks n c some e g = rw e (kept_start x n marks some (λ j l u. g.zeros j (rw e (rw (length-tabulate {A = ℕ} (λ i. cond (is_goal x.task x.mask (get_or x.states i 0)) 0 65535) 0 n) l)) (rw e (get_or_tabulate _ 0 n j 0 l ∙ rw (zero-add j, u)))))
+
+-- The states below i were looked at: no entry is above `most`, and none that waits below `least`.
+pub record Seen (t marks : List ℕ) (most least i : ℕ) : Type 0 where
+  pub few : least ≤ 65535
+  pub small : most ≤ 65535
+  pub up : (j : ℕ) → j < i → get_or t j 0 ≤ most
+  pub down : (j : ℕ) → j < i → Waits marks j → least ≤ get_or t j 0
+
+pub seen_none : (t marks : List ℕ) → Seen t marks 0 65535 0
+seen_none t marks = record { few = omega arith; small = omega arith; up = λ j l. absurd (omega arith); down = λ j l. absurd (omega arith) }
+
+pub seen_next : {t marks : List ℕ} {most least most₁ least₁ i : ℕ} → Seen t marks most least i → most ≤ most₁ → get_or t i 0 ≤ most₁ → most₁ ≤ 65535 → least₁ ≤ least → (Waits marks i → least₁ ≤ get_or t i 0) → Seen t marks most₁ least₁ (i + 1)
+seen_next {t} {marks} {most} {least} {most₁} {least₁} {i} v a b s d e = record { few = omega (arith, v.few); small = s; up = λ j l. above j l (dec_lt j i); down = λ j l w. below j l w (dec_lt j i) }
+  where
+    above : (j : ℕ) → j < i + 1 → Dec (j < i) → get_or t j 0 ≤ most₁
+    above j l (yes p) = omega (arith, v.up j p)
+    above j l (no p) = let q : j ≡ i = omega arith in rw q b
+
+    below : (j : ℕ) → j < i + 1 → Waits marks j → Dec (j < i) → least₁ ≤ get_or t j 0
+    below j l w (yes p) = omega (arith, v.down j p w)
+    below j l w (no p) = let q : j ≡ i = omega arith in rw q (e (rw q at w))
+
+pub seen_level : {t marks : List ℕ} {most least i : ℕ} → Seen t marks most least i → length t ≤ i → most ≤ least + 1 → Level t marks
+seen_level v l h = record { small = λ i b. omega (arith, v.up i (omega arith), v.small); near = λ i j b w c. omega (arith, v.up i (omega arith), v.down j (omega arith) w) }
+
+-- The loop: some states wait, and what the worklist keeps is kept.
+pub record Running (x : Space) (first : List ℕ) (n : ℕ) (t q marks : List ℕ) (h c since : ℕ) : Type 0 where
+  pub size : n ≡ length t
+  pub long : length t ≡ length first
+  pub kept : Kept x first t marks
+  pub queue : Queue n q marks h c
+  pub recent : since ≤ n
+
+pub running_start : {x : Space} {t q marks : List ℕ} {h c : ℕ} → Queue (length t) q marks h c → Kept x t t marks → Running x t (length t) t q marks h c 0
+running_start v k = record { size = refl; long = refl; kept = k; queue = v; recent = omega arith }
+
+module _ {x : Space} {first : List ℕ} {n : ℕ} {t q marks : List ℕ} {h c since : ℕ} (v : Running x first n t q marks h c since) where
+  pub running_marks : length t ≤ length marks
+  running_marks = omega (arith, v.size, v.queue.room)
+
+  pub running_sum : since + c ≤ 8192
+  running_sum = omega (arith, v.recent, v.queue.states_few, count_few v.queue)
+
+  pub running_some : 1 ≤ c → 1 ≤ n
+  running_some b = omega (arith, count_few v.queue)
+
+  module _ {marks₁ : List ℕ} {j h₁ : ℕ} (k : Taken n q marks h c marks₁ j) (e : h₁ ≡ (h + 1) % length q) where
+    pub running_queue : Queue (length t) q marks₁ h₁ (c - 1)
+    running_queue = rw (e, sym v.size) k.queue
+
+    pub running_next : {new q₁ marks₂ : List ℕ} {d taken : ℕ} → taken < n → Visited x j t marks₁ (c - 1) new q₁ marks₂ h₁ d → Running x first n new q₁ marks₂ h₁ d (taken + 1)
+    running_next {new} b w = let l = w.going.moved.long in let z : n ≡ length new = v.size ∙ sym l in record {
+      size = z;
+      long = l ∙ v.long;
+      kept = kept_visited j k.others w.going.moved w.heard v.kept;
+      queue = rw z w.going.queue;
+      recent = omega (arith, b);
+    }
+
+  pub running_end : c ≤ 0 → Settled x first t
+  running_end z = kept_settled x first t marks (none_waits v.queue z) v.kept
+
+  pub running_level : ((m : ℕ) → m < x.actions → 1 ≤ action_weight x.task m) → Level t marks → Settled x first t
+  running_level light l = kept_level x first t marks light (λ j w. omega (arith, v.queue.inside j w, v.size)) l v.kept
+
+pub settled_from : {x : Space} {f g u : List ℕ} → f ≡ g → Settled x f u → Settled x g u
+settled_from {x} {f} {g} {u} e s = subst (λ l. Settled x l u) e s

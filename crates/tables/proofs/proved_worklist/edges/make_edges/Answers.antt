@@ -1,0 +1,30 @@
+-- `make_edges`: the edges of one action after the other. Assumes nothing.
+use Rattle.std.proofs.Common.{refl, ◌∙◌, arith}
+use Rattle.tables.proofs.Gathering.{set-falls}
+use Rattle.tables.proofs.Making.{building_start, building_known, building_next, building_end, building_tests}
+use Rattle.tables.proofs.proved_worklist.edges.make_edges.Goals as goal
+
+pub loop-rest-init : goal.loop-rest-init
+loop-rest-init c = let p = c.requires in (refl, refl, building_start p.1 p.6 p.4 p.5)
+
+pub overflow_cast-m : goal.overflow_cast-m
+overflow_cast-m c = let p = c.requires in let k = building_known p.0.actions_few c.loop-rest.invariant.2 c.loop-rest-test.true in record { fits = omega (arith, k.0, p.0.actions_few) }
+
+pub put_action-c-requires : goal.put_action-c-requires
+put_action-c-requires c = let p = c.requires in let v = c.loop-rest.invariant.2 in let k = building_known p.0.actions_few v c.loop-rest-test.true in
+    (omega (arith, k.0, p.0.actions_few), p.0.outcomes_few _ k.0, omega (arith, k.1, p.7), omega (arith, k.1, v.tests_room), omega (arith, k.1, v.edges_room))
+
+pub loop-rest-smaller : goal.loop-rest-smaller
+loop-rest-smaller c = set-falls _ c.loop-rest-test.true
+
+pub loop-rest-preserved : goal.loop-rest-preserved
+loop-rest-preserved c = let p = c.requires in let v = c.loop-rest.invariant in let e = c.put_action-c.ensures in (e.untouched.long_tests ∙ v.0, e.untouched.long_edges ∙ v.1, building_next p.0.actions_few v.2 c.loop-rest-test.true e)
+
+pub shape_of-tests : goal.shape_of-tests
+shape_of-tests c = c.loop-rest.invariant.0
+
+pub shape_of-edges : goal.shape_of-edges
+shape_of-edges c = c.loop-rest.invariant.1
+
+pub returns : goal.returns
+returns c = let p = c.requires in let v = c.loop-rest.invariant.2 in let z = c.loop-rest-test.false in (building_end p.0.actions_few v p.2 p.7 z, building_tests p.0.actions_few v p.2 p.7 z, omega (arith, v.fits))

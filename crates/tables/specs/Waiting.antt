@@ -1,0 +1,50 @@
+-- What a worklist keeps while it lowers the entries of a table: what every action says of every entry was heard, or one of its outcomes
+-- still waits. The order in which states wait is free. Assumes nothing.
+use Rattle.std.specs.Prelude.{◌≡◌, ℕ, ◌+◌, ◌<◌, ◌≤◌, true, false, ◌⊎◌, List, length, slice_index, slice_index_or}
+use Rattle.tables.specs.Packed.{outcome_count}
+use Rattle.tables.specs.Steps.{weigh, Space, after, idles, offer_at, permitted_at, Steps, total}
+
+-- The index of the state after outcome o of action m in state i.
+unfoldable pub index_after : Space → ℕ → ℕ → ℕ → ℕ
+index_after x m i o = weigh x.weights (after x.task x.mask m o (slice_index x.states i))
+
+-- State j waits: its mark is 1.
+abbrev pub Waits : List ℕ → ℕ → Type 0
+Waits marks j = slice_index marks j ≡ 1
+
+-- Action m says no less of entry i, or an outcome of it waits.
+pub data Heard (x : Space) (t marks : List ℕ) (m i : ℕ) : Type 0 where
+  low : slice_index_or t i 0 ≤ offer_at x t m i → Heard x t marks m i
+  later : (o : ℕ) → o < outcome_count x.task m → Waits marks (index_after x m i o) → Heard x t marks m i
+
+-- An outcome of action m leads from state i to state j.
+pub record Leads (x : Space) (m i j : ℕ) : Type 0 where
+  pub outcome : ℕ
+  pub known : outcome < outcome_count x.task m
+  pub there : index_after x m i outcome ≡ j
+
+-- The actions that are asked: those that leave no state as it is, where they are permitted.
+pub record Asks (x : Space) (m i : ℕ) : Type 0 where
+  pub known : m < x.actions
+  pub moves : idles x.task x.mask m ≡ false
+  pub enabled : permitted_at x m i ≡ true
+
+-- What the worklist keeps: the entries came by steps, and every action was heard.
+pub record Kept (x : Space) (first t marks : List ℕ) : Type 0 where
+  pub steps : Steps x first t
+  pub heard : (m i : ℕ) → Asks x m i → i < length t → Heard x t marks m i
+
+-- A change of entries and marks that keeps what was heard: an entry that was lowered waits, what waited still does, and the sum of the
+-- entries and of the number of waiting states does not grow.
+pub record Moved (x : Space) (t marks : List ℕ) (c : ℕ) (new marks₁ : List ℕ) (d : ℕ) : Type 0 where
+  pub long : length new ≡ length t
+  pub steps : Steps x t new
+  pub keeps : (m i : ℕ) → Heard x t marks m i → Heard x new marks₁ m i
+  pub lowered : (j : ℕ) → (slice_index new j ≡ slice_index t j) ⊎ Waits marks₁ j
+  pub still : (j : ℕ) → Waits marks j → Waits marks₁ j
+  pub falls : total new + d ≤ total t + c
+
+-- e is entry j, or j waits again.
+pub data Told (t marks : List ℕ) (j e : ℕ) : Type 0 where
+  is : slice_index_or t j 0 ≡ e → Told t marks j e
+  again : Waits marks j → Told t marks j e

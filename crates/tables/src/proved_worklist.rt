@@ -1,0 +1,11 @@
+// A table by one worklist that is itself proved: the edges of a pattern's abstraction (`edges`), which of them
+// lead into a state (`parts`, `incoming`), going back along them (`visits`), the states that wait (`queue`), the worklist (`worklist`), the
+// table of one pattern (`build`).
+
+pub(crate) mod build;
+mod edges;
+mod incoming;
+mod parts;
+mod queue;
+mod visits;
+mod worklist;

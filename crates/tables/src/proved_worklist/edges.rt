@@ -1,0 +1,191 @@
+// The edges of a pattern's abstraction: for each outcome of an action the test of a state after it, two words, and the way back to the states
+// before it, four words (specs/Edges has their layout). Outcomes of one action that do the same within the pattern share an edge.
+ghost use Rattle.std.specs.Prelude.{◌≡◌, ℕ, ◌+◌, ◌*◌, ◌<◌, ◌≤◌, min, true, not, length, bit_and};
+ghost use Rattle.tables.specs.Packed.{outcome_count, keep_mask, set_value};
+ghost use Rattle.tables.specs.Sets.{set_from};
+ghost use Rattle.tables.specs.Steps.{space, idles, Readable};
+ghost use Rattle.tables.specs.Edges.{outcomes_from, EdgesOf, Regular};
+ghost use Rattle.tables.specs.Incoming.{Tests};
+ghost use Rattle.tables.specs.Made.{LaneOf, back_of, Untouched, EdgePut, Spanned, ActionPut};
+
+use crate::sweep::{index_of, wide};
+
+// A free digit as a lane, and the free digits without it.
+#[derive(Clone, Copy)]
+struct Lane {
+    lane: u64,
+    rest: u64,
+}
+
+// How many values a digit has.
+fn count_of(size: u8) -> u64
+    ensures { (result ≡ size) × (result < 256) }
+{
+    size as u64
+}
+
+// A lane of the lowest free digit: its weight, its place in a word and its number of values. Where there is none it has one value, and adds nothing.
+fn lane_of(weights: &[u16; 16], sizes: [u8; 16], free: u64) -> Lane
+    ensures { (LaneOf weights.now sizes free result.lane result.rest) × (result.lane < 4294967296) }
+{
+    let u = u64::trailing_zeros(free) as usize / 4 % 16;
+    let place = 1u64 << (4 * u);
+    if free / place % 16 != 15 {
+        return Lane {
+            lane: 16777216,
+            rest: free,
+        };
+    }
+    let lane = wide(weights[u]) as u64 + 65536 * (4 * u) as u64 + 16777216 * count_of(sizes[u]);
+    Lane {
+        lane: lane,
+        rest: free - 15 * place,
+    }
+}
+
+// Whether an outcome of action m before outcome o keeps and sets the same within the mask.
+fn is_twin(task: &[u64; 1282], mask: u64, m: usize, o: usize, kept: u64, sets: u64) -> bool
+    requires { (m < 64) × (o ≤ 8) }
+    ensures { result ≡ true → (p : ℕ) × (p < o) × (bit_and (keep_mask task.now m p) mask ≡ kept) × (bit_and (set_value task.now m p) mask ≡ sets) }
+{
+    let mut p = 0usize;
+    while p < o {
+        if task[20 * m + 4 + 2 * p] & mask == kept && task[20 * m + 5 + 2 * p] & mask == sets {
+            return true;
+        }
+        p += 1;
+    }
+    false
+}
+
+// A weight in 16 bits: 65,535 and more make every sum infinite.
+fn cut(w: u64) -> u64
+    ensures { result ≡ min w 65535 }
+{
+    if w < 65535 {
+        return w;
+    }
+    65535
+}
+
+// How the index changes on the way back, modulo 65,536.
+fn way_back(gain: usize, loss: usize) -> u64
+    ensures { (result ≡ back_of gain loss) × (result < 65536) }
+{
+    ((gain % 65536 + 65536 - loss % 65536) % 65536) as u64
+}
+
+// The edge of outcome o of action m as edge e, unless an earlier outcome does the same. Answers where the edges end.
+fn put_edge(
+    task: &[u64; 1282],
+    mask: u64,
+    weights: &[u16; 16],
+    sizes: [u8; 16],
+    tests: &mut [u64],
+    edges: &mut [u64],
+    m: usize,
+    o: usize,
+    e: usize,
+) -> usize
+    requires { (m < 64) × (o < 8) × (e < 512) × (2 * e + 2 ≤ length tests.old) × (4 * e + 4 ≤ length edges.old) }
+    ensures { (Untouched tests.old edges.old tests.new edges.new e) × (EdgePut task.now mask weights.now sizes tests.new edges.new e m o result) }
+{
+    let kept = task[20 * m + 4 + 2 * o] & mask;
+    let sets = task[20 * m + 5 + 2 * o] & mask;
+    if is_twin(task, mask, m, o, kept, sets) {
+        return e;
+    }
+    let need = task[20 * m];
+    let value = task[20 * m + 1];
+    let names = mask - kept;
+    let back = way_back(index_of(weights, value & names), index_of(weights, sets));
+    let one = lane_of(weights, sizes, names - (need & names));
+    let two = lane_of(weights, sizes, one.rest);
+    let weight = cut(task[20 * m + 3]);
+    tests[2 * e] = names | (need & kept);
+    tests[2 * e + 1] = sets | (value & kept);
+    edges[4 * e] = back + 65536 * weight + 4294967296 * m as u64;
+    edges[4 * e + 1] = one.lane + 4294967296 * two.lane;
+    edges[4 * e + 2] = two.rest;
+    e + 1
+}
+
+// The edges of an action are those from `first` to `end`, and each knows it.
+fn put_span(edges: &mut [u64], first: usize, end: usize)
+    requires { (first ≤ end) × (end ≤ 512) × (4 * end ≤ length edges.old) }
+    ensures { Spanned edges.old edges.new first end (first + 1024 * end) }
+{
+    let word = (first + 1024 * end) as u64;
+    let mut e = first;
+    while e < end {
+        edges[4 * e + 3] = word;
+        e += 1;
+    }
+}
+
+// The edges of action m, from number `first` on. Answers where they end.
+fn put_action(
+    task: &[u64; 1282],
+    mask: u64,
+    weights: &[u16; 16],
+    sizes: [u8; 16],
+    tests: &mut [u64],
+    edges: &mut [u64],
+    first: usize,
+    m: usize,
+) -> usize
+    requires { (m < 64) × (outcome_count task.now m ≤ 8) × (first + outcome_count task.now m ≤ 512) × (2 * (first + outcome_count task.now m) ≤ length tests.old) × (4 * (first + outcome_count task.now m) ≤ length edges.old) }
+    ensures { ActionPut task.now mask weights.now sizes tests.old edges.old tests.new edges.new first m result }
+{
+    let n = task[20 * m + 2] as usize;
+    let mut e = first;
+    let mut o = 0usize;
+    while o < n {
+        e = put_edge(task, mask, weights, sizes, tests, edges, m, o, e);
+        o += 1;
+    }
+    put_span(edges, first, e);
+    e
+}
+
+// The edges of the actions that leave no state as it is. Answers how many.
+pub(crate) fn make_edges(
+    task: &[u64; 1282],
+    mask: u64,
+    weights: &[u16; 16],
+    states: &[u64],
+    actions: usize,
+    n: usize,
+    sizes: [u8; 16],
+    live: u64,
+    room: usize,
+    tests: &mut [u64],
+    edges: &mut [u64],
+) -> usize
+    requires { (Readable task.now actions) × (live ≡ set_from (λ m. not (idles task.now mask m)) 0 actions) × (Regular (space task.now mask weights.now states.now actions) sizes n) × (length weights.now ≤ 16) × (2 * room ≤ length tests.old) × (4 * room ≤ length edges.old) × (outcomes_from task.now mask 0 actions ≤ room) × (room ≤ 512) }
+    ensures { (EdgesOf (space task.now mask weights.now states.now actions) sizes n tests.new edges.new result) × (Tests tests.new result) × (result ≤ room) }
+{
+    let mut c = 0usize;
+    let mut rest = live;
+    while rest != 0 {
+        let m = u64::trailing_zeros(rest) as usize;
+        c = put_action(task, mask, weights, sizes, tests, edges, c, m);
+        rest = rest & (rest - 1);
+    }
+    c
+}
+
+// How many outcomes the actions have that leave no state as it is: they have no more edges.
+pub(crate) fn edge_count(task: &[u64; 1282], mask: u64, actions: usize, live: u64) -> usize
+    requires { (Readable task.now actions) × (live ≡ set_from (λ m. not (idles task.now mask m)) 0 actions) }
+    ensures { (result ≡ outcomes_from task.now mask 0 actions) × (result ≤ 512) }
+{
+    let mut c = 0usize;
+    let mut rest = live;
+    while rest != 0 {
+        let m = u64::trailing_zeros(rest) as usize;
+        c = c + task[20 * m + 2] as usize;
+        rest = rest & (rest - 1);
+    }
+    c
+}

@@ -1,0 +1,198 @@
+// Which edges lead into a state: the index is split into a lower and an upper part, and for each part and each 64 edges there is one set of
+// edges. The meet of the two sets misses no edge that leads into the state; going along another edge does no harm. A table of few states has
+// no sets, and its edges are tested one by one.
+ghost use Rattle.std.specs.Prelude.{◌≡◌, ℕ, ◌+◌, ◌-◌, ◌*◌, ◌/◌, ◌<◌, ◌≤◌, min, true, length, slice_index};
+ghost use Rattle.tables.specs.Sets.{set_from, SlotsOf};
+ghost use Rattle.tables.specs.Incoming.{Row, Tests, Parted, Incoming, edge_need, digits_meet, PartFilled, EdgeRow};
+
+use crate::applying::enter;
+use crate::sweep::joined;
+
+// Enters the edges from `first` on, `count` of them, in the slots of what their tests ask of each digit, and
+// hands back the set of all of them.
+fn enter_edges(tests: &[u64], first: usize, count: usize, slots: &mut [u64]) -> u64
+    requires { (length slots.old ≡ 272) × (count ≤ 64) × (first + count ≤ 512) × (2 * (first + count) ≤ length tests.now) × ((i : ℕ) → slice_index slots.old i ≡ 0) }
+    ensures { (SlotsOf (edge_need tests.now first) count 16 slots.new) × (result ≡ set_from (λ q. true) 0 count) }
+{
+    let mut all = 0u64;
+    let mut bit = 1u64;
+    for q in 0..count {
+        let at = 2 * (first + q);
+        enter(slots, tests[at], tests[at + 1], bit, 16);
+        all = all | bit;
+        bit = bit % 9223372036854775808 * 2;
+    }
+    all
+}
+
+// Those of a set of edges whose tests the digits of a word within a part pass.
+fn meet_digits(slots: &[u64; 272], all: u64, part: u64, word: u64) -> u64
+    ensures { result ≡ digits_meet slots.now part word all 0 16 }
+{
+    let mut set = all;
+    let mut rest = part;
+    let mut w = word;
+    let mut v = 0usize;
+    while v < 16 {
+        if rest == 0 {
+            return set;
+        }
+        if rest % 16 != 0 {
+            set = set & (slots[17 * v + (w % 16) as usize] | slots[17 * v + 16]);
+        }
+        rest = rest / 16;
+        w = w / 16;
+        v += 1;
+    }
+    set
+}
+
+// The sets of a part from place `base` on: for each of n states, `step` apart.
+fn fill_part(
+    states: &[u64],
+    slots: &[u64; 272],
+    all: u64,
+    part: u64,
+    step: usize,
+    n: usize,
+    base: usize,
+    sets: &mut [u64],
+)
+    requires { (1 ≤ step) × (n * step ≤ length states.now) × (base + n ≤ length sets.old) }
+    ensures { PartFilled states.now slots.now sets.old sets.new all part step n base }
+{
+    let mut h = 0usize;
+    let mut at = 0usize;
+    while h < n {
+        sets[base + h] = meet_digits(slots, all, part, states[at]);
+        at += step;
+        h += 1;
+    }
+}
+
+fn at_most_64(x: usize) -> usize
+    ensures { result ≡ min 64 x }
+{
+    if x < 64 {
+        return x;
+    }
+    64
+}
+
+// The row of the edges from `first` on, `count` of them.
+fn fill_row(
+    states: &[u64],
+    tests: &[u64],
+    first: usize,
+    count: usize,
+    low: u64,
+    high: u64,
+    lower: usize,
+    upper: usize,
+    base: usize,
+    sets: &mut [u64],
+)
+    requires { (count ≤ 64) × (first + count ≤ 512) × (2 * (first + count) ≤ length tests.now) × (1 ≤ lower) × (lower ≤ length states.now) × (upper * lower ≤ length states.now) × (base + lower + upper ≤ length sets.old) }
+    ensures { (EdgeRow states.now tests.now sets.new low high lower upper first count base) × ((i : ℕ) → i < base → slice_index sets.new i ≡ slice_index sets.old i) }
+{
+    let mut slots = [0u64; 272];
+    let all = enter_edges(tests, first, count, &mut slots);
+    fill_part(states, &slots, all, low, 1, lower, base, sets);
+    fill_part(states, &slots, all, high, lower, upper, base + lower, sets);
+}
+
+// Every row, if there is room for sets at all.
+pub(crate) fn fill_sets(
+    states: &[u64],
+    tests: &[u64],
+    n: usize,
+    k: usize,
+    low: u64,
+    high: u64,
+    lower: usize,
+    upper: usize,
+    sets: &mut [u64],
+)
+    requires { (Tests tests.now k) × (Parted states.now n lower low high) × (n ≡ upper * lower) × (n ≤ length states.now) × (upper ≤ 1024) × ((1 ≤ length sets.old → (c : ℕ) → 64 * c < k → (lower + upper) * c + lower + upper ≤ length sets.old)) }
+    ensures { Incoming states.now tests.now n k lower upper sets.new }
+{
+    if sets.len() == 0 {
+        return;
+    }
+    if upper == 0 {
+        return;
+    }
+    let mut c = 0usize;
+    let mut base = 0usize;
+    while 64 * c < k {
+        let count = at_most_64(k - 64 * c);
+        fill_row(
+            states,
+            tests,
+            64 * c,
+            count,
+            low,
+            high,
+            lower,
+            upper,
+            base,
+            sets,
+        );
+        base += lower + upper;
+        c += 1;
+    }
+}
+
+// The edges of row c whose tests a word passes, tried one by one.
+fn tested(tests: &[u64], word: u64, k: usize, c: usize) -> u64
+    requires { (Tests tests.now k) × (64 * c < k) }
+    ensures { Row tests.now word k c result }
+{
+    let count = at_most_64(k - 64 * c);
+    let mut set = 0u64;
+    let mut bit = 1u64;
+    for q in 0..count {
+        let at = 2 * (64 * c + q);
+        set = joined(set, bit, word & tests[at] == tests[at + 1]);
+        bit = bit % 9223372036854775808 * 2;
+    }
+    set
+}
+
+// j / lower by a product; the division itself is made only where that is off.
+pub(crate) fn upper_part(j: usize, lower: usize, inverse: usize) -> usize
+    requires { (j < 65536) × (1 ≤ lower) × (lower ≤ 64) × (inverse < 4294967296) }
+    ensures { result ≡ j / lower }
+{
+    let h = j * inverse / 1048576;
+    let at = h * lower;
+    if at <= j {
+        if j - at < lower {
+            return h;
+        }
+    }
+    j / lower
+}
+
+// The edges of row c that may lead into state j, whose upper part is h.
+pub(crate) fn edges_into(
+    states: &[u64],
+    tests: &[u64],
+    n: usize,
+    k: usize,
+    lower: usize,
+    upper: usize,
+    sets: &[u64],
+    j: usize,
+    h: usize,
+    c: usize,
+) -> u64
+    requires { (Tests tests.now k) × (Incoming states.now tests.now n k lower upper sets.now) × (j < n) × (n ≤ length states.now) × (n ≤ 4096) × (lower ≤ 64) × (upper ≤ 1024) × (h ≡ j / lower) × (64 * c < k) }
+    ensures { Row tests.now (slice_index states.now j) k c result }
+{
+    if sets.len() == 0 {
+        return tested(tests, states[j], k, c);
+    }
+    let base = (lower + upper) * c;
+    sets[base + (j - h * lower)] & sets[base + lower + h]
+}

@@ -1,9 +1,0 @@
--- `tables_worklist::compile::named_digits` meets its contract. Assumes nothing.
-use Rattle.std.proofs.Common.{◌-◌, ap, ◌∙◌}
-use Rattle.tables_worklist.specs.Packed.{digit_by}
-use Rattle.tables_worklist.proofs.Packing.{left_are_not_named}
-use Rattle.tables_worklist.proofs.compile.named_digits.Goals as goal
-
-pub returns-then-pre-eq16 : goal.returns-then-pre-eq16
-unfolding digit_by
-returns-then-pre-eq16 c = ap (λ k. 18446744073709551615 - k) c.requires.1 ∙ left_are_not_named c.args.pre.now c.if-pre-eq16.true
