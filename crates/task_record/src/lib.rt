@@ -8,5 +8,6 @@ mod blocks;
 pub mod cells;
 mod columns;
 pub mod layout;
+mod measured;
 pub mod record;
 pub mod refusal;

@@ -18,6 +18,5 @@ pub returns : goal.returns
 returns c =
     let loop = c.loop-j in
     let loop-test = c.loop-j-test in
-    let over = c.over in
-    let t = loop-test.false in let e = over.ensures in
+    let t = loop-test.false in
     λ h j l. let b = loop.invariant.1 j (omega arith) (omega arith) in omega arith

@@ -1,6 +1,10 @@
 -- `check_record`: the length, then all cells at once, then the lowest bad offset; in numbers lines 5 and 6. Assumes nothing.
-use Rattle.std.proofs.Common.{◌≡◌, ℕ, List, sym, ap, ◌∙◌, le-ltb, lt-ltb, Result, Ok}
-use Rattle.task_record.specs.Record.{record_check, Sound}
+use Rattle.std.proofs.Common.{◌≡◌, ℕ, length, List, sym, ap, ◌∙◌, le-ltb, lt-ltb, Result, Ok, Err}
+use Rattle.task_record.specs.Record.{cell_ok, first_bad, record_check, Sound}
+use Rattle.task_record.specs.Layout.{record_size}
+use Rattle.task_record.specs.Scan.{first_from}
+use Rattle.task_record.specs.declared.refusal.Refusal.TheVariants.{WrongCell}
+use Rattle.task_record.proofs.Scanning.{scan_found, scan_passed}
 use Rattle.planning.specs.Numbers.{answered}
 use Rattle.task_record.specs.Answers.{record_numbers, record_by_lines}
 use Rattle.task_record.specs.declared.refusal.Refusal.{Refusal}
@@ -22,16 +26,14 @@ returns-then-is_sound c = let both = let is-sound = c.is_sound in
     let if2 = c.if-is_sound in
     told _ _ (sym (is-sound.ensures if2.true)) in record { value = both.0; numbers = both.1 }
 
-pub returns-then-k-lt-RECORD_SIZE : goal.returns-then-k-lt-RECORD_SIZE
-unfolding record_check
-returns-then-k-lt-RECORD_SIZE c = let both = let if1 = c.if-rec-lt-RECORD_SIZE in
-    let first-bad = c.first_bad-k in
-    let if3 = c.if-k-lt-RECORD_SIZE in
-    told _ _ (simp (← first-bad.ensures, le-ltb _ _ if1.false, lt-ltb _ _ if3.true)) in record { value = both.0; numbers = both.1 }
+pub returns-in-Ok : goal.returns-in-Ok
+unfolding record_check first_bad
+returns-in-Ok c = let both = let r = c.args.rec.now in
+    let l = scan_passed (cell_ok r) 0 record_size (sym c.scan_cells.ensures ∙ c.in-Ok.is) in
+    told r (Ok tt) (rw (le-ltb (length r) record_size c.if-rec-lt-RECORD_SIZE.false, le-ltb (first_from (cell_ok r) 0 record_size) record_size l)) in record { value = both.0; numbers = both.1 }
 
-pub returns : goal.returns
-unfolding record_check
-returns c = let both = let if1 = c.if-rec-lt-RECORD_SIZE in
-    let first-bad = c.first_bad-k in
-    let if3 = c.if-k-lt-RECORD_SIZE in
-    told _ _ (simp (← first-bad.ensures, le-ltb _ _ if1.false, le-ltb _ _ if3.false)) in record { value = both.0; numbers = both.1 }
+pub returns-in-Err : goal.returns-in-Err
+unfolding record_check first_bad
+returns-in-Err c = let both = let r = c.args.rec.now in
+    let f = scan_found (cell_ok r) 0 record_size c.in-Err.offset (sym c.scan_cells.ensures ∙ c.in-Err.is) in
+    told r (Err (WrongCell c.in-Err.offset)) (rw (le-ltb (length r) record_size c.if-rec-lt-RECORD_SIZE.false, f.0, lt-ltb c.in-Err.offset record_size f.1)) in record { value = both.0; numbers = both.1 }
