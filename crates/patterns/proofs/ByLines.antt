@@ -13,6 +13,7 @@ use Rattle.task_record.specs.declared.refusal.Refusal.TheVariants.{LargePattern,
 use Rattle.task_record.proofs.ByLines.{line-told, after_record_lem, after_state_lem, after_after, told_alone}
 use Rattle.patterns.specs.Space.{first_large, judge_tables, table_check}
 use Rattle.patterns.specs.Additivity.{additivity_of, additivity}
+use Rattle.patterns.specs.declared.verdict.Conflict.{Conflict}
 use Rattle.patterns.specs.Estimate.{after_verdict, judge_estimate, estimate_check}
 use Rattle.patterns.specs.Value.{value_of, read_value, state_value}
 use Rattle.patterns.specs.Answers.{large_pattern, table_entries, short_tables, unless_conflict, not_additive, table_numbers, conflict_numbers, additivity_numbers, estimate_numbers, finite_numbers, value_numbers, tables_by_lines, estimate_by_lines, verdict_numbers, additivity_by_lines, sum_numbers, value_by_lines}
@@ -41,36 +42,25 @@ after_estimate_lem f r lent next = let v = verdict (task_of r) (patterns_of r) i
     ∙ after_tables_lem f r lent (λ n. after (after_verdict (additivity_of v)) next)
     ∙ ap (λ t. large_pattern r (short_tables r lent t)) (verdict-told f next v)
 
-pub tables_told : (r : List ℕ) (lent : ℕ) → table_numbers (table_check r lent) ≡ tables_by_lines r lent
-unfolding tables_by_lines
-tables_told r lent = let f = (λ (n : ℕ). answered 0 n 0 0) in
-    after_record_lem f r (λ u. judge_tables (task_of r).sizes (patterns_of r) lent)
+-- What each call says where it answers as its definition does.
+pub tables_told : (x : Result ℕ Refusal) (r : List ℕ) (lent : ℕ) → x ≡ table_check r lent → table_numbers x ≡ tables_by_lines r lent
+unfolding table_numbers tables_by_lines
+tables_told x r lent e = let f = (λ (n : ℕ). answered 0 n 0 0) in
+    ap (answer_numbers f) e ∙ after_record_lem f r (λ u. judge_tables (task_of r).sizes (patterns_of r) lent)
     ∙ ap (λ t. short_record r (bad_cell r t)) (told_alone f (judge_tables (task_of r).sizes (patterns_of r) lent) ∙ after_tables_lem f r lent (λ n. Ok n))
 
-pub estimate_told : (r : List ℕ) (lent : ℕ) → estimate_numbers (estimate_check r lent) ≡ estimate_by_lines r lent
-unfolding estimate_by_lines
-estimate_told r lent = let f = (λ (u : Unit {0}). answered 0 0 0 0) in
-    after_record_lem f r (λ u. judge_estimate r lent)
+pub estimate_told : (x : Result Unit Refusal) (r : List ℕ) (lent : ℕ) → x ≡ estimate_check r lent → estimate_numbers x ≡ estimate_by_lines r lent
+unfolding estimate_numbers estimate_by_lines
+estimate_told x r lent e = let f = (λ (u : Unit {0}). answered 0 0 0 0) in
+    ap (answer_numbers f) e ∙ after_record_lem f r (λ u. judge_estimate r lent)
     ∙ ap (λ t. short_record r (bad_cell r t)) (told_alone f (judge_estimate r lent) ∙ after_estimate_lem f r lent (λ u. Ok u))
 
 conflict_told : (v : Verdict) → conflict_numbers (additivity_of v) ≡ verdict_numbers v
-unfolding additivity_of verdict_numbers
+unfolding conflict_numbers additivity_of verdict_numbers
 conflict_told additive = refl
 conflict_told (conflict m p q) = refl
 
-pub additivity_told : (r : List ℕ) → additivity_numbers (additivity r) ≡ additivity_by_lines r
-unfolding additivity_by_lines
-additivity_told r = let v = verdict (task_of r) (patterns_of r) in
-    after_record_lem conflict_numbers r (λ u. Ok (additivity_of v)) ∙ ap (λ t. short_record r (bad_cell r t)) (conflict_told v)
-
-sum_told : (n : ℕ∞) → finite_numbers (value_of n) ≡ sum_numbers n
-unfolding value_of sum_numbers
-sum_told (fin n) = refl
-sum_told inf = refl
-
-pub value_told : (r s tabs : List ℕ) → value_numbers (state_value r s tabs) ≡ value_by_lines r s tabs
-unfolding value_by_lines
-value_told r s tabs = let f = finite_numbers in let v = value_of (read_value r s tabs) in
-    after_record_lem f r (λ u. after (judge_estimate r (length tabs)) (λ u. after (judge_state r s) (λ u. Ok v)))
-    ∙ ap (λ t. short_record r (bad_cell r t)) (after_estimate_lem f r (length tabs) (λ u. after (judge_state r s) (λ u. Ok v)))
-    ∙ ap (λ t. short_record r (bad_cell r (large_pattern r (short_tables r (length tabs) (not_additive r t))))) (after_state_lem f r s (λ u. Ok v) ∙ ap (bad_state r s) (sum_told (read_value r s tabs)))
+pub additivity_told : (x : Result (Option Conflict) Refusal) (r : List ℕ) → x ≡ additivity r → additivity_numbers x ≡ additivity_by_lines r
+unfolding additivity_numbers additivity_by_lines
+additivity_told x r e = let v = verdict (task_of r) (patterns_of r) in
+    ap (answer_numbers conflict_numbers) e ∙ after_record_lem conflict_numbers r (λ u. Ok (additivity_of v)) ∙ ap (λ t. short_record r (bad_cell r t)) (conflict_told v)
