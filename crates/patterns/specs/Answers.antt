@@ -13,27 +13,27 @@ use Rattle.patterns.specs.Value.{read_value}
 use Rattle.patterns.specs.declared.verdict.Conflict.{Conflict}
 
 -- Kind 0: the entries needed.
-unfoldable pub table_numbers : Result ℕ Refusal → Numbers
+abbrev pub table_numbers : Result ℕ Refusal → Numbers
 table_numbers checked = answer_numbers (λ needed. answered 0 needed 0 0) checked
 
 -- Kind 0: yes. Kind 1: no, with the move and the two patterns.
-unfoldable pub conflict_numbers : Option Conflict → Numbers
+abbrev pub conflict_numbers : Option Conflict → Numbers
 conflict_numbers None = answered 0 0 0 0
 conflict_numbers (Some found) = answered 1 found.action found.lower found.upper
 
-unfoldable pub additivity_numbers : Result (Option Conflict) Refusal → Numbers
+abbrev pub additivity_numbers : Result (Option Conflict) Refusal → Numbers
 additivity_numbers judged = answer_numbers conflict_numbers judged
 
 -- Kind 0: values can be read.
-unfoldable pub estimate_numbers : Result Unit Refusal → Numbers
+abbrev pub estimate_numbers : Result Unit Refusal → Numbers
 estimate_numbers checked = answer_numbers (λ ready. answered 0 0 0 0) checked
 
 -- Kind 0: the value. Kind 1: infinite.
-unfoldable pub finite_numbers : Option ℕ → Numbers
+abbrev pub finite_numbers : Option ℕ → Numbers
 finite_numbers (Some value) = answered 0 value 0 0
 finite_numbers None = answered 1 0 0 0
 
-unfoldable pub value_numbers : Result (Option ℕ) Refusal → Numbers
+abbrev pub value_numbers : Result (Option ℕ) Refusal → Numbers
 value_numbers answer = answer_numbers finite_numbers answer
 
 -- "tables, value, search: 7, pattern above 4,096 states; lowest such pattern".

@@ -1,5 +1,5 @@
 -- `state_value`: what the check of record and state says decides which of the two goes on; in numbers lines 5 to 10. Assumes nothing.
-use Rattle.std.proofs.Common.{◌≡◌, ℕ, List, length, refl, sym, ap, ◌∙◌, Result, Ok, Option, Some, None}
+use Rattle.std.proofs.Common.{◌≡◌, ℕ, List, length, refl, sym, ap, ◌∙◌, Result, Ok, Option}
 use Rattle.planning.specs.Extended.{ℕ∞, fin, inf}
 use Rattle.task_record.specs.Answers.{short_record, bad_cell, bad_state}
 use Rattle.task_record.specs.Refusals.{answer_numbers, after}
@@ -14,12 +14,12 @@ use Rattle.patterns.proofs.Refusals.{value_of_good, late_refusal_sound, value_of
 use Rattle.patterns.proofs.value.state_value.Goals as goal
 
 sum_told : (n : ℕ∞) → finite_numbers (value_of n) ≡ sum_numbers n
-unfolding finite_numbers value_of sum_numbers
+unfolding value_of sum_numbers
 sum_told (fin n) = refl
 sum_told inf = refl
 
 told : (x : Result (Option ℕ) Refusal) (r s tabs : List ℕ) → x ≡ state_value r s tabs → value_numbers x ≡ value_by_lines r s tabs
-unfolding value_numbers value_by_lines
+unfolding value_by_lines
 told x r s tabs e = let f = finite_numbers in let v = value_of (read_value r s tabs) in
     ap (answer_numbers f) e ∙ after_record_lem f r (λ u. after (judge_estimate r (length tabs)) (λ u. after (judge_state r s) (λ u. Ok v)))
     ∙ ap (λ t. short_record r (bad_cell r t)) (after_estimate_lem f r (length tabs) (λ u. after (judge_state r s) (λ u. Ok v)))
