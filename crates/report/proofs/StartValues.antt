@@ -1,6 +1,6 @@
 -- The value of the start on the tables that a search leaves: the value call refuses nothing there and answers the summed estimate.
 -- Assumes nothing.
-use mathlib.Core.Path.{◌≡◌, refl, ap, ◌∙◌}
+use mathlib.Core.Path.{◌≡◌, ap, ◌∙◌}
 use mathlib.Core.List.{List}
 use Prim.Native.Nat.{ℕ, ◌≤◌}
 use native.Mathlib.Nat.{zero-add, sub-zero}

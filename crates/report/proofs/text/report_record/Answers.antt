@@ -9,17 +9,17 @@ use Rattle.report.proofs.Stored.{puts_then}
 use Rattle.report.proofs.text.report_record.Goals as goal
 
 pub slice_bounds-put_found-end : goal.slice_bounds-put_found-end
-slice_bounds-put_found-end c = let e = answer_told _ _ _ _ c.in-Ok-Found.field-0-is c.in-Ok-Found.is c.search.ensures.answer in
+slice_bounds-put_found-end c = let e = answer_told c.in-Ok-Found.field-0 _ _ _ c.in-Ok-Found.field-0-is c.in-Ok-Found.is c.search.ensures.answer in
     let l = c.search.auto in
     omega (arith, found_within c.args.rec.now c.args.tables.now c.args.plan.now _ _ _ e)
 
 pub slice_bounds-put_found-end-in-Ok-Found : goal.slice_bounds-put_found-end-in-Ok-Found
-slice_bounds-put_found-end-in-Ok-Found c = let e = answer_told _ _ _ _ c.in-Ok-Found.field-0-is c.in-Ok-Found.is c.search.ensures.answer in
+slice_bounds-put_found-end-in-Ok-Found c = let e = answer_told c.in-Ok-Found.field-0 _ _ _ c.in-Ok-Found.field-0-is c.in-Ok-Found.is c.search.ensures.answer in
     let l = c.search.auto in
     sym (length-take-le _ _ (omega (arith, found_within c.args.rec.now c.args.tables.now c.args.plan.now _ _ _ e)))
 
 pub put_found-requires : goal.put_found-requires
-put_found-requires c = let e = answer_told _ _ _ _ c.in-Ok-Found.field-0-is c.in-Ok-Found.is c.search.ensures.answer in
+put_found-requires c = let e = answer_told c.in-Ok-Found.field-0 _ _ _ c.in-Ok-Found.field-0-is c.in-Ok-Found.is c.search.ensures.answer in
     (c.put_start_value.ensures.short, simp length-take (omega (arith, found_short c.args.rec.now c.args.tables.now c.args.plan.now _ _ _ e)))
 
 pub returns-in-Err-clause-written : goal.returns-in-Err-clause-written
@@ -27,25 +27,25 @@ returns-in-Err-clause-written c = rw (refusal-told _ _ _ _ (sym c.in-Err.is ∙ 
 
 pub returns-in-Ok-Found-clause-written : goal.returns-in-Ok-Found-clause-written
 returns-in-Ok-Found-clause-written c = let s = c.search.ensures in
-    let e = answer_told _ _ _ _ c.in-Ok-Found.field-0-is c.in-Ok-Found.is s.answer in
+    let e = answer_told c.in-Ok-Found.field-0 _ _ _ c.in-Ok-Found.field-0-is c.in-Ok-Found.is s.answer in
     rw (found-told _ _ _ _ _ _ e _ _ refl s.plan) (puts_then (c.put_start_value.ensures.written _ (start-value-told _ _ _ _ e s.tables)) c.put_found.ensures.written)
 
 pub returns-in-Ok-Found-clause-short : goal.returns-in-Ok-Found-clause-short
 returns-in-Ok-Found-clause-short c = let s = c.search.ensures in
-    let e = answer_told _ _ _ _ c.in-Ok-Found.field-0-is c.in-Ok-Found.is s.answer in
+    let e = answer_told c.in-Ok-Found.field-0 _ _ _ c.in-Ok-Found.field-0-is c.in-Ok-Found.is s.answer in
     omega (arith, c.put_found.ensures.short, c.put_start_value.ensures.short, length-take c.in-Ok-Found.bytes c.search.new.plan, found_within c.args.rec.now c.args.tables.now c.args.plan.now _ _ _ e)
 
 pub returns-in-Ok-Over-clause-written : goal.returns-in-Ok-Over-clause-written
 returns-in-Ok-Over-clause-written c = let s = c.search.ensures in
-    let e = answer_told _ _ _ _ c.in-Ok-Over.field-0-is c.in-Ok-Over.is s.answer in
+    let e = answer_told c.in-Ok-Over.field-0 _ _ _ c.in-Ok-Over.field-0-is c.in-Ok-Over.is s.answer in
     rw (over-told _ _ _ _ e) (puts_then (c.put_start_value-in-Ok-Over.ensures.written _ (start-value-told _ _ _ _ e s.tables)) c.put_over.ensures.written)
 
 pub returns-in-Ok-Spent-clause-written : goal.returns-in-Ok-Spent-clause-written
 returns-in-Ok-Spent-clause-written c = let s = c.search.ensures in
-    let e = answer_told _ _ _ _ c.in-Ok-Spent.field-0-is c.in-Ok-Spent.is s.answer in
+    let e = answer_told c.in-Ok-Spent.field-0 _ _ _ c.in-Ok-Spent.field-0-is c.in-Ok-Spent.is s.answer in
     rw (spent-told _ _ _ _ _ e) (puts_then (c.put_start_value-in-Ok-Spent.ensures.written _ (start-value-told _ _ _ _ e s.tables)) c.put_spent.ensures.written)
 
 pub returns-in-Ok-None-clause-written : goal.returns-in-Ok-None-clause-written
 returns-in-Ok-None-clause-written c = let s = c.search.ensures in
-    let e = answer_told _ _ _ _ c.in-Ok-None.field-0-is c.in-Ok-None.is s.answer in
+    let e = answer_told c.in-Ok-None.field-0 _ _ _ c.in-Ok-None.field-0-is c.in-Ok-None.is s.answer in
     rw (none_told _ _ _ _ e) (puts_then (c.put_start_value-in-Ok-None.ensures.written _ (start-value-told _ _ _ _ e s.tables)) c.put_none.ensures.written)
