@@ -8,7 +8,7 @@ pub loop-i-init : goal.loop-i-init
 loop-i-init c = seen_none _ _
 
 pub loop-i-preserved : goal.loop-i-preserved
-loop-i-preserved c = let l = c.loop-i in let v = l.invariant in let e = c.wide-e.ensures in
+loop-i-preserved c = let l = c.loop-i in let v = l.invariant in let e = c.from-e.ensures in
     let m = c.if-most-e.most in let t = c.args.entries.now in
     let up : (l.most ≤ m) × (get_or t l.i 0 ≤ m) × (m ≤ 65535) = elim c.if-most-e.branch [ then-most-e w ↦ omega (arith, w.most-is, w.if-most-e.true, e) | else-most-e w ↦ omega (arith, w.most-is, w.if-most-e.false, e, v.small) ] in
     elim c.if-marks-i-eq1.branch [
