@@ -12,7 +12,7 @@ use Rattle.task_record.proofs.ByLines.{line-told, after_record_lem, after_after,
 use Rattle.patterns.specs.Space.{first_large, judge_tables, table_check}
 use Rattle.patterns.specs.Additivity.{additivity_of, additivity}
 use Rattle.patterns.specs.Estimate.{after_verdict, judge_estimate, estimate_check}
-use Rattle.patterns.specs.Answers.{large_pattern, table_entries, short_tables, unless_conflict, not_additive, table_numbers, conflict_numbers, additivity_numbers, estimate_numbers, tables_by_lines, estimate_by_lines, verdict_numbers, additivity_by_lines}
+use Rattle.patterns.specs.Answers.{large_pattern, table_entries, short_tables, unless_conflict, not_additive, conflict_numbers, tables_by_lines, estimate_by_lines, verdict_numbers, additivity_by_lines}
 
 -- Lines 7 and 8.
 pub after_tables_lem : {B : Type 0} → (f : B → Numbers) → (r : List ℕ) → (lent : ℕ) → (next : ℕ → Result B Refusal)
