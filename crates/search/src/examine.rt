@@ -32,6 +32,7 @@ pub(crate) enum Ending {
 }
 
 // A state to examine: its value, the depth left and the count so far.
+// Stays: an infinite value is a number from 65,535 on: entries are added as they stand in the tables, and one test against the depth serves both.
 #[derive(Clone, Copy)]
 pub(crate) struct Visit {
     pub s: u64,

@@ -22,6 +22,7 @@ pub(crate) struct Guide {
     pub budget: u32,
     pub limit: u32,
     // The pattern that each action may move a state in, 8 where there is none.
+    // Stays: 8 stands in a table of bytes that every outcome reads, and `p < patterns` is the one test that an Option would need too.
     pub owners: [u8; 64],
 }
 

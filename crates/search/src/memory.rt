@@ -5,6 +5,7 @@
 ghost use Rattle.std.specs.Prelude.{◌≡◌, ◌<◌, ◌≤◌, true, length};
 ghost use Rattle.search.specs.Memory.{said, result_word, Recalls, Noted};
 
+// Stays: four numbers in one word, since memory is fixed and a field for each would make a slot half as large again.
 #[derive(Clone, Copy)]
 pub(crate) struct Slot {
     pub state: u64,
@@ -14,6 +15,7 @@ pub(crate) struct Slot {
 pub(crate) const EMPTY: Slot = Slot { state: 0, word: 0 };
 
 // After how many examinations a state ends, the size of its plan (0: it fails) and the plan's first byte.
+// Stays: 0 for a failure, since the same cell is a place in the buffer where slots say where plans stand (`written`), and 0 is one of those.
 #[derive(Clone, Copy)]
 pub(crate) struct Recalled {
     pub made: u32,
