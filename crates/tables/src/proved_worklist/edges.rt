@@ -8,7 +8,7 @@ ghost use Rattle.tables.specs.Edges.{outcomes_from, EdgesOf, Regular};
 ghost use Rattle.tables.specs.Incoming.{Tests};
 ghost use Rattle.tables.specs.Made.{LaneOf, back_of, Untouched, EdgePut, Spanned, ActionPut};
 
-use crate::sweep::{index_of, wide};
+use crate::sweep::index_of;
 use std::marker::Model;
 
 // The abstract states of a pattern with the edges between them: what the build works on, the tests and words of the edges, and for each state the
@@ -49,13 +49,6 @@ struct Lane {
     rest: u64,
 }
 
-// How many values a digit has.
-fn count_of(size: u8) -> u64
-    ensures { (result ≡ size) × (result < 256) }
-{
-    size as u64
-}
-
 // A lane of the lowest free digit: its weight, its place in a word and its number of values. Where there is none it has one value, and adds nothing.
 fn lane_of(weights: &[u16; 16], sizes: [u8; 16], free: u64) -> Lane
     ensures { (LaneOf weights.now sizes free result.lane result.rest) × (result.lane < 4294967296) }
@@ -68,7 +61,7 @@ fn lane_of(weights: &[u16; 16], sizes: [u8; 16], free: u64) -> Lane
             rest: free,
         };
     }
-    let lane = wide(weights[u]) as u64 + 65536 * (4 * u) as u64 + 16777216 * count_of(sizes[u]);
+    let lane = u64::from(weights[u]) + 65536 * (4 * u) as u64 + 16777216 * u64::from(sizes[u]);
     Lane {
         lane: lane,
         rest: free - 15 * place,

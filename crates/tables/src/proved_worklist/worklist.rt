@@ -58,18 +58,12 @@ fn is_level(entries: &[u16], marks: &[u8]) -> bool
 {
     let mut most = 0usize;
     let mut least = 65535usize;
-    let mut i = 0usize;
-    while i < entries.len() {
-        let e = usize::from(entries[i]);
-        if most < e {
-            most = e;
-        }
+    for (i, entry) in entries.iter().enumerate() {
+        let e = usize::from(*entry);
+        most = most.max(e);
         if marks[i] == 1 {
-            if e < least {
-                least = e;
-            }
+            least = least.min(e);
         }
-        i += 1;
     }
     most <= least + 1
 }

@@ -1,6 +1,6 @@
 -- `tables::proved_worklist::visits::visit_edge` meets its contract. Assumes nothing.
-use Rattle.std.proofs.Common.{◌≡◌, sym, refl, ◌∙◌, arith}
-use Rattle.tables.specs.Edges.{edge_lanes, way_back}
+use Rattle.std.proofs.Common.{sym, refl, ◌∙◌, arith}
+use Rattle.tables.specs.Edges.{way_back}
 use Rattle.tables.proofs.Visiting.{going_none}
 use Rattle.tables.proofs.Rounds.{queue_as}
 use Rattle.tables.proofs.Graphs.{edges_here}

@@ -1,5 +1,5 @@
 -- `tables::proved_worklist::worklist::run` meets its contract. Assumes nothing.
-use Rattle.std.proofs.Common.{◌≡◌, ◌<◌, length, ◌∙◌, sym, arith}
+use Rattle.std.proofs.Common.{◌≡◌, ◌<◌, length, arith}
 use Rattle.tables.proofs.Rounds.{queue_as}
 use Rattle.tables.proofs.Starting.{running_start, running_sum, running_some, running_next, running_end, running_level}
 use Rattle.tables.proofs.proved_worklist.worklist.run.Goals as goal

@@ -10,20 +10,20 @@ use Rattle.patterns.specs.Additivity.{additivity_of}
 use Rattle.patterns.proofs.Affected.{verdict-at_start}
 use Rattle.patterns.proofs.Gathering.{set_half, set_odd, set_even}
 use Rattle.patterns.proofs.Reading.{affects_at, affected_from, patterns_passed, pattern_spared, pattern_affected, actions_passed, no_pattern, one_pattern, two_patterns}
-use Rattle.patterns.proofs.verdict.scan.Goals.{else-loop-p-test, then-loop-p-test+then-left-eq1+else-loop-q-test}
-use Rattle.patterns.proofs.verdict.scan.Goals as goal
+use Rattle.patterns.proofs.verdict.Members.scan.Goals.{else-loop-p-test, then-loop-p-test+then-left-eq1+else-loop-q-test}
+use Rattle.patterns.proofs.verdict.Members.scan.Goals as goal
 
 pub affected_set-left-requires : goal.affected_set-left-requires
-affected_set-left-requires c = rw c.of-members.ensures (rw c.loop-m.invariant.2 at c.loop-m-test.true)
+affected_set-left-requires c = (rw c.loop-m.invariant.2 at c.loop-m-test.true)
 
 pub loop-m-init : goal.loop-m-init
-loop-m-init c = let r = c.args.rec.now in (verdict-at_start (task_of r) (patterns_of r), omega arith, c.action_count-actions.ensures, c.pattern_count-patterns.ensures)
+loop-m-init c = let r = c.args.self.now in (verdict-at_start (task_of r) (patterns_of r), omega arith, rw c.self.view_is at c.action_count-actions.ensures, rw c.self.view_is at c.pattern_count-patterns.ensures)
 
 pub loop-p-init : goal.loop-p-init
-loop-p-init c = (refl, omega arith, rw sub-zero (rw c.of-members.ensures at c.affected_set-left.ensures))
+loop-p-init c = (refl, omega arith, rw sub-zero c.affected_set-left.ensures)
 
 pub loop-q-init : goal.loop-q-init
-loop-q-init c = let r = c.args.rec.now in let s = c.loop-m in let l = c.loop-p in
+loop-q-init c = let r = c.args.self.now in let s = c.loop-m in let l = c.loop-p in
     let t = rw s.invariant.3 at c.loop-p-test.true in (
       l.invariant.0 ∙ pattern_affected r s.m l.p t (set_odd (affects_at r s.m) l.p (pattern_count r) t (rw l.invariant.2 at c.if-left-eq1.true)),
       omega arith,
@@ -31,7 +31,7 @@ loop-q-init c = let r = c.args.rec.now in let s = c.loop-m in let l = c.loop-p i
     )
 
 pub loop-q-preserved : goal.loop-q-preserved
-loop-q-preserved c = let r = c.args.rec.now in let s = c.loop-m in let l = c.loop-q in
+loop-q-preserved c = let r = c.args.self.now in let s = c.loop-m in let l = c.loop-q in
     let t = rw s.invariant.3 at c.loop-q-test.true in (
       l.invariant.0 ∙ ap (λ x. c.loop-p.p ∷ x) (pattern_spared r s.m l.q t (set_even (affects_at r s.m) l.q (pattern_count r) t (rw l.invariant.2 at c.if-left-eq1-2.false))),
       omega arith,
@@ -39,7 +39,7 @@ loop-q-preserved c = let r = c.args.rec.now in let s = c.loop-m in let l = c.loo
     )
 
 pub loop-p-preserved : goal.loop-p-preserved
-loop-p-preserved c = let r = c.args.rec.now in let s = c.loop-m in let l = c.loop-p in
+loop-p-preserved c = let r = c.args.self.now in let s = c.loop-m in let l = c.loop-p in
     let t = rw s.invariant.3 at c.loop-p-test.true in (
       l.invariant.0 ∙ pattern_spared r s.m l.p t (set_even (affects_at r s.m) l.p (pattern_count r) t (rw l.invariant.2 at c.if-left-eq1.false)),
       omega arith,
@@ -47,7 +47,7 @@ loop-p-preserved c = let r = c.args.rec.now in let s = c.loop-m in let l = c.loo
     )
 
 pub loop-m-preserved : goal.loop-m-preserved
-loop-m-preserved c = let r = c.args.rec.now in let s = c.loop-m in let l = c.loop-p in
+loop-m-preserved c = let r = c.args.self.now in let s = c.loop-m in let l = c.loop-p in
     let t = rw s.invariant.2 at c.loop-m-test.true in
     elim c.loop-p-test.branch [
       | else-loop-p-test w ↦ (s.invariant.0 ∙ no_pattern r s.m t (l.invariant.0 ∙ patterns_passed r s.m l.p (rw s.invariant.3 at w.loop-p-test.false)), omega arith, s.invariant.2, s.invariant.3)
@@ -57,11 +57,11 @@ loop-m-preserved c = let r = c.args.rec.now in let s = c.loop-m in let l = c.loo
 
 pub returns : goal.returns
 unfolding additivity_of
-returns c = let u = c.loop-m in sym (ap additivity_of (u.invariant.0 ∙ actions_passed c.args.rec.now u.m (rw u.invariant.2 at c.loop-m-test.false)))
+returns c = let u = c.loop-m in sym (ap additivity_of (u.invariant.0 ∙ actions_passed c.args.self.now u.m (rw u.invariant.2 at c.loop-m-test.false)))
 
 pub returns-then-left-eq1-2 : goal.returns-then-left-eq1-2
 unfolding additivity_of
-returns-then-left-eq1-2 c = let r = c.args.rec.now in let s = c.loop-m in let l = c.loop-p in let k = c.loop-q in
+returns-then-left-eq1-2 c = let r = c.args.self.now in let s = c.loop-m in let l = c.loop-p in let k = c.loop-q in
     let t = rw s.invariant.3 at c.loop-q-test.true in
     rw (c.from.ensures, c.from-then-left-eq1-2.ensures, c.from-then-left-eq1-2-2.ensures) (sym (ap additivity_of (s.invariant.0 ∙ two_patterns r s.m (rw s.invariant.2 at c.loop-m-test.true) l.p k.q (affected_from r s.m (k.q + 1))
     (k.invariant.0 ∙ ap (λ x. l.p ∷ x) (pattern_affected r s.m k.q t (set_odd (affects_at r s.m) k.q (pattern_count r) t (rw k.invariant.2 at c.if-left-eq1-2.true)))))))
