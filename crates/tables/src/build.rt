@@ -53,7 +53,7 @@ fn make(
         start(task, mask, states, entries);
         return;
     }
-    candidate(task, mask, weights, sizes, actions, entries);
+    candidate(task, mask, weights, &sizes, actions, entries);
     finish(task, mask, weights, states, actions, live, bytes, entries);
 }
 
