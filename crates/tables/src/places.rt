@@ -2,7 +2,6 @@
 // bit 16 on l + 64 u, where l numbers the values of the pattern's first variables (its lower part, at most 64 states) and u those of the others
 // (its upper part). Each of the three is a sum of digits times weights, so a place is one too, and an outcome adds the same number to the places of
 // all states that it changes in the same way, modulo 2^32. A pattern of at most 4,096 states has at most six variables in either part.
-ghost use Rattle.std.specs.Prelude.{◌≡◌, length, slice_index_or};
 ghost use Rattle.std.specs.Iterator.{at_most};
 
 // The lowest bit of every variable's digit.
@@ -33,9 +32,7 @@ pub(crate) fn variables(digits: u64) -> Members {
 }
 
 // What stands at a place of an array, and `or` past its end.
-pub(crate) fn at_or<T: Copy>(xs: &[T], i: usize, or: T) -> T
-    ensures { result ≡ slice_index_or xs.now i or }
-{
+pub(crate) fn at_or<T: Copy>(xs: &[T], i: usize, or: T) -> T {
     if i < xs.len() {
         return xs[i];
     }
@@ -43,9 +40,7 @@ pub(crate) fn at_or<T: Copy>(xs: &[T], i: usize, or: T) -> T
 }
 
 // Nothing is put past an array's end.
-pub(crate) fn put<T: Copy>(xs: &mut [T], i: usize, x: T)
-    ensures { length xs.new ≡ length xs.old }
-{
+pub(crate) fn put<T: Copy>(xs: &mut [T], i: usize, x: T) {
     if i < xs.len() {
         xs[i] = x;
     }

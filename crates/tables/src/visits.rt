@@ -1,8 +1,6 @@
 // Visits: what follows for the states before a settled one. A state is settled when its entry is finite; it then stands in the queue, in the order of
 // the entries. An action with several outcomes has a counter at every state of those that lead to settled states: since states are settled in the
 // order of their entries, the outcome that completes the count is the worst one. Nothing of that is in a contract.
-ghost use Rattle.tables.specs.Candidate.{Kept};
-
 use crate::edges::{Edge, Sources};
 use crate::incoming::{Graph, Row};
 use crate::offsets::Offsets;
@@ -32,18 +30,14 @@ impl Worklist<'_> {
     }
 
     // The state gets its entry, and stands at the end of the queue.
-    fn settle(&mut self, place: u32, cost: u16)
-        ensures { Kept self.old self.new }
-    {
+    fn settle(&mut self, place: u32, cost: u16) {
         put(self.entries, index_in(place), cost);
         put(self.queue, self.tail, place);
         self.tail = self.tail.wrapping_add(1);
     }
 
     // One outcome more of an edge's action leads from this state to a settled one: whether all do.
-    fn is_complete(&mut self, edge: &Edge, place: u32) -> bool
-        ensures { Kept self.old self.new }
-    {
+    fn is_complete(&mut self, edge: &Edge, place: u32) -> bool {
         if edge.outcomes < 2 {
             return true;
         }
@@ -55,9 +49,7 @@ impl Worklist<'_> {
 
     // The states that differ from the one at a place only in some variables, by the lists of the lower and of the upper ones: all that an action does
     // leads from them to settled states.
-    pub(crate) fn visit_face(&mut self, lower: &[u32], upper: &[u32], place: u32, cost: u16)
-        ensures { Kept self.old self.new }
-    {
+    pub(crate) fn visit_face(&mut self, lower: &[u32], upper: &[u32], place: u32, cost: u16) {
         for y in upper {
             let row = place.wrapping_add(*y);
             for x in lower {
@@ -70,9 +62,7 @@ impl Worklist<'_> {
     }
 
     // The states that an edge leads from to the one at a place. Most states are settled when they are visited, so for one that is asked before the counter.
-    fn visit_edge(&mut self, edge: &Edge, offsets: &Offsets<'_>, place: u32, cost: u16)
-        ensures { Kept self.old self.new }
-    {
+    fn visit_edge(&mut self, edge: &Edge, offsets: &Offsets<'_>, place: u32, cost: u16) {
         let from = place.wrapping_add(edge.back);
         match edge.sources {
             Sources::One => {
@@ -97,18 +87,14 @@ impl Worklist<'_> {
     }
 
     // The edges of a set in a row.
-    fn visit_row(&mut self, row: &Row, set: u64, offsets: &Offsets<'_>, place: u32, cost: u16)
-        ensures { Kept self.old self.new }
-    {
+    fn visit_row(&mut self, row: &Row, set: u64, offsets: &Offsets<'_>, place: u32, cost: u16) {
         for b in Members(set) {
             self.visit_edge(row.edge(b), offsets, place, cost);
         }
     }
 
     // The edges that lead to the state at a place.
-    pub(crate) fn visit_before(&mut self, graph: &Graph<'_>, offsets: &Offsets<'_>, place: u32)
-        ensures { Kept self.old self.new }
-    {
+    pub(crate) fn visit_before(&mut self, graph: &Graph<'_>, offsets: &Offsets<'_>, place: u32) {
         let cost = self.cost_before(place);
         for (w, row) in graph.rows().iter().enumerate() {
             let set = row.lower_set(place) & graph.upper_set(w, place);

@@ -1,6 +1,6 @@
 // From the goals backwards: candidate entries for a pattern's table. No contract says that they are right; whoever asks for them makes sure of that. The
 // arrays are of three sizes, since clearing them is most of what a small table costs.
-ghost use Rattle.std.specs.Prelude.{◌≡◌, ◌≤◌, length};
+ghost use Rattle.std.specs.Prelude.{◌≤◌};
 
 use crate::edges::make_edges;
 use crate::incoming::{Graph, Row};
@@ -25,7 +25,6 @@ fn settle_within<const COUNTERS: usize>(
     queue: &mut [u32],
 )
     requires { COUNTERS ≤ 262144 }
-    ensures { length entries.new ≡ length entries.old }
 {
     let mut counters = [0u8; COUNTERS];
     let mut work = Worklist {
@@ -47,9 +46,7 @@ fn settle_counted(
     offsets: &Offsets<'_>,
     entries: &mut [u16],
     queue: &mut [u32],
-)
-    ensures { length entries.new ≡ length entries.old }
-{
+) {
     let counters = graph.counters();
     if counters <= 4096 {
         settle_within::<4096>(goals, graph, offsets, entries, queue);
@@ -68,7 +65,6 @@ fn candidate_within<
     const STATES: usize,
 >(task: &[u64; 1282], mask: u64, columns: &Columns, actions: usize, entries: &mut [u16]) -> bool
     requires { (actions ≤ 64) × (ROWS ≤ 8) × (SETS ≤ 6656) × (OFFSETS ≤ 7295) × (STATES ≤ 4096) }
-    ensures { length entries.new ≡ length entries.old }
 {
     let mut rows = [Row::EMPTY; ROWS];
     let mut upper = [0u64; SETS];
@@ -98,7 +94,6 @@ fn candidate_from(
     entries: &mut [u16],
 )
     requires { actions ≤ 64 }
-    ensures { length entries.new ≡ length entries.old }
 {
     let has_room = if entries.len() <= 512 {
         candidate_within::<1, 128, 895, 512>(task, mask, columns, actions, entries)
@@ -120,7 +115,6 @@ pub(crate) fn candidate(
     entries: &mut [u16],
 )
     requires { actions ≤ 64 }
-    ensures { length entries.new ≡ length entries.old }
 {
     if task[1280] & mask == 0 {
         entries.fill(0);
