@@ -18,16 +18,14 @@ use Rattle.task_record.specs.Numbers.{action_count}
 use Rattle.task_record.specs.Record.{Sound}
 use Rattle.task_record.specs.State.{state_check}
 use Rattle.task_record.specs.TaskOf.{action_of, task_of, patterns_of}
-use Rattle.task_record.specs.declared.record.StateCheck.TheVariants as of-state
+use Rattle.std.proofs.Common.{Ok, Some, None}
 use Rattle.task_record.proofs.SoundTask.{all_tabulate, sound_well_formed}
 use Rattle.task_record.proofs.States.{checked_good, good_values}
 use Rattle.patterns.specs.Space.{entries_needed}
 use Rattle.patterns.specs.Additivity.{additivity_of}
-use Rattle.patterns.specs.Estimate.{after_verdict, judge_estimate}
-use Rattle.patterns.specs.Value.{value_of, after_estimate, values_of, read_value, state_value}
-use Rattle.patterns.specs.declared.estimate.EstimateCheck.TheVariants as of-estimate
-use Rattle.patterns.specs.declared.value.StateValue.TheVariants as answer
-use Rattle.patterns.proofs.Refusals.{verdict_decides, ready_means, value_of_good, answered_means, finite, infinite, read_finite, read_infinite}
+use Rattle.patterns.specs.Estimate.{judge_estimate}
+use Rattle.patterns.specs.Value.{value_of, values_of, read_value, state_value}
+use Rattle.patterns.proofs.Refusals.{verdict_decides, ready_means, value_of_good, answered_means, read_finite, read_infinite}
 use Rattle.patterns.proofs.Room.{fits_small, small_fits}
 
 -- What a build leaves has as many entries as are needed.
@@ -48,14 +46,14 @@ module _ (r s rest : List ℕ) where
   built = tables (task_of r) (patterns_of r) ++ rest
 
   -- On these tables the call refuses nothing but the record, the state, and patterns that are too large or not additive.
-  pub built_ready : Small (task_of r) (patterns_of r) → Additive (task_of r) (patterns_of r) → judge_estimate r (length built) ≡ of-estimate.Ready
-  unfolding Small after_verdict additivity_of
+  pub built_ready : Small (task_of r) (patterns_of r) → Additive (task_of r) (patterns_of r) → judge_estimate r (length built) ≡ Ok tt
+  unfolding Small additivity_of
   built_ready small add =
       let l = length-append (tables (task_of r) (patterns_of r)) rest in let e = built_length (task_of r) (patterns_of r) in
       let f = small_fits (task_of r).sizes (patterns_of r) (length built) small (omega arith) in
       verdict_decides r (length built) f (ap additivity_of ((verdict-additive (task_of r) (patterns_of r)).1 add))
 
-  module _ (good : state_check r s ≡ of-state.Good) where
+  module _ (good : state_check r s ≡ Ok tt) where
     sound : Sound r
     sound = (checked_good r s good).0
 
@@ -69,12 +67,11 @@ module _ (r s rest : List ℕ) where
       read_of_built = value_of_built (task_of r) (values_of r s) state (unit_weights r) (patterns_of r) small rest
 
       -- The call answers the summed estimate.
-      pub call_on_built : Additive (task_of r) (patterns_of r) → state_value r s built ≡ value_of (estimate (task_of r) (patterns_of r) (values_of r s))
-      unfolding after_estimate
+      pub call_on_built : Additive (task_of r) (patterns_of r) → state_value r s built ≡ Ok (value_of (estimate (task_of r) (patterns_of r) (values_of r s)))
       call_on_built add = value_of_good r s built good ∙ rw (built_ready small add, read_of_built)
 
   -- What a call that refuses nothing has found out.
-  module _ (good : state_check r s ≡ of-state.Good) (ready : judge_estimate r (length built) ≡ of-estimate.Ready) where
+  module _ (good : state_check r s ≡ Ok tt) (ready : judge_estimate r (length built) ≡ Ok tt) where
     ready_small : Small (task_of r) (patterns_of r)
     unfolding Small
     ready_small = let k = ready_means r (length built) ready in fits_small (task_of r).sizes (patterns_of r) (length built) k.0.0 k.0.1
@@ -83,18 +80,18 @@ module _ (r s rest : List ℕ) where
     ready_additive = (verdict-additive (task_of r) (patterns_of r)).0 (ready_means r (length built) ready).1
 
   -- A finite answer is at most the cost of every strong plan from the state.
-  pub finite_answer_admissible : (n : ℕ) → state_value r s built ≡ answer.Finite n → (p : Plan) → Strong (system (task_of r)) p (values_of r s) → n ≤ cost (system (task_of r)) p
+  pub finite_answer_admissible : (n : ℕ) → state_value r s built ≡ Ok (Some n) → (p : Plan) → Strong (system (task_of r)) p (values_of r s) → n ≤ cost (system (task_of r)) p
   unfolding read_value
   finite_answer_admissible n h p q =
-      let k = answered_means r s built (answer.Finite n) (finite n) h in
+      let k = answered_means r s built (Some n) h in
       let e = read_finite (read_value r s built) n k.2 in
       let a = built_value_admissible (task_of r) (sound_well_formed r (sound k.0)) (patterns_of r) (ready_additive k.0 k.1) (ready_small k.0 k.1) (unit_weights r) rest p (values_of r s) (state k.0) q in
       leb→le n (cost (system (task_of r)) p) (rw e at a)
 
   -- An infinite answer means that there is no strong plan from the state.
-  pub infinite_answer_no_plan : state_value r s built ≡ answer.Infinite → (p : Plan) → Strong (system (task_of r)) p (values_of r s) → ⊥
+  pub infinite_answer_no_plan : state_value r s built ≡ Ok None → (p : Plan) → Strong (system (task_of r)) p (values_of r s) → ⊥
   unfolding read_value
   infinite_answer_no_plan h p q =
-      let k = answered_means r s built answer.Infinite infinite h in
+      let k = answered_means r s built None h in
       let e = read_infinite (read_value r s built) k.2 in
       built_value_infinite (task_of r) (sound_well_formed r (sound k.0)) (patterns_of r) (ready_additive k.0 k.1) (ready_small k.0 k.1) (unit_weights r) rest (values_of r s) (state k.0) e p q

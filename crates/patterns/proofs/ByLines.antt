@@ -1,43 +1,76 @@
 -- What a call says in numbers after room and patterns were judged: the lines 7 and 8, or 7, 8 and 9, of "Where a call can say no", and below
--- them what it judges. Assumes nothing.
-use mathlib.Core.Path.{◌≡◌}
-use mathlib.Core.List.{List}
-use Prim.Native.Nat.{ℕ}
-use lib.Dec.{ltb}
-use lib.ListN.{length}
-use Rattle.planning.specs.Numbers.{Numbers, refusal}
+-- them what it judges; and what each call of this crate says, line by line. Assumes nothing.
+use Rattle.std.proofs.Common.{◌≡◌, ℕ, ltb, List, length, refl, ap, ◌∙◌, Result, Ok}
+use Rattle.planning.specs.Extended.{ℕ∞, fin, inf}
+use Rattle.planning.specs.Numbers.{Numbers, answered, refused_if}
 use Rattle.planning.specs.Pattern.{Verdict, additive, conflict, verdict}
+use Rattle.task_record.specs.Answers.{short_record, bad_cell, bad_state}
+use Rattle.task_record.specs.Refusals.{answer_numbers, after}
+use Rattle.task_record.specs.State.{judge_state}
 use Rattle.task_record.specs.TaskOf.{task_of, patterns_of}
-use Rattle.task_record.proofs.ByLines.{line-told}
-use Rattle.patterns.specs.Space.{first_large, judge_tables}
-use Rattle.patterns.specs.Additivity.{additivity_of}
-use Rattle.patterns.specs.Estimate.{after_verdict, after_tables, judge_estimate}
-use Rattle.patterns.specs.Answers.{large_pattern, table_entries, short_tables, unless_conflict, not_additive}
-use Rattle.patterns.specs.declared.space.TableCheck.{TableCheck}
-use Rattle.patterns.specs.declared.space.TableCheck.TheVariants as of-tables
-use Rattle.patterns.specs.declared.estimate.EstimateCheck.{EstimateCheck}
-use Rattle.patterns.specs.declared.estimate.EstimateCheck.TheVariants as of-estimate
+use Rattle.task_record.specs.declared.refusal.Refusal.{Refusal}
+use Rattle.task_record.specs.declared.refusal.Refusal.TheVariants.{LargePattern, ShortTables}
+use Rattle.task_record.proofs.ByLines.{line-told, after_record_lem, after_state_lem, after_after, told_alone}
+use Rattle.patterns.specs.Space.{first_large, judge_tables, table_check}
+use Rattle.patterns.specs.Additivity.{additivity_of, additivity}
+use Rattle.patterns.specs.Estimate.{after_verdict, judge_estimate, estimate_check}
+use Rattle.patterns.specs.Value.{value_of, read_value, state_value}
+use Rattle.patterns.specs.Answers.{large_pattern, table_entries, short_tables, unless_conflict, not_additive, table_numbers, conflict_numbers, additivity_numbers, estimate_numbers, finite_numbers, value_numbers, tables_by_lines, estimate_by_lines, verdict_numbers, additivity_by_lines, sum_numbers, value_by_lines}
 
--- Lines 7 and 8: an answer `after` the test of the room, told by `f`, that hands on the test's refusal.
-pub after_tables_lem : {A : Type 0} → (f : A → Numbers) → (after : TableCheck → A) → (r : List ℕ) → (lent : ℕ) → (judged : Numbers)
-    → ((number second : ℕ) → f (after (of-tables.Refused number second)) ≡ refusal number second) → f (after (of-tables.Fits (table_entries r))) ≡ judged
-    → f (after (judge_tables (task_of r).sizes (patterns_of r) lent)) ≡ large_pattern r (short_tables r lent judged)
-unfolding judge_tables large_pattern short_tables table_entries
-after_tables_lem f after r lent judged refused fits = let k = first_large 0 (task_of r).sizes (patterns_of r) in
-    line-told (λ t. f (after t)) (ltb k (length (patterns_of r))) _ _ 7 k _ (refused 7 k)
-    (line-told (λ t. f (after t)) (ltb lent (table_entries r)) _ _ 8 (table_entries r) judged (refused 8 (table_entries r)) fits)
+-- Lines 7 and 8.
+pub after_tables_lem : {B : Type 0} → (f : B → Numbers) → (r : List ℕ) → (lent : ℕ) → (next : ℕ → Result B Refusal)
+    → answer_numbers f (after (judge_tables (task_of r).sizes (patterns_of r) lent) next) ≡ large_pattern r (short_tables r lent (answer_numbers f (next (table_entries r))))
+unfolding judge_tables large_pattern short_tables table_entries refused_if
+after_tables_lem f r lent next = let k = first_large 0 (task_of r).sizes (patterns_of r) in
+    line-told f (ltb k (length (patterns_of r))) (LargePattern k) _ next _
+    (line-told f (ltb lent (table_entries r)) (ShortTables (table_entries r)) (Ok (table_entries r)) next _ refl)
 
 -- Line 9.
-verdict-told : {A : Type 0} → (f : A → Numbers) → (after : Verdict → A) → (judged : Numbers)
-    → ((m p q : ℕ) → f (after (conflict m p q)) ≡ refusal 9 m) → f (after additive) ≡ judged → (v : Verdict) → f (after v) ≡ unless_conflict v judged
-unfolding unless_conflict
-verdict-told f after judged refused ready additive = ready
-verdict-told f after judged refused ready (conflict m p q) = refused m p q
+verdict-told : {B : Type 0} → (f : B → Numbers) → (next : Unit {0} → Result B Refusal) → (v : Verdict)
+    → answer_numbers f (after (after_verdict (additivity_of v)) next) ≡ unless_conflict v (answer_numbers f (next tt))
+unfolding additivity_of unless_conflict
+verdict-told f next additive = refl
+verdict-told f next (conflict m p q) = refl
 
 -- Lines 7, 8 and 9.
-pub after_estimate_lem : {A : Type 0} → (f : A → Numbers) → (after : EstimateCheck → A) → (r : List ℕ) → (lent : ℕ) → (judged : Numbers)
-    → ((number second : ℕ) → f (after (of-estimate.Refused number second)) ≡ refusal number second) → f (after of-estimate.Ready) ≡ judged
-    → f (after (judge_estimate r lent)) ≡ large_pattern r (short_tables r lent (not_additive r judged))
-unfolding judge_estimate after_tables after_verdict additivity_of not_additive
-after_estimate_lem f after r lent judged refused ready = after_tables_lem f (λ t. after (after_tables t (after_verdict (additivity_of (verdict (task_of r) (patterns_of r)))))) r lent _ refused
-    (verdict-told f (λ v. after (after_verdict (additivity_of v))) judged (λ m p q. refused 9 m) ready (verdict (task_of r) (patterns_of r)))
+pub after_estimate_lem : {B : Type 0} → (f : B → Numbers) → (r : List ℕ) → (lent : ℕ) → (next : Unit {0} → Result B Refusal)
+    → answer_numbers f (after (judge_estimate r lent) next) ≡ large_pattern r (short_tables r lent (not_additive r (answer_numbers f (next tt))))
+unfolding judge_estimate not_additive
+after_estimate_lem f r lent next = let v = verdict (task_of r) (patterns_of r) in
+    ap (answer_numbers f) (after_after (judge_tables (task_of r).sizes (patterns_of r) lent) (λ n. after_verdict (additivity_of v)) next)
+    ∙ after_tables_lem f r lent (λ n. after (after_verdict (additivity_of v)) next)
+    ∙ ap (λ t. large_pattern r (short_tables r lent t)) (verdict-told f next v)
+
+pub tables_told : (r : List ℕ) (lent : ℕ) → table_numbers (table_check r lent) ≡ tables_by_lines r lent
+unfolding tables_by_lines
+tables_told r lent = let f = (λ (n : ℕ). answered 0 n 0 0) in
+    after_record_lem f r (λ u. judge_tables (task_of r).sizes (patterns_of r) lent)
+    ∙ ap (λ t. short_record r (bad_cell r t)) (told_alone f (judge_tables (task_of r).sizes (patterns_of r) lent) ∙ after_tables_lem f r lent (λ n. Ok n))
+
+pub estimate_told : (r : List ℕ) (lent : ℕ) → estimate_numbers (estimate_check r lent) ≡ estimate_by_lines r lent
+unfolding estimate_by_lines
+estimate_told r lent = let f = (λ (u : Unit {0}). answered 0 0 0 0) in
+    after_record_lem f r (λ u. judge_estimate r lent)
+    ∙ ap (λ t. short_record r (bad_cell r t)) (told_alone f (judge_estimate r lent) ∙ after_estimate_lem f r lent (λ u. Ok u))
+
+conflict_told : (v : Verdict) → conflict_numbers (additivity_of v) ≡ verdict_numbers v
+unfolding additivity_of verdict_numbers
+conflict_told additive = refl
+conflict_told (conflict m p q) = refl
+
+pub additivity_told : (r : List ℕ) → additivity_numbers (additivity r) ≡ additivity_by_lines r
+unfolding additivity_by_lines
+additivity_told r = let v = verdict (task_of r) (patterns_of r) in
+    after_record_lem conflict_numbers r (λ u. Ok (additivity_of v)) ∙ ap (λ t. short_record r (bad_cell r t)) (conflict_told v)
+
+sum_told : (n : ℕ∞) → finite_numbers (value_of n) ≡ sum_numbers n
+unfolding value_of sum_numbers
+sum_told (fin n) = refl
+sum_told inf = refl
+
+pub value_told : (r s tabs : List ℕ) → value_numbers (state_value r s tabs) ≡ value_by_lines r s tabs
+unfolding value_by_lines
+value_told r s tabs = let f = finite_numbers in let v = value_of (read_value r s tabs) in
+    after_record_lem f r (λ u. after (judge_estimate r (length tabs)) (λ u. after (judge_state r s) (λ u. Ok v)))
+    ∙ ap (λ t. short_record r (bad_cell r t)) (after_estimate_lem f r (length tabs) (λ u. after (judge_state r s) (λ u. Ok v)))
+    ∙ ap (λ t. short_record r (bad_cell r (large_pattern r (short_tables r (length tabs) (not_additive r t))))) (after_state_lem f r s (λ u. Ok v) ∙ ap (bad_state r s) (sum_told (read_value r s tabs)))

@@ -15,7 +15,7 @@ digit_or true false = refl
 digit_or false true = refl
 digit_or false false = refl
 
-digit_small : (a : Bool) → cond a 1 0 < 2
+pub digit_small : (a : Bool) → cond a 1 0 < 2
 digit_small true = omega arith
 digit_small false = omega arith
 

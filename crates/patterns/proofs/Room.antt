@@ -12,7 +12,8 @@ use Rattle.planning.specs.Finite.{All}
 use Rattle.planning.specs.Table.{state_count}
 use Rattle.planning.proofs.Test.{by_test}
 use Rattle.patterns.specs.Space.{first_large, entries_needed, judge_tables}
-use Rattle.patterns.specs.declared.space.TableCheck.TheVariants.{Fits, Refused}
+use Rattle.task_record.specs.declared.refusal.Refusal.TheVariants.{LargePattern, ShortTables}
+use Rattle.std.proofs.Common.{Ok, Err}
 use Rattle.patterns.proofs.Weights.{drop_all}
 
 module _ (zs : List ℕ) (ps : List (List ℕ)) where
@@ -37,7 +38,7 @@ module _ (zs : List ℕ) (ps : List (List ℕ)) where
     }
 
     -- A pattern that is too large is the lowest such one.
-    pub judged_large : (lent : ℕ) → p < length ps → 4096 < state_count zs (get_or ps p []) → judge_tables zs ps lent ≡ Refused 7 p
+    pub judged_large : (lent : ℕ) → p < length ps → 4096 < state_count zs (get_or ps p []) → judge_tables zs ps lent ≡ Err (LargePattern p)
     unfolding judge_tables first_large
     judged_large lent l s = let e : first_large 0 zs ps ≡ p = a.none_large ∙ rw (drop-cons ps p [] l, lt-ltb 4096 (state_count zs (get_or ps p [])) s) in rw (e, lt-ltb p (length ps) l)
 
@@ -51,11 +52,11 @@ module _ (zs : List ℕ) (ps : List (List ℕ)) where
       unfolding entries_needed
       all_added = a.needed ∙ rw (drop_all ps p l) (omega arith)
 
-      pub judged_short : lent < n → judge_tables zs ps lent ≡ Refused 8 n
+      pub judged_short : lent < n → judge_tables zs ps lent ≡ Err (ShortTables n)
       unfolding judge_tables
       judged_short s = rw (le-ltb (first_large 0 zs ps) (length ps) past_last, all_added, lt-ltb lent n s)
 
-      pub judged_fits : n ≤ lent → judge_tables zs ps lent ≡ Fits n
+      pub judged_fits : n ≤ lent → judge_tables zs ps lent ≡ Ok n
       unfolding judge_tables
       judged_fits s = rw (le-ltb (first_large 0 zs ps) (length ps) past_last, all_added, le-ltb lent n s)
 
@@ -68,13 +69,13 @@ module _ (zs : List ℕ) (ps : List (List ℕ)) where
       (λ e. let l : k + suc (length qs) ≤ first_large (suc k) zs qs = rw e at h in (ltb-false 4096 (state_count zs p) e, none_large_small (suc k) qs (omega arith)))
 
   -- Tables that fit: every pattern is small, and there is room for all.
-  pub fits_small : (lent n : ℕ) → judge_tables zs ps lent ≡ Fits n → All (λ p. state_count zs p ≤ 4096) ps
+  pub fits_small : (lent n : ℕ) → judge_tables zs ps lent ≡ Ok n → All (λ p. state_count zs p ≤ 4096) ps
   unfolding judge_tables
   fits_small lent n h = by_test (ltb (first_large 0 zs ps) (length ps))
       (λ e. let r = rw e at h in let z : ◌≡◌ {A = ℕ} 0 1 = cc in absurd (omega arith))
       (λ e. let l = ltb-false (first_large 0 zs ps) (length ps) e in none_large_small 0 ps (omega arith))
 
-  pub fits_room : (lent n : ℕ) → judge_tables zs ps lent ≡ Fits n → (entries_needed zs ps ≡ n) × (n ≤ lent)
+  pub fits_room : (lent n : ℕ) → judge_tables zs ps lent ≡ Ok n → (entries_needed zs ps ≡ n) × (n ≤ lent)
   unfolding judge_tables
   fits_room lent n h = by_test (ltb (first_large 0 zs ps) (length ps))
       (λ e. let r = rw e at h in let z : ◌≡◌ {A = ℕ} 0 1 = cc in absurd (omega arith))
@@ -88,6 +89,6 @@ module _ (zs : List ℕ) (ps : List (List ℕ)) where
   small_none_large k [] h = omega arith
   small_none_large k (p ∷ qs) h = rw (le-ltb 4096 (state_count zs p) h.0) (small_none_large (suc k) qs h.1 ∙ omega arith)
 
-  pub small_fits : (lent : ℕ) → All (λ p. state_count zs p ≤ 4096) ps → entries_needed zs ps ≤ lent → judge_tables zs ps lent ≡ Fits (entries_needed zs ps)
+  pub small_fits : (lent : ℕ) → All (λ p. state_count zs p ≤ 4096) ps → entries_needed zs ps ≤ lent → judge_tables zs ps lent ≡ Ok (entries_needed zs ps)
   unfolding judge_tables
   small_fits lent h l = let e = small_none_large 0 ps h in rw (le-ltb (first_large 0 zs ps) (length ps) (omega arith), le-ltb lent (entries_needed zs ps) l)

@@ -1,22 +1,17 @@
 -- What the additivity call answers: document 01, "Additive", and "Where a call can say no", lines 5 and 6. Assumes nothing.
-use Rattle.std.specs.Prelude.{List, ℕ}
+use Rattle.std.specs.Prelude.{List, ℕ, Result, Ok, Option, Some, None}
 use Rattle.planning.specs.Pattern.{Verdict, additive, conflict, verdict}
 use Rattle.task_record.specs.Record.{record_check}
-use Rattle.task_record.specs.declared.record.RecordCheck.{RecordCheck}
-use Rattle.task_record.specs.declared.record.RecordCheck.TheVariants as of-record
+use Rattle.task_record.specs.Refusals.{after}
 use Rattle.task_record.specs.TaskOf.{task_of, patterns_of}
-use Rattle.patterns.specs.declared.verdict.Additivity.{Additivity}
-use Rattle.patterns.specs.declared.verdict.Additivity.TheVariants as answer
+use Rattle.task_record.specs.declared.refusal.Refusal.{Refusal}
+use Rattle.patterns.specs.declared.verdict.Conflict.{Conflict}
 
 -- "The verdict is yes, or the lowest move that touches two, with the lowest two patterns".
-unfoldable pub additivity_of : Verdict → Additivity
-additivity_of additive = answer.Additive
-additivity_of (conflict m p q) = answer.Conflict m p q
+unfoldable pub additivity_of : Verdict → Option Conflict
+additivity_of additive = None
+additivity_of (conflict m p q) = Some (record { action = m; lower = p; upper = q })
 
 -- "A call tests top to bottom the lines that concern it".
-unfoldable pub after_record : RecordCheck → Additivity → Additivity
-after_record of-record.Sound judged = judged
-after_record (of-record.Refused number second) judged = answer.Refused number second
-
-unfoldable pub additivity : List ℕ → Additivity
-additivity r = after_record (record_check r) (additivity_of (verdict (task_of r) (patterns_of r)))
+abbrev pub additivity : List ℕ → Result (Option Conflict) Refusal
+additivity r = after (record_check r) (λ u. Ok (additivity_of (verdict (task_of r) (patterns_of r))))

@@ -1,43 +1,40 @@
 -- Each answer as the document's numbers, of each case ("Where an answer is an enum, a definition gives, for each of its cases, this paper's number
 -- and values") and of each call, by the lines of "Where a call can say no". Assumes nothing.
-use Rattle.std.specs.Prelude.{List, ℕ, ltb, length}
+use Rattle.std.specs.Prelude.{List, ℕ, ltb, length, Result, Option, Some, None}
 use Rattle.planning.specs.Extended.{ℕ∞, fin, inf}
 use Rattle.planning.specs.Numbers.{Numbers, refusal, answered, refused_if}
 use Rattle.planning.specs.Pattern.{Verdict, additive, conflict, verdict}
 use Rattle.task_record.specs.Answers.{short_record, bad_cell, bad_state}
+use Rattle.task_record.specs.Refusals.{answer_numbers}
 use Rattle.task_record.specs.TaskOf.{task_of, patterns_of}
+use Rattle.task_record.specs.declared.refusal.Refusal.{Refusal}
 use Rattle.patterns.specs.Space.{first_large, entries_needed}
 use Rattle.patterns.specs.Value.{read_value}
-use Rattle.patterns.specs.declared.space.TableCheck.{TableCheck}
-use Rattle.patterns.specs.declared.space.TableCheck.TheVariants as of-tables
-use Rattle.patterns.specs.declared.verdict.Additivity.{Additivity}
-use Rattle.patterns.specs.declared.verdict.Additivity.TheVariants as of-verdict
-use Rattle.patterns.specs.declared.estimate.EstimateCheck.{EstimateCheck}
-use Rattle.patterns.specs.declared.estimate.EstimateCheck.TheVariants as of-estimate
-use Rattle.patterns.specs.declared.value.StateValue.{StateValue}
-use Rattle.patterns.specs.declared.value.StateValue.TheVariants as of-value
+use Rattle.patterns.specs.declared.verdict.Conflict.{Conflict}
 
 -- Kind 0: the entries needed.
-unfoldable pub table_numbers : TableCheck → Numbers
-table_numbers (of-tables.Fits needed) = answered 0 needed 0 0
-table_numbers (of-tables.Refused number second) = refusal number second
+abbrev pub table_numbers : Result ℕ Refusal → Numbers
+table_numbers checked = answer_numbers (λ needed. answered 0 needed 0 0) checked
 
 -- Kind 0: yes. Kind 1: no, with the move and the two patterns.
-unfoldable pub additivity_numbers : Additivity → Numbers
-additivity_numbers of-verdict.Additive = answered 0 0 0 0
-additivity_numbers (of-verdict.Conflict m p q) = answered 1 m p q
-additivity_numbers (of-verdict.Refused number second) = refusal number second
+abbrev pub conflict_numbers : Option Conflict → Numbers
+conflict_numbers None = answered 0 0 0 0
+conflict_numbers (Some found) = answered 1 found.action found.lower found.upper
+
+abbrev pub additivity_numbers : Result (Option Conflict) Refusal → Numbers
+additivity_numbers judged = answer_numbers conflict_numbers judged
 
 -- Kind 0: values can be read.
-unfoldable pub estimate_numbers : EstimateCheck → Numbers
-estimate_numbers of-estimate.Ready = answered 0 0 0 0
-estimate_numbers (of-estimate.Refused number second) = refusal number second
+abbrev pub estimate_numbers : Result Unit Refusal → Numbers
+estimate_numbers checked = answer_numbers (λ ready. answered 0 0 0 0) checked
 
 -- Kind 0: the value. Kind 1: infinite.
-unfoldable pub value_numbers : StateValue → Numbers
-value_numbers (of-value.Finite value) = answered 0 value 0 0
-value_numbers of-value.Infinite = answered 1 0 0 0
-value_numbers (of-value.Refused number second) = refusal number second
+abbrev pub finite_numbers : Option ℕ → Numbers
+finite_numbers (Some value) = answered 0 value 0 0
+finite_numbers None = answered 1 0 0 0
+
+abbrev pub value_numbers : Result (Option ℕ) Refusal → Numbers
+value_numbers answer = answer_numbers finite_numbers answer
 
 -- "tables, value, search: 7, pattern above 4,096 states; lowest such pattern".
 unfoldable pub large_pattern : List ℕ → Numbers → Numbers

@@ -1,6 +1,6 @@
 // The abstract states of a pattern, counted and numbered in one pass over the variables. Sizes, pattern and state are slices with a cell for
 // each variable.
-ghost use Rattle.std.specs.Prelude.{◌≡◌, ◌≤◌, ◌<◌, min, length};
+ghost use Rattle.std.specs.Prelude.{◌≡◌, ◌≤◌, ◌<◌, IfSome, IfNone, length};
 ghost use Rattle.planning.specs.Finite.{All};
 ghost use Rattle.planning.specs.Table.{index, state_count};
 
@@ -11,27 +11,22 @@ pub(crate) struct Place {
     pub states: usize,
 }
 
-pub(crate) fn wide(x: u8) -> usize
-    ensures { (result ≡ x) × (result < 256) }
-{
-    x as usize
-}
-
-// The number of abstract states, 4,097 where there are more than 4,096: no product is made from one that has passed 4,096.
-pub(crate) fn state_count(sizes: &[u8], pattern: &[u8]) -> usize
+// The number of abstract states, none where there are more than 4,096: no product is made from one that has passed 4,096.
+pub(crate) fn state_count(sizes: &[u8], pattern: &[u8]) -> Option<usize>
     requires { (All (λ z. 1 ≤ z) sizes.now) × (length sizes.now ≤ length pattern.now) }
-    ensures { result ≡ min (state_count sizes.now pattern.now) 4097 }
+    ensures small { IfSome result (λ n. (n ≡ state_count sizes.now pattern.now) × (n ≤ 4096)) }
+    ensures large { IfNone result (4096 < state_count sizes.now pattern.now) }
 {
     let mut weight = 1usize;
-    for v in 0..sizes.len() {
+    for (v, size) in sizes.iter().enumerate() {
         if pattern[v] == 1 {
-            weight = weight * wide(sizes[v]);
+            weight = weight * usize::from(*size);
             if weight > 4096 {
-                return 4097;
+                return None;
             }
         }
     }
-    weight
+    Some(weight)
 }
 
 // The running weight is the number of abstract states of the variables passed, so the whole pass leaves it at the number of all.
@@ -40,15 +35,12 @@ pub(crate) fn place_of(sizes: &[u8], pattern: &[u8], state: &[u8]) -> Place
     ensures { (result.index ≡ index sizes.now pattern.now state.now) × (result.states ≡ state_count sizes.now pattern.now) }
 {
     let mut index = 0usize;
-    let mut weight = 1usize;
-    for v in 0..sizes.len() {
+    let mut states = 1usize;
+    for (v, size) in sizes.iter().enumerate() {
         if pattern[v] == 1 {
-            index = index + wide(state[v]) * weight;
-            weight = weight * wide(sizes[v]);
+            index = index + usize::from(state[v]) * states;
+            states = states * usize::from(*size);
         }
     }
-    Place {
-        index: index,
-        states: weight,
-    }
+    Place { index, states }
 }

@@ -4,5 +4,6 @@ pub mod Refusals
 pub mod Waiting
 pub mod Reading
 pub mod Answers
+pub mod Numbered
 pub mod Exact
 pub mod ZeroNumber

@@ -1,10 +1,6 @@
 -- Laws of the stack: what its frames await is what planning's check has pending. Assumes nothing.
-use mathlib.Core.Path.{◌≡◌, refl, ap}
-use mathlib.Core.List.{List, [], ◌∷◌, ◌++◌, map}
-use Prim.Native.Nat.{ℕ, zero, suc, ◌+◌, ◌-◌, ◌≤◌, ◌<◌}
+use Rattle.std.proofs.Common.{◌≡◌, ℕ, zero, suc, ◌+◌, ◌-◌, ◌≤◌, ◌<◌, List, [], ◌∷◌, map, length, set, refl, ap, arith}
 use native.Mathlib.Numerals.{add-one}
-use native.Mathlib.Omega.{arith}
-use lib.ListN.{length, set}
 use lib.Seq.{get_or-set_same, get_or-set_other}
 use Rattle.planning.specs.Finite.{tabulate}
 use Rattle.planning.specs.Task.{apply}
@@ -16,7 +12,7 @@ use Rattle.task_record.specs.TaskOf.{cells_at}
 use Rattle.task_record.proofs.States.{outcome_of_values}
 use Rattle.plan_check.specs.declared.frames.Frame.{Frame}
 use Rattle.plan_check.specs.Tower.{tower, values_of}
-use Rattle.plan_check.specs.Stack.{begun_frame, rest_frame, reached, awaited_from, awaited, frame_at, waiting_of}
+use Rattle.plan_check.specs.Stack.{begun_frame, rest_frame, reached, awaited_from, awaited, frame_at, topmost_first}
 use Rattle.plan_check.proofs.Tower.{tower_successors, tower_unit}
 
 -- An action that begins awaits the states that planning's check puts before the others.
@@ -46,18 +42,23 @@ module _ (r : List ℕ) (f : Frame) where
   unfolding awaited awaited_from rest_frame
   none_awaited e = let z : f.left - 1 ≡ 0 = omega arith in ap (awaited_from r f.state f.depth (f.next + 16)) z
 
--- A frame that is stored does not change those below it, and is then the topmost.
-module _ (r : List ℕ) (frames : List Frame) (i : ℕ) (f : Frame) where
-  below_stored : (n : ℕ) → n ≤ i → waiting_of r (set frames i f) n ≡ waiting_of r frames n
-  unfolding waiting_of frame_at
+-- The frames in use: a frame that is stored behind them is then the topmost, and the topmost goes first.
+module _ (frames : List Frame) where
+  pub length-topmost_first : (n : ℕ) → length (topmost_first frames n) ≡ n
+  unfolding topmost_first
+  length-topmost_first zero = refl
+  length-topmost_first (suc n) = ap suc (length-topmost_first n)
+
+  pub topmost_goes : (n : ℕ) → (n ≡ 0 → ⊥) → topmost_first frames n ≡ frame_at frames (n - 1) ∷ topmost_first frames (n - 1)
+  unfolding topmost_first
+  topmost_goes n f = let e : n ≡ suc (n - 1) = omega (arith, f) in ap (topmost_first frames) e
+
+module _ (frames : List Frame) (i : ℕ) (f : Frame) where
+  below_stored : (n : ℕ) → n ≤ i → topmost_first (set frames i f) n ≡ topmost_first frames n
+  unfolding topmost_first frame_at
   below_stored zero l = refl
   below_stored (suc n) l = rw (get_or-set_other frames i n f (record { state = []; next = 0; depth = 0; left = 0 }) (λ e. omega arith), below_stored n (omega arith))
 
-  pub top_stored : i < length frames → waiting_of r (set frames i f) (i + 1) ≡ awaited r f ++ waiting_of r frames i
-  unfolding waiting_of frame_at
+  pub top_stored : i < length frames → topmost_first (set frames i f) (i + 1) ≡ f ∷ topmost_first frames i
+  unfolding topmost_first frame_at
   top_stored l = rw (add-one i, get_or-set_same frames i f (record { state = []; next = 0; depth = 0; left = 0 }) l, below_stored i (omega arith))
-
--- The topmost of some frames.
-pub top_waits : (r : List ℕ) (frames : List Frame) (n : ℕ) → (n ≡ 0 → ⊥) → waiting_of r frames n ≡ awaited r (frame_at frames (n - 1)) ++ waiting_of r frames (n - 1)
-unfolding waiting_of
-top_waits r frames n f = let e : n ≡ suc (n - 1) = omega (arith, f) in ap (waiting_of r frames) e

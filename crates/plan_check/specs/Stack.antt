@@ -33,7 +33,12 @@ awaited r f = awaited_from r f.state f.depth f.next f.left
 unfoldable pub frame_at : List Frame → ℕ → Frame
 frame_at frames i = get_or frames i (record { state = []; next = 0; depth = 0; left = 0 })
 
--- What the lowest n frames of the stack await, the topmost first.
-unfoldable pub waiting_of : List ℕ → List Frame → ℕ → List (Pending (List ℕ))
-waiting_of r frames zero = []
-waiting_of r frames (suc n) = awaited r (frame_at frames n) ++ waiting_of r frames n
+-- The first n frames of the stack's places, the topmost first.
+unfoldable pub topmost_first : List Frame → ℕ → List Frame
+topmost_first frames zero = []
+topmost_first frames (suc n) = frame_at frames n ∷ topmost_first frames n
+
+-- What the frames of the stack await, the topmost first.
+unfoldable pub waiting_of : List ℕ → List Frame → List (Pending (List ℕ))
+waiting_of r [] = []
+waiting_of r (f ∷ frames) = awaited r f ++ waiting_of r frames

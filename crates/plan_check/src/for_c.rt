@@ -3,7 +3,7 @@ ghost use Rattle.std.specs.Prelude.{◌≡◌};
 ghost use Rattle.plan_check.specs.Check.{plan_check_of};
 ghost use Rattle.plan_check.specs.ForC.{numbers_of, five_numbers};
 
-use crate::check::{PlanCheck, check_plan};
+use crate::check::check_plan;
 
 #[repr(C)]
 #[derive(Clone, Copy)]
@@ -20,18 +20,21 @@ pub extern "C" fn planner_check_plan(rec: &[u8], state: &[u8], plan: &[u8]) -> P
     ensures { result ≡ five_numbers (numbers_of (plan_check_of rec.now state.now plan.now)) }
 {
     match check_plan(rec, state, plan) {
-        PlanCheck::Refused(number, second) => PlannerAnswer {
-            number: number,
-            kind: 0,
-            first: second,
-            second: 0,
-            third: 0,
-        },
-        PlanCheck::Passed(cost, length) => PlannerAnswer {
+        Err(refusal) => {
+            let (number, second) = refusal.numbers();
+            PlannerAnswer {
+                number: number,
+                kind: 0,
+                first: second,
+                second: 0,
+                third: 0,
+            }
+        }
+        Ok(passed) => PlannerAnswer {
             number: 0,
             kind: 0,
-            first: cost,
-            second: length,
+            first: passed.cost,
+            second: passed.length,
             third: 0,
         },
     }

@@ -10,10 +10,11 @@ use borrow.Author.Tests.{leb-true}
 use Rattle.task_record.specs.Layout.{at_budget}
 use Rattle.task_record.specs.Numbers.{variable_count, action_count, pattern_count, outcome_count}
 use Rattle.reader.specs.Text.{has_key, number_of}
-use Rattle.reader.specs.Lists.{Gathered, list_of, whole_list}
+use Rattle.reader.specs.Lists.{list_of, whole_list}
 use Rattle.reader.specs.Grammar.{Line, taken, faulty, go_on, take_number, budget_bytes, take_budget, take_list, number_line, budget_line, list_line}
-use Rattle.reader.specs.declared.decimal.Decimal.{Decimal}
-use Rattle.reader.specs.declared.decimal.Decimal.TheVariants.{Value, Malformed}
+use Rattle.std.proofs.Common.{Option, Some, None}
+use Rattle.reader.specs.declared.lists.Gathered.{Gathered}
+use Rattle.reader.specs.declared.grammar.LineFault.TheVariants as of-line
 use Rattle.reader.specs.declared.lists.Kind.{Kind}
 use Rattle.reader.specs.declared.order.Due.{Due}
 use Rattle.reader.specs.declared.order.Due.TheVariants.{Vars, Size, Moves, Need, Outcomes, Eff, Goal, Start, Patterns, Pattern, Limit, Budget, End}
@@ -51,7 +52,7 @@ Begun End r = Settled r
 -- The same of what a line does.
 abbrev pub Kept : Line → Type 0
 Kept (taken due r) = Begun due r
-Kept (faulty number) = Unit {0}
+Kept (faulty fault) = Unit {0}
 
 -- A line is kept where the store that it makes is.
 pub kept_where : (t : Bool) (x y : Line) → (t ≡ true → Kept x) → Kept y → Kept (cond t x y)
@@ -60,25 +61,25 @@ kept_where false x y h k = k
 
 module _ (r : List ℕ) (due : Due) where
   -- a number in its range is stored
-  pub number_kept : (lo hi at : ℕ) (d : Decimal) → ((n : ℕ) → lo ≤ n → n ≤ hi → Kept (go_on due (set r at n))) → Kept (take_number r due lo hi at d)
+  pub number_kept : (lo hi at : ℕ) (d : Option ℕ) → ((n : ℕ) → lo ≤ n → n ≤ hi → Kept (go_on due (set r at n))) → Kept (take_number r due lo hi at d)
   unfolding take_number
-  number_kept lo hi at Malformed h = tt
-  number_kept lo hi at (Value n) h =
-      kept_where (leb lo n && leb n hi) (go_on due (set r at n)) (faulty 3)
+  number_kept lo hi at None h = tt
+  number_kept lo hi at (Some n) h =
+      kept_where (leb lo n && leb n hi) (go_on due (set r at n)) (faulty of-line.Range)
       (λ t. h n (leb-true lo n (both_left (leb lo n) (leb n hi) t)) (leb-true n hi (both_right (leb lo n) (leb n hi) t))) tt
 
   -- a budget in its range is stored
-  pub budget_kept : (d : Decimal) → ((n : ℕ) → n ≤ 1000000 → Kept (go_on due (sets r at_budget (budget_bytes n)))) → Kept (take_budget r due d)
+  pub budget_kept : (d : Option ℕ) → ((n : ℕ) → n ≤ 1000000 → Kept (go_on due (sets r at_budget (budget_bytes n)))) → Kept (take_budget r due d)
   unfolding take_budget
-  budget_kept Malformed h = tt
-  budget_kept (Value n) h = kept_where (leb n 1000000) (go_on due (sets r at_budget (budget_bytes n))) (faulty 3) (λ t. h n (leb-true n 1000000 t)) tt
+  budget_kept None h = tt
+  budget_kept (Some n) h = kept_where (leb n 1000000) (go_on due (sets r at_budget (budget_bytes n))) (faulty of-line.Range) (λ t. h n (leb-true n 1000000 t)) tt
 
   -- the cells of a list without fault are stored; a list of values has N of them
   pub list_kept : (kind : Kind) (at : ℕ) (g : Gathered) → (whole_list (variable_count r) kind g.next ≡ true → Kept (go_on due (sets r at g.cells))) → Kept (take_list r due kind at g)
   unfolding take_list
   list_kept kind at g h =
-      kept_where g.form (cond (g.list && whole_list (variable_count r) kind g.next) (go_on due (sets r at g.cells)) (faulty 4)) (faulty 2)
-      (λ t. kept_where (g.list && whole_list (variable_count r) kind g.next) (go_on due (sets r at g.cells)) (faulty 4)
+      kept_where g.form (cond (g.list && whole_list (variable_count r) kind g.next) (go_on due (sets r at g.cells)) (faulty of-line.List)) (faulty of-line.Form)
+      (λ t. kept_where (g.list && whole_list (variable_count r) kind g.next) (go_on due (sets r at g.cells)) (faulty of-line.List)
       (λ u. h (both_right g.list (whole_list (variable_count r) kind g.next) u)) tt) tt
 
   module _ (line key : List ℕ) where
@@ -86,14 +87,14 @@ module _ (r : List ℕ) (due : Due) where
     pub number_line_kept : (lo hi at : ℕ) → ((n : ℕ) → lo ≤ n → n ≤ hi → Kept (go_on due (set r at n))) → Kept (number_line r due line key lo hi at)
     unfolding number_line
     number_line_kept lo hi at h =
-        kept_where (has_key key line) (take_number r due lo hi at (number_of (drop (length key) line))) (faulty 1)
+        kept_where (has_key key line) (take_number r due lo hi at (number_of (drop (length key) line))) (faulty of-line.Unexpected)
         (λ t. number_kept lo hi at (number_of (drop (length key) line)) h) tt
 
     -- the line with the budget
     pub budget_line_kept : ((n : ℕ) → n ≤ 1000000 → Kept (go_on due (sets r at_budget (budget_bytes n)))) → Kept (budget_line r due line key)
     unfolding budget_line
     budget_line_kept h =
-        kept_where (has_key key line) (take_budget r due (number_of (drop (length key) line))) (faulty 1)
+        kept_where (has_key key line) (take_budget r due (number_of (drop (length key) line))) (faulty of-line.Unexpected)
         (λ t. budget_kept (number_of (drop (length key) line)) h) tt
 
     -- a line with a list
@@ -102,5 +103,5 @@ module _ (r : List ℕ) (due : Due) where
         → Kept (list_line r due line key kind at)
     unfolding list_line
     list_line_kept kind at h =
-        kept_where (has_key key line) (take_list r due kind at (list_of r kind (drop (length key) line))) (faulty 1)
+        kept_where (has_key key line) (take_list r due kind at (list_of r kind (drop (length key) line))) (faulty of-line.Unexpected)
         (λ t. list_kept kind at (list_of r kind (drop (length key) line)) (h (drop (length key) line))) tt

@@ -16,7 +16,7 @@ use Rattle.task_record.specs.Record.{size_ok, pattern_ok, count_ok, assignment_o
 use Rattle.reader.specs.Text.{line_break}
 use Rattle.reader.specs.Grammar.{proceed, complete, read_from, blank, read_whole, read_answer, read_leaves}
 use Rattle.reader.specs.Written.{line_of, dues_of, written}
-use Rattle.reader.specs.declared.text.Reading.TheVariants.{Read}
+use Rattle.std.specs.Prelude.{Ok}
 use Rattle.reader.specs.declared.order.Due.{Due}
 use Rattle.reader.specs.declared.order.Due.TheVariants.{Vars}
 use Rattle.planning.proofs.Test.{by_test, or-false}
@@ -185,9 +185,9 @@ module _ (t : List ℕ) (sound : Sound t) (fit : Bytes t) where
 pub sound_record_has_text : (t : List ℕ) → Sound t → Bytes t → length t ≡ record_size → (text : List ℕ) × (read_whole text ≡ complete t)
 sound_record_has_text t sound fit whole = (written t, written_reads t sound fit whole)
 
--- A call with that text and a lent record that is long enough answers Read, and leaves the record in front of what stood after it.
+-- A call with that text and a lent record that is long enough answers Ok, and leaves the record in front of what stood after it.
 pub written_is_read : (t record₀ : List ℕ) → Sound t → Bytes t → length t ≡ record_size → record_size ≤ length record₀
-    → (read_answer (written t) record₀ ≡ Read) × (read_leaves (written t) record₀ ≡ t ++ drop record_size record₀)
+    → (read_answer (written t) record₀ ≡ Ok tt) × (read_leaves (written t) record₀ ≡ t ++ drop record_size record₀)
 unfolding read_answer
 written_is_read t record₀ sound fit whole long =
     let h = written_reads t sound fit whole in

@@ -1,12 +1,13 @@
 -- Whether a line begins with a key, from an index on; and a line that does is at least as long.
 -- Assumes nothing.
-use mathlib.Core.Path.{◌≡◌, refl}
+use mathlib.Core.Path.{◌≡◌, refl, ap}
+use lib.Pointwise.{pointwise}
 use mathlib.Core.Bool.{Bool, true, false, ◌&&◌, false≢true}
 use mathlib.Core.List.{List, [], ◌∷◌}
 use Prim.Native.Nat.{ℕ, suc, ◌+◌, ◌≤◌, ◌<◌}
 use native.Mathlib.Omega.{arith}
 use lib.Dec.{eqb}
-use lib.ListN.{length, drop, get_or, drop_of_length-le, length-drop}
+use lib.ListN.{length, take, drop, get_or, drop_of_length-le, length-drop}
 use lib.Bits.{bit_or}
 use lib.Seq.{get_or-drop}
 use Rattle.reader.specs.Text.{has_key}
@@ -53,3 +54,10 @@ key_length (k ∷ ks) (x ∷ xs) e = go (eqb x k) e (key_length ks xs)
     go : (t : Bool) → (t && has_key ks xs) ≡ true → (has_key ks xs ≡ true → length ks ≤ length xs) → suc (length ks) ≤ suc (length xs)
     go true h f = omega (arith, f h)
     go false h f = absurd (false≢true h)
+
+-- a line begins with a key where its first bytes are those of the key
+pub key_prefix : (key line : List ℕ) → pointwise eqb (take (length key) line) key ≡ has_key key line
+unfolding has_key
+key_prefix [] line = refl
+key_prefix (k ∷ ks) [] = refl
+key_prefix (k ∷ ks) (x ∷ xs) = ap (λ (b : Bool). eqb x k && b) (key_prefix ks xs)

@@ -12,11 +12,10 @@ use borrow.Author.Tests.{eqb-true, eqb-false}
 use Rattle.task_record.specs.Numbers.{variable_count, size_of}
 use Rattle.task_record.specs.Record.{value_ok, assignment_ok}
 use Rattle.reader.specs.Text.{number_of}
-use Rattle.reader.specs.Lists.{pair_from, pair_of, item_of, pair_fits, Gathered, pair_step, list_from, listed, no_items, list_of}
-use Rattle.reader.specs.declared.decimal.Decimal.{Decimal}
-use Rattle.reader.specs.declared.decimal.Decimal.TheVariants.{Value, Malformed}
+use Rattle.reader.specs.Lists.{pair_from, pair_of, item_of, pair_fits, pair_step, list_from, listed, no_items, list_of}
+use Rattle.std.proofs.Common.{Option, Some, None}
+use Rattle.reader.specs.declared.lists.Gathered.{Gathered}
 use Rattle.reader.specs.declared.lists.Pair.{Pair}
-use Rattle.reader.specs.declared.lists.Pair.TheVariants.{Named, Ill}
 use Rattle.reader.specs.declared.lists.Kind.{Kind}
 use Rattle.reader.specs.declared.lists.Kind.TheVariants.{Pairs, Values, Members}
 use Rattle.planning.proofs.Test.{by_test}
@@ -53,12 +52,12 @@ stored_assigns r c v x h a =
     }
 
 -- one piece more, be it a pair or none
-pub pair_assigns : (r : List ℕ) (g : Gathered) (p : Pair) → Assigns r g.cells → Assigns r (pair_step r g p).cells
+pub pair_assigns : (r : List ℕ) (g : Gathered) (p : Option Pair) → Assigns r g.cells → Assigns r (pair_step r g p).cells
 unfolding pair_step
-pair_assigns r g Ill a = a
-pair_assigns r g (Named v x) a =
-    by_test (pair_fits r g.next v x)
-    (λ t. rw t (stored_assigns r g.cells v x (pair_fits-value r g.next v x t) a))
+pair_assigns r g None a = a
+pair_assigns r g (Some p) a =
+    by_test (pair_fits r g.next p.variable p.value)
+    (λ t. rw t (stored_assigns r g.cells p.variable p.value (pair_fits-value r g.next p.variable p.value t) a))
     (λ t. rw t a)
 
 -- the whole list: every cell is 255, or a value of a variable that is used
@@ -86,10 +85,10 @@ stored_marks r c v h a =
     }
 
 -- one piece more
-pub member_marks : (r : List ℕ) (g : Gathered) (d : Decimal) → Marks r g.cells → Marks r (pair_step r g (pair_from d (Value 1))).cells
+pub member_marks : (r : List ℕ) (g : Gathered) (d : Option ℕ) → Marks r g.cells → Marks r (pair_step r g (pair_from d (Some 1))).cells
 unfolding pair_step
-member_marks r g Malformed a = a
-member_marks r g (Value v) a =
+member_marks r g None a = a
+member_marks r g (Some v) a =
     by_test (pair_fits r g.next v 1)
     (λ t. rw t (stored_marks r g.cells v (pair_fits-value r g.next v 1 t) a))
     (λ t. rw t a)
@@ -121,11 +120,11 @@ stored_value r c next x h a =
     }
 
 -- one piece more: a value is kept and the next variable comes, or nothing changes
-pub value_valued : (r : List ℕ) (g : Gathered) (d : Decimal) → Valued r g.cells g.next
-    → Valued r (pair_step r g (pair_from (Value g.next) d)).cells (pair_step r g (pair_from (Value g.next) d)).next
+pub value_valued : (r : List ℕ) (g : Gathered) (d : Option ℕ) → Valued r g.cells g.next
+    → Valued r (pair_step r g (pair_from (Some g.next) d)).cells (pair_step r g (pair_from (Some g.next) d)).next
 unfolding pair_step
-value_valued r g Malformed a = a
-value_valued r g (Value x) a =
+value_valued r g None a = a
+value_valued r g (Some x) a =
     by_test (pair_fits r g.next g.next x)
     (λ t. rw t (stored_value r g.cells g.next x (pair_fits-value r g.next g.next x t) a))
     (λ t. rw t a)

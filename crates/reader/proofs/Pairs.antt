@@ -10,8 +10,7 @@ use lib.Dec.{eqb}
 use lib.ListN.{length, take, drop, get_or, drop_of_length-le}
 use lib.Seq.{take-take, take-add, drop_at, length-take-le}
 use borrow.Author.Tests.{eq-eqb, ne_eqb, eqb-true}
-use Rattle.reader.specs.declared.decimal.Decimal.{Decimal}
-use Rattle.reader.specs.declared.lists.Pair.TheVariants.{Ill}
+use Rattle.std.proofs.Common.{Option, None}
 use Rattle.reader.specs.Text.{comma, colon, index_of, index_of_either, number_of}
 use Rattle.reader.specs.Lists.{first_piece, pair_from, pair_of}
 use Rattle.task_record.proofs.Rest.{drop_step}
@@ -95,12 +94,12 @@ colon_at_mark (x ∷ xs) (suc m) b h e = go (eqb x colon) (eqb x comma) refl (co
     go false false p ih b h e = ap suc (ih (omega arith) (omega arith) e)
 
 -- The first piece of a list of pairs: without a colon it is none, else its numbers are those before and after the mark.
-pub first_pair_none : (s : List ℕ) (k : ℕ) → k ≡ mark s → (k < length s → get_or s k 0 ≡ colon → ⊥) → (Ill ≡ pair_of (first_piece s)) × (k ≡ index_of comma s)
+pub first_pair_none : (s : List ℕ) (k : ℕ) → k ≡ mark s → (k < length s → get_or s k 0 ≡ colon → ⊥) → (None ≡ pair_of (first_piece s)) × (k ≡ index_of comma s)
 first_pair_none s k e h =
     let f = mark_is_comma s (rw e at h) in
     (sym (ap (λ (n : ℕ). pair_of (take n s)) f ∙ pair_no_colon (take (mark s) s) (none_before_mark s)), e ∙ sym f)
 
-pub first_pair_parts : (s : List ℕ) (k n : ℕ) (a b : Decimal) → k ≡ mark s → k < length s → get_or s k 0 ≡ colon → n ≡ index_of comma (drop (k + 1) s)
+pub first_pair_parts : (s : List ℕ) (k n : ℕ) (a b : Option ℕ) → k ≡ mark s → k < length s → get_or s k 0 ≡ colon → n ≡ index_of comma (drop (k + 1) s)
     → a ≡ number_of (take k s) → b ≡ number_of (take n (drop (k + 1) s)) → (pair_from a b ≡ pair_of (first_piece s)) × (k + 1 + n ≡ index_of comma s)
 first_pair_parts s k n a b e h c f p q =
     let one : k + 1 ≡ suc k = omega arith in

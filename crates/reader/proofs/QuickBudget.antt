@@ -33,7 +33,7 @@ line_alone (x ∷ (y ∷ ys)) h n =
 
 abbrev was_taken : Line → Bool
 was_taken (taken due r) = true
-was_taken (faulty number) = false
+was_taken (faulty fault) = false
 
 -- what is taken as a budget is a number
 budget_formed : (r r' s : List ℕ) → take_budget r Budget (number_of s) ≡ go_on Budget r' → well_formed s ≡ true

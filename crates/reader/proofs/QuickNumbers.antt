@@ -9,8 +9,7 @@ use Rattle.reader.specs.Text.{colon}
 use Rattle.reader.specs.Lists.{item_of, pair_from}
 use Rattle.reader.specs.Written.{digits_of, decimal, item_text}
 use Rattle.reader.specs.Quick.{ItemAt}
-use Rattle.reader.specs.declared.decimal.Decimal.{Decimal}
-use Rattle.reader.specs.declared.decimal.Decimal.TheVariants.{Value}
+use Rattle.std.proofs.Common.{Option, Some}
 use Rattle.reader.specs.declared.lists.Kind.TheVariants.{Pairs, Values, Members}
 use Rattle.task_record.proofs.Rest.{drop_step}
 use Rattle.reader.proofs.WrittenNumbers.{number_read}
@@ -67,9 +66,9 @@ module _ (t : List ℕ) (at : ℕ) where
   pub value_at : (next x end : ℕ) → next < 256 → x < 100 → drop at t ≡ decimal x ++ drop end t → ItemAt t at Values next next x end
   unfolding item_text item_of
   value_at next x end a b h =
-      record { stands = h; says = ap (λ (d : Decimal). pair_from (Value next) d) (number_read x (omega arith)); small = (a, omega arith) }
+      record { stands = h; says = ap (λ (d : Option ℕ). pair_from (Some next) d) (number_read x (omega arith)); small = (a, omega arith) }
 
   pub member_at : (next v end : ℕ) → v < 100 → drop at t ≡ decimal v ++ drop end t → ItemAt t at Members next v 1 end
   unfolding item_text item_of
   member_at next v end a h =
-      record { stands = h; says = ap (λ (d : Decimal). pair_from d (Value 1)) (number_read v (omega arith)); small = (omega arith, omega arith) }
+      record { stands = h; says = ap (λ (d : Option ℕ). pair_from d (Some 1)) (number_read v (omega arith)); small = (omega arith, omega arith) }

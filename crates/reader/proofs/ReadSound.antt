@@ -1,4 +1,4 @@
--- A record that the reader made from a text is sound, and so is what a call that answers Read leaves in the record it was lent.
+-- A record that the reader made from a text is sound, and so is what a call that answers Ok leaves in the record it was lent.
 -- Assumes nothing.
 use mathlib.Core.Path.{◌≡◌, refl, ap, subst, ◌∙◌}
 use mathlib.Core.Bool.{Bool, true, false, false≢true}
@@ -12,11 +12,12 @@ use borrow.Author.Tests.{le-ltb, ltb-false}
 use Rattle.task_record.specs.Layout.{record_size}
 use Rattle.task_record.specs.Record.{Sound}
 use Rattle.reader.specs.Text.{lines_of}
-use Rattle.reader.specs.Grammar.{ended, Line, taken, faulty, take_line, Whole, complete, refused, proceed, read_from, blank, read_whole, answer_of, read_answer, read_leaves}
+use Rattle.reader.specs.Grammar.{ended, Line, taken, faulty, take_line, fault_at, Whole, complete, refused, proceed, read_from, blank, read_whole, answer_of, read_answer, read_leaves}
 use Rattle.reader.specs.declared.order.Due.{Due}
 use Rattle.reader.specs.declared.order.Due.TheVariants.{Vars, Size, Moves, Need, Outcomes, Eff, Goal, Start, Patterns, Pattern, Limit, Budget, End}
-use Rattle.reader.specs.declared.text.Reading.{Reading}
-use Rattle.reader.specs.declared.text.Reading.TheVariants.{Read, Refused}
+use Rattle.std.specs.Prelude.{Ok, is_ok}
+use Rattle.task_record.specs.declared.refusal.Refusal.{Refusal}
+use Rattle.task_record.specs.declared.refusal.Refusal.TheVariants.{UnexpectedLine}
 use Rattle.planning.proofs.Test.{by_test}
 use Rattle.task_record.proofs.Soundness.{sound_length}
 use Rattle.task_record.proofs.LongerRecords.{check_of_front}
@@ -44,22 +45,22 @@ ended_settled End r e h = h
 -- A text that was read has its record; a refused one has none.
 abbrev record_of : Whole → List ℕ
 record_of (complete r) = r
-record_of (refused number line) = []
+record_of (refused refusal) = []
 
 -- whether it was read
 abbrev is_complete : Whole → Bool
 is_complete (complete r) = true
-is_complete (refused number line) = false
+is_complete (refused refusal) = false
 
 -- a refused text is no record
-pub refused_not_complete : {A : Type 0} (number line : ℕ) (e : List ℕ) → refused number line ≡ complete e → A
-refused_not_complete number line e h = absurd (false≢true (ap is_complete h))
+pub refused_not_complete : {A : Type 0} (refusal : Refusal) (e : List ℕ) → refused refusal ≡ complete e → A
+refused_not_complete refusal e h = absurd (false≢true (ap is_complete h))
 
 -- one line, and what the rest makes of what it leaves
 pub rest_settled : (n : ℕ) (x : Line) (rest : Due → List ℕ → Whole) (e : List ℕ) → ((d : Due) (r : List ℕ) → Begun d r → rest d r ≡ complete e → Settled e)
     → Kept x → proceed n x rest ≡ complete e → Settled e
 rest_settled n (taken d r) rest e go k h = go d r k h
-rest_settled n (faulty number) rest e go k h = refused_not_complete number n e h
+rest_settled n (faulty fault) rest e go k h = refused_not_complete (fault_at fault n) e h
 
 -- all lines from one on
 pub read_from_settled : (ls : List (List ℕ)) (n : ℕ) (due : Due) (r e : List ℕ) → Begun due r → read_from n due r ls ≡ complete e → Settled e
@@ -67,7 +68,7 @@ unfolding read_from
 read_from_settled [] n due r e b h =
     by_test (ended due)
     (λ t. subst Settled (ap record_of (rw t at h)) (ended_settled due r t b))
-    (λ t. refused_not_complete 1 n e (rw t at h))
+    (λ t. refused_not_complete (UnexpectedLine n) e (rw t at h))
 read_from_settled (l ∷ ls) n due r e b h =
     rest_settled n (take_line r due l) (λ d x. read_from (n + 1) d x ls) e (λ d x k q. read_from_settled ls (n + 1) d x e k q) (line_kept r l due b) h
 
@@ -85,22 +86,17 @@ read_sound text r h = let s = read_settled text r h in filled_sound r s.filled s
 pub read_length : (text r : List ℕ) → read_whole text ≡ complete r → length r ≡ record_size
 read_length text r h = (read_settled text r h).filled.whole
 
--- whether a call answers Read
-abbrev is_read : Reading → Bool
-is_read Read = true
-is_read (Refused number line) = false
-
--- A call that answers Read had a record of 9,464 bytes or more, and a text that says a record.
-pub answered_record : (w : Whole) → answer_of w ≡ Read → (r : List ℕ) × (w ≡ complete r)
+-- A call that answers Ok had a record of 9,464 bytes or more, and a text that says a record.
+pub answered_record : (w : Whole) → answer_of w ≡ Ok tt → (r : List ℕ) × (w ≡ complete r)
 answered_record (complete r) h = (r, refl)
-answered_record (refused number line) h = absurd (false≢true (ap is_read h))
+answered_record (refused refusal) h = absurd (false≢true (ap is_ok h))
 
 -- the call tests the length first
-pub read_answers : (text record₀ : List ℕ) → read_answer text record₀ ≡ Read → (record_size ≤ length record₀) × (answer_of (read_whole text) ≡ Read)
+pub read_answers : (text record₀ : List ℕ) → read_answer text record₀ ≡ Ok tt → (record_size ≤ length record₀) × (answer_of (read_whole text) ≡ Ok tt)
 unfolding read_answer
 read_answers text record₀ h =
     by_test (ltb (length record₀) record_size)
-    (λ t. absurd (false≢true (ap is_read (rw t at h))))
+    (λ t. absurd (false≢true (ap is_ok (rw t at h))))
     (λ t. (ltb-false (length record₀) record_size t, rw t at h))
 
 -- What it leaves: the record that the text says, in front of what stood after it.
@@ -109,7 +105,7 @@ unfolding read_leaves
 read_leaves_lem text record₀ r long h = rw (le-ltb (length record₀) record_size long, h)
 
 -- The first 9,464 bytes that such a call leaves are a sound record, and so is all of it.
-module _ (text record₀ : List ℕ) (answer : read_answer text record₀ ≡ Read) where
+module _ (text record₀ : List ℕ) (answer : read_answer text record₀ ≡ Ok tt) where
   -- the first 9,464 bytes
   pub front_left_sound : Sound (take record_size (read_leaves text record₀))
   front_left_sound =

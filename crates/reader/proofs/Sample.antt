@@ -9,12 +9,13 @@ use Rattle.reader.specs.Bytes.{bytes}
 use Rattle.reader.specs.Text.{index_of, lines_of, pieces, has_key, digits, value, well_formed, number_of}
 use Rattle.reader.specs.Lists.{pair_of, item_of, pair_fits, pair_step, list_from, listed, no_items, list_of}
 use Rattle.reader.specs.Grammar.{next_due, take_number, budget_bytes, take_budget, take_list, number_line, budget_line, list_line, take_line, read_from, unused_action, unused_actions, blank, read_whole, read_answer, read_leaves}
-use Rattle.reader.specs.declared.text.Reading.{Reading}
-use Rattle.reader.specs.declared.text.Reading.TheVariants.{Read, Refused}
+use Rattle.std.specs.Prelude.{Result, Ok, Err}
+use Rattle.task_record.specs.declared.refusal.Refusal.{Refusal}
+use Rattle.task_record.specs.declared.refusal.Refusal.TheVariants.{UnexpectedLine, WrongForm, OutOfRange, WrongList, ShortRecord}
 
 -- What a call answers and what it leaves in the record; a sample is a text with a lent record, and what is expected of the call.
 pub record Call : Type 0 where
-  pub answer : Reading
+  pub answer : Result Unit Refusal
   pub leaves : List ℕ
 
 pub record Sample : Type 0 where
@@ -54,52 +55,52 @@ lent : List ℕ
 lent = replicate (record_size + 2) 7
 
 reads : List ℕ → List ℕ → Sample
-reads text record₀ = record { text = text; lent = lent; expected = record { answer = Read; leaves = record₀ ++ (7 ∷ 7 ∷ []) } }
+reads text record₀ = record { text = text; lent = lent; expected = record { answer = Ok tt; leaves = record₀ ++ (7 ∷ 7 ∷ []) } }
 
--- the text is refused with a number at a line
-refuses : List ℕ → ℕ → ℕ → Sample
-refuses text number line = record { text = text; lent = lent; expected = record { answer = Refused number line; leaves = lent } }
+-- the text is refused
+refuses : List ℕ → Refusal → Sample
+refuses text refusal = record { text = text; lent = lent; expected = record { answer = Err refusal; leaves = lent } }
 
 pub samples : List Sample
 samples =
     reads (sample_head ++ bytes "limit=32\nbudget=100") sample_record
     ∷ reads (sample_head ++ bytes "limit=32\nbudget=100\n") sample_record
-    ∷ refuses (sample_head ++ bytes "limit=33\nbudget=100") 3 23
-    ∷ refuses (sample_head ++ bytes "limit=32\nbudget=100\n\n") 1 25
-    ∷ refuses (sample_head ++ bytes "limit=32") 1 24
-    ∷ refuses (bytes "") 1 1
-    ∷ refuses (bytes "vars==2") 2 1
-    ∷ refuses (bytes "vars=") 2 1
-    ∷ refuses (bytes "varss=2") 1 1
-    ∷ refuses (bytes "vars") 1 1
-    ∷ refuses (bytes "Vars=2") 1 1
-    ∷ refuses (bytes "vars=02") 2 1
-    ∷ refuses (bytes "vars=+2") 2 1
-    ∷ refuses (bytes "vars= 2") 2 1
-    ∷ refuses (bytes "vars=2\r") 2 1
-    ∷ refuses (bytes "vars=12345678") 2 1
-    ∷ refuses (bytes "vars=1234567") 3 1
-    ∷ refuses (bytes "vars=0") 3 1
-    ∷ refuses (bytes "vars=17") 3 1
-    ∷ refuses (bytes "vars=2\n\n") 1 2
-    ∷ refuses (bytes "vars=2\nsize=1") 3 2
-    ∷ refuses (short_head ++ bytes "goal=0:3,1:1\n") 1 6
-    ∷ refuses (short_head ++ bytes "goal=\n") 1 6
-    ∷ refuses (short_head ++ bytes "goal=1:0,0:0") 4 5
-    ∷ refuses (short_head ++ bytes "goal=0:0,0:1") 4 5
-    ∷ refuses (short_head ++ bytes "goal=0:4") 4 5
-    ∷ refuses (short_head ++ bytes "goal=2:0") 4 5
-    ∷ refuses (short_head ++ bytes "goal=0:4,1") 2 5
-    ∷ refuses (short_head ++ bytes "goal=0:0,") 2 5
-    ∷ refuses (short_head ++ bytes "goal=0:01") 2 5
-    ∷ refuses (short_head ++ bytes "goal=9:9999999") 4 5
-    ∷ refuses (short_head ++ bytes "goal=\nstart=") 2 6
-    ∷ refuses (short_head ++ bytes "goal=\nstart=0") 4 6
-    ∷ refuses (short_head ++ bytes "goal=\nstart=0,0,0") 4 6
-    ∷ refuses (short_head ++ bytes "goal=\nstart=0,2") 4 6
-    ∷ refuses (short_head ++ bytes "goal=\nstart=0,0\npatterns=9") 3 7
-    ∷ refuses (short_head ++ bytes "goal=\nstart=0,0\npatterns=1\npattern=1,0") 4 8
-    ∷ record { text = []; lent = 1 ∷ 2 ∷ 3 ∷ []; expected = record { answer = Refused 5 3; leaves = 1 ∷ 2 ∷ 3 ∷ [] } }
+    ∷ refuses (sample_head ++ bytes "limit=33\nbudget=100") (OutOfRange 23)
+    ∷ refuses (sample_head ++ bytes "limit=32\nbudget=100\n\n") (UnexpectedLine 25)
+    ∷ refuses (sample_head ++ bytes "limit=32") (UnexpectedLine 24)
+    ∷ refuses (bytes "") (UnexpectedLine 1)
+    ∷ refuses (bytes "vars==2") (WrongForm 1)
+    ∷ refuses (bytes "vars=") (WrongForm 1)
+    ∷ refuses (bytes "varss=2") (UnexpectedLine 1)
+    ∷ refuses (bytes "vars") (UnexpectedLine 1)
+    ∷ refuses (bytes "Vars=2") (UnexpectedLine 1)
+    ∷ refuses (bytes "vars=02") (WrongForm 1)
+    ∷ refuses (bytes "vars=+2") (WrongForm 1)
+    ∷ refuses (bytes "vars= 2") (WrongForm 1)
+    ∷ refuses (bytes "vars=2\r") (WrongForm 1)
+    ∷ refuses (bytes "vars=12345678") (WrongForm 1)
+    ∷ refuses (bytes "vars=1234567") (OutOfRange 1)
+    ∷ refuses (bytes "vars=0") (OutOfRange 1)
+    ∷ refuses (bytes "vars=17") (OutOfRange 1)
+    ∷ refuses (bytes "vars=2\n\n") (UnexpectedLine 2)
+    ∷ refuses (bytes "vars=2\nsize=1") (OutOfRange 2)
+    ∷ refuses (short_head ++ bytes "goal=0:3,1:1\n") (UnexpectedLine 6)
+    ∷ refuses (short_head ++ bytes "goal=\n") (UnexpectedLine 6)
+    ∷ refuses (short_head ++ bytes "goal=1:0,0:0") (WrongList 5)
+    ∷ refuses (short_head ++ bytes "goal=0:0,0:1") (WrongList 5)
+    ∷ refuses (short_head ++ bytes "goal=0:4") (WrongList 5)
+    ∷ refuses (short_head ++ bytes "goal=2:0") (WrongList 5)
+    ∷ refuses (short_head ++ bytes "goal=0:4,1") (WrongForm 5)
+    ∷ refuses (short_head ++ bytes "goal=0:0,") (WrongForm 5)
+    ∷ refuses (short_head ++ bytes "goal=0:01") (WrongForm 5)
+    ∷ refuses (short_head ++ bytes "goal=9:9999999") (WrongList 5)
+    ∷ refuses (short_head ++ bytes "goal=\nstart=") (WrongForm 6)
+    ∷ refuses (short_head ++ bytes "goal=\nstart=0") (WrongList 6)
+    ∷ refuses (short_head ++ bytes "goal=\nstart=0,0,0") (WrongList 6)
+    ∷ refuses (short_head ++ bytes "goal=\nstart=0,2") (WrongList 6)
+    ∷ refuses (short_head ++ bytes "goal=\nstart=0,0\npatterns=9") (OutOfRange 7)
+    ∷ refuses (short_head ++ bytes "goal=\nstart=0,0\npatterns=1\npattern=1,0") (WrongList 8)
+    ∷ record { text = []; lent = 1 ∷ 2 ∷ 3 ∷ []; expected = record { answer = Err (ShortRecord 3); leaves = 1 ∷ 2 ∷ 3 ∷ [] } }
     ∷ []
 
 pub samples_as_expected : map (λ s. called s.text s.lent) samples ≡ map (λ s. s.expected) samples

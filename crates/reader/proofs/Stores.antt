@@ -1,43 +1,32 @@
 -- Runs of stores, one store after the other, and the blank record as the stores that make it.
 -- Assumes nothing.
-use mathlib.Core.Path.{◌≡◌, refl, ap, ◌∙◌}
-use mathlib.Core.List.{List, [], ◌∷◌, ◌++◌, append-nil}
-use Prim.Native.Nat.{ℕ, suc, ◌+◌, ◌-◌, ◌≤◌, ◌<◌}
-use native.Mathlib.Decide.{dec_le}
-use native.Mathlib.Nat.{lt_of_not-le}
+use mathlib.Core.Path.{◌≡◌, refl, sym, ap, ◌∙◌}
+use mathlib.Core.List.{List, [], ◌∷◌, ◌++◌, append_assoc, append-nil}
+use Prim.Native.Nat.{ℕ, zero, suc, ◌+◌, ◌-◌, ◌≤◌, ◌<◌}
 use native.Mathlib.Omega.{arith}
-use lib.ListN.{length, drop, get_or, set, replicate, drop_of_length-le, length-replicate}
-use lib.Seq.{sets, sets-eq, set_out}
+use lib.ListN.{length, take, drop, set, replicate, drop_of_length-le, length-replicate, length-set}
+use lib.Seq.{sets, sets-eq, set_out, drop-drop}
 use Rattle.task_record.specs.Layout.{record_size, at_goal, at_pattern, at_action}
 use Rattle.reader.specs.Grammar.{unused_action, unused_actions, blank}
 use Rattle.reader.specs.Stores.{all_unnamed, clear_actions}
-use Rattle.task_record.proofs.Rest.{drop_step}
 
--- one store more of a run of stores
-pub sets_step : (r vs : List ℕ) (at i : ℕ) → i < length vs → sets r (at + i) (drop i vs) ≡ sets (set r (at + i) (get_or vs i 0)) (at + (i + 1)) (drop (i + 1) vs)
-sets_step r vs at i h =
-    let e : suc (at + i) ≡ at + (i + 1) = omega arith in
-    rw (drop_step vs i h, ← e)
+-- a part of a list put back as the values that are stored there
+pub part_stored : (r vs : List ℕ) (at n : ℕ) → length vs ≡ n → at + n ≤ length r → take at r ++ (vs ++ drop (at + n - at) (drop at r)) ≡ sets r at vs
+part_stored r vs at n e h =
+    let f : at + n - at ≡ length vs = omega arith in
+    rw (f, drop-drop (length vs) at r) (sym (append_assoc (take at r) vs (drop (at + length vs) r)) ∙ sym (sets-eq vs r at (omega arith)))
 
 -- past the end nothing is stored
 pub sets_out : (vs r : List ℕ) (at : ℕ) → length r ≤ at → sets r at vs ≡ r
 sets_out [] r at h = refl
 sets_out (v ∷ vs) r at h = rw (set_out r at v h) (sets_out vs r (suc at) (omega arith))
 
--- a run is done where its values or the cells end
-pub sets-done : (r vs : List ℕ) (at i : ℕ) → (i < length vs → length r ≤ at + i) → sets r (at + i) (drop i vs) ≡ r
-sets-done r vs at i h = go (dec_le (length vs) i)
-  where
-    go : Dec (length vs ≤ i) → sets r (at + i) (drop i vs) ≡ r
-    go (yes p) = rw (drop_of_length-le vs p)
-    go (no p) = sets_out (drop i vs) r (at + i) (h (lt_of_not-le p))
-
--- one store more of a run of equal ones
-pub fill_step : (r : List ℕ) (at n i v : ℕ) → i < n → sets r (at + i) (replicate (n - i) v) ≡ sets (set r (at + i) v) (at + (i + 1)) (replicate (n - (i + 1)) v)
-fill_step r at n i v h =
-    let e : n - i ≡ suc (n - (i + 1)) = omega arith in
-    let f : suc (at + i) ≡ at + (i + 1) = omega arith in
-    rw (e, ← f)
+-- a run is stored whole where its front reaches the end of the cells
+pub sets_fit : (vs r : List ℕ) (at n : ℕ) → (n < length vs → length r ≤ at + n) → sets r at (take n vs) ≡ sets r at vs
+sets_fit [] r at zero h = refl
+sets_fit [] r at (suc n) h = refl
+sets_fit (v ∷ vs) r at zero h = sym (sets_out (v ∷ vs) r at (let k = h (omega arith) in omega arith))
+sets_fit (v ∷ vs) r at (suc n) h = sets_fit vs (set r at v) (suc at) n (λ l. let k = h (omega arith) in let m = length-set r at v in omega arith)
 
 -- a whole list stored from the start
 pub sets_front : (out vs : List ℕ) (n : ℕ) → length vs ≡ n → n ≤ length out → sets out 0 vs ≡ vs ++ drop n out

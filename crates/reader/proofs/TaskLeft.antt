@@ -1,4 +1,4 @@
--- What a call that answers Read leaves says the task and the patterns that the text says, whatever stands after the first 9,464 bytes.
+-- What a call that answers Ok leaves says the task and the patterns that the text says, whatever stands after the first 9,464 bytes.
 -- Assumes nothing.
 use mathlib.Core.Path.{◌≡◌, refl, ap₂}
 use mathlib.Core.List.{List, ◌∷◌, ◌++◌}
@@ -14,7 +14,7 @@ use Rattle.task_record.specs.Record.{Sound}
 use Rattle.task_record.specs.TaskOf.{cells_at, action_of, task_of, patterns_of}
 use Rattle.task_record.proofs.SoundTask.{variables_right, actions_right, patterns_right, outcomes_right}
 use Rattle.reader.specs.Grammar.{complete, read_whole, read_answer, read_leaves}
-use Rattle.reader.specs.declared.text.Reading.TheVariants.{Read}
+use Rattle.std.specs.Prelude.{Ok}
 use Rattle.reader.proofs.ReadSound.{read_sound, read_length, read_answers, read_leaves_lem}
 
 same_entries : {A : Type 0} (f g : ℕ → A) (k n : ℕ) → ((i : ℕ) → i < n → f (k + i) ≡ g (k + i)) → tabulate f k n ≡ tabulate g k n
@@ -52,7 +52,7 @@ module _ (r rest : List ℕ) (whole : length r ≡ record_size) (sound : Sound r
       rw (same_cell 2 (omega arith))
       (same_entries (λ p. cells_at (r ++ rest) (at_pattern p)) (λ p. cells_at r (at_pattern p)) 0 (pattern_count r) (λ p l. same_part 16 (at_pattern (0 + p)) (omega arith)))
 
-module _ (text record₀ : List ℕ) (answer : read_answer text record₀ ≡ Read) (r : List ℕ) (says : read_whole text ≡ complete r) where
+module _ (text record₀ : List ℕ) (answer : read_answer text record₀ ≡ Ok tt) (r : List ℕ) (says : read_whole text ≡ complete r) where
   pub task_left : task_of (read_leaves text record₀) ≡ task_of r
   task_left = rw (read_leaves_lem text record₀ r (read_answers text record₀ answer).0 says)
       (same_task r (drop record_size record₀) (read_length text r says) (read_sound text r says))

@@ -9,11 +9,11 @@ use lib.Seq.{append_snoc, set_at}
 use borrow.Author.Tests.{eq-eqb, ne_eqb}
 use Rattle.planning.specs.Finite.{All}
 use Rattle.reader.specs.Text.{line_break, comma, colon}
-use Rattle.reader.specs.Lists.{item_of, pair_fits, Gathered, list_from, is_values, listed, unnamed, no_items, list_of}
+use Rattle.reader.specs.Lists.{pair_named, item_of, pair_fits, list_from, is_values, listed, unnamed, no_items, list_of}
 use Rattle.reader.specs.Written.{decimal, item_text, items_of, after_commas, joined, list_text}
+use Rattle.reader.specs.declared.lists.Gathered.{Gathered}
 use Rattle.reader.specs.declared.lists.Kind.{Kind}
 use Rattle.reader.specs.declared.lists.Kind.TheVariants.{Pairs, Values, Members}
-use Rattle.reader.specs.declared.lists.Pair.TheVariants.{Named}
 use Rattle.reader.proofs.Items.{step_kept, listed_some}
 use Rattle.reader.proofs.WrittenNumbers.{decimal_says}
 use Rattle.reader.proofs.WrittenPieces.{lacks, lacks_append, decimal_lacks, joined-pieces}
@@ -22,7 +22,7 @@ use Rattle.reader.proofs.WrittenPieces.{lacks, lacks_append, decimal_lacks, join
 pub data Listable (r : List ℕ) (kind : Kind) : ℕ → ℕ → List ℕ → ℕ → Type 0 where
   none : (next v : ℕ) → Listable r kind next v [] next
   skipped : (next v x : ℕ) (xs : List ℕ) (last : ℕ) → x ≡ unnamed kind → Listable r kind next (v + 1) xs last → Listable r kind next v (x ∷ xs) last
-  named : (next v x : ℕ) (xs : List ℕ) (last : ℕ) → (x ≡ unnamed kind → ⊥) → v ≤ 255 → x ≤ 255 → item_of kind next (item_text kind v x) ≡ Named v x
+  named : (next v x : ℕ) (xs : List ℕ) (last : ℕ) → (x ≡ unnamed kind → ⊥) → v ≤ 255 → x ≤ 255 → item_of kind next (item_text kind v x) ≡ pair_named v x
       → pair_fits r next v x ≡ true → Listable r kind (v + 1) (v + 1) xs last → Listable r kind next v (x ∷ xs) last
 
 -- what has been read when the cells are c and `next` comes next

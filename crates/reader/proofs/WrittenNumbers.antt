@@ -8,7 +8,7 @@ use native.Mathlib.Omega.{arith}
 use lib.Dec.{ltb, leb, eqb}
 use lib.ListN.{length, get_or, length-append, get_or-append}
 use borrow.Author.Tests.{ltb-true, ltb-false, le-leb, ne_eqb}
-use Rattle.reader.specs.declared.decimal.Decimal.TheVariants.{Value}
+use Rattle.std.proofs.Common.{Some}
 use Rattle.reader.specs.Text.{digit, digits, value, well_formed, number_of}
 use Rattle.reader.specs.Written.{digits_of, decimal}
 use Rattle.planning.proofs.Test.{by_test}
@@ -79,7 +79,7 @@ unfolding decimal
 decimal_says n l = digits_say 6 n (omega arith)
 
 -- A number that was written is read back.
-pub number_read : (n : ℕ) → n ≤ 1000000 → number_of (decimal n) ≡ Value n
+pub number_read : (n : ℕ) → n ≤ 1000000 → number_of (decimal n) ≡ Some n
 unfolding number_of well_formed
 number_read n l =
     let h = decimal_says n l in

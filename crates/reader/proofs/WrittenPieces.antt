@@ -10,10 +10,9 @@ use lib.Seq.{take-append_seam, drop-append-add}
 use borrow.Author.Tests.{leb-true, eq-eqb, ne_eqb, not-true}
 use Rattle.planning.specs.Finite.{All}
 use Rattle.reader.specs.Text.{line_break, comma, colon, index_of, digit, digits, lines_of, pieces}
-use Rattle.reader.specs.Lists.{pair_of}
+use Rattle.reader.specs.Lists.{pair_named, pair_of}
 use Rattle.reader.specs.Written.{decimal, after_commas, text_of}
-use Rattle.reader.specs.declared.decimal.Decimal.TheVariants.{Value}
-use Rattle.reader.specs.declared.lists.Pair.TheVariants.{Named}
+use Rattle.std.proofs.Common.{Some}
 use Rattle.task_record.proofs.Tests.{both, both_left, both_right}
 use Rattle.reader.proofs.Items.{pair_parts}
 use Rattle.reader.proofs.WrittenNumbers.{decimal_says, number_read}
@@ -85,10 +84,10 @@ index_parted b [] rest h = rw (eq-eqb b b refl)
 index_parted b (x ∷ xs) rest h =
     rw (not-true (eqb x b) (both_left (not (eqb x b)) (lacks b xs) h), index_parted b xs rest (both_right (not (eqb x b)) (lacks b xs) h))
 
-pub pair_read : (v x : ℕ) → v ≤ 1000000 → x ≤ 1000000 → pair_of (decimal v ++ (colon ∷ decimal x)) ≡ Named v x
+pub pair_read : (v x : ℕ) → v ≤ 1000000 → x ≤ 1000000 → pair_of (decimal v ++ (colon ∷ decimal x)) ≡ pair_named v x
 pair_read v x l k =
     let s = decimal v ++ (colon ∷ decimal x) in
-    pair_parts s (length (decimal v)) (Value v) (Value x)
+    pair_parts s (length (decimal v)) (Some v) (Some x)
     (sym (index_parted colon (decimal v) (decimal x) (decimal_lacks colon v (λ z a b e. omega arith) l)))
     (rw (take-append_seam (decimal v) (colon ∷ decimal x)) (sym (number_read v l)))
     (rw (drop-append-add (decimal v) (colon ∷ decimal x) 1) (sym (number_read x k)))

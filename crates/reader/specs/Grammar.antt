@@ -1,21 +1,20 @@
 -- Document 01, "Text" and refusals 1 to 5: which line is due, what a line does to the record, and the whole text. `read_answer` and `read_leaves`
 -- are what a call answers and what the lent record holds after it. Assumes nothing.
-use Rattle.std.specs.Prelude.{ℕ, zero, suc, ◌+◌, ◌-◌, ◌/◌, ◌%◌, Bool, true, false, cond, ◌&&◌, List, [], ◌∷◌, ◌++◌, length, get_or, drop, set, replicate, ltb, leb}
+use Rattle.std.specs.Prelude.{ℕ, zero, suc, ◌+◌, ◌-◌, ◌/◌, ◌%◌, Bool, true, false, cond, ◌&&◌, List, [], ◌∷◌, ◌++◌, length, get_or, drop, set, replicate, ltb, leb, Option, Some, None, Result, Ok, Err}
 use Rattle.std.proofs.lemmas.List.Edits.{sets}
 use Rattle.task_record.specs.Layout.{record_size, at_variables, at_actions, at_patterns, at_limit, at_budget, at_sizes, at_goal, at_start, at_pattern, at_action, at_precondition, at_outcome}
 use Rattle.reader.specs.Bytes.{bytes}
 use Rattle.reader.specs.Text.{lines_of, has_key, number_of}
-use Rattle.reader.specs.Lists.{Gathered, list_of, whole_list}
-use Rattle.reader.specs.declared.decimal.Decimal.{Decimal}
-use Rattle.reader.specs.declared.decimal.Decimal.TheVariants.{Value, Malformed}
+use Rattle.reader.specs.Lists.{list_of, whole_list}
 use Rattle.reader.specs.declared.lists.Kind.{Kind}
 use Rattle.reader.specs.declared.lists.Kind.TheVariants.{Pairs, Values, Members}
 use Rattle.reader.specs.declared.order.Due.{Due}
 use Rattle.reader.specs.declared.order.Due.TheVariants.{Vars, Size, Moves, Need, Outcomes, Eff, Goal, Start, Patterns, Pattern, Limit, Budget, End}
-use Rattle.reader.specs.declared.grammar.Taken.{Taken}
-use Rattle.reader.specs.declared.grammar.Taken.TheVariants.{Next, Faulty}
-use Rattle.reader.specs.declared.text.Reading.{Reading}
-use Rattle.reader.specs.declared.text.Reading.TheVariants.{Read, Refused}
+use Rattle.reader.specs.declared.grammar.LineFault.{LineFault}
+use Rattle.reader.specs.declared.grammar.LineFault.TheVariants as of-line
+use Rattle.reader.specs.declared.lists.Gathered.{Gathered}
+use Rattle.task_record.specs.declared.refusal.Refusal.{Refusal}
+use Rattle.task_record.specs.declared.refusal.Refusal.TheVariants.{UnexpectedLine, WrongForm, OutOfRange, WrongList, ShortRecord}
 
 -- The order of the lines. "in this order: vars; size per variable; moves; per move need, outcomes, then eff per outcome; goal; start; patterns;
 -- pattern each; limit; budget." The record r has the counts that were read.
@@ -59,49 +58,49 @@ ended Limit = false
 ended Budget = false
 ended End = true
 
--- What a line does: it is taken, with what is due next and the record with what the line says; or it is faulty, with the number of its refusal.
+-- What a line does: it is taken, with what is due next and the record with what the line says; or it is faulty, with what is wrong with it.
 pub data Line : Type 0 where
   taken : Due → List ℕ → Line
-  faulty : ℕ → Line
+  faulty : LineFault → Line
 
 -- a line that was due is taken and leaves the record r
 abbrev pub go_on : Due → List ℕ → Line
 go_on due r = taken (next_due r due) r
 
 -- the same, of the code's answer and the record that it was lent
-abbrev pub told : Taken → List ℕ → Line
-told (Next due) r = taken due r
-told (Faulty number) r = faulty number
+abbrev pub told : Result Due LineFault → List ℕ → Line
+told (Ok due) r = taken due r
+told (Err fault) r = faulty fault
 
 -- Refusal 2, "form of number or list", then 3, "a single number outside its range": a number from lo to hi goes to an offset.
-unfoldable pub take_number : List ℕ → Due → ℕ → ℕ → ℕ → Decimal → Line
-take_number r due lo hi at Malformed = faulty 2
-take_number r due lo hi at (Value n) = cond (leb lo n && leb n hi) (go_on due (set r at n)) (faulty 3)
+unfoldable pub take_number : List ℕ → Due → ℕ → ℕ → ℕ → Option ℕ → Line
+take_number r due lo hi at None = faulty of-line.Form
+take_number r due lo hi at (Some n) = cond (leb lo n && leb n hi) (go_on due (set r at n)) (faulty of-line.Range)
 
 -- "4 to 7 budget, lowest byte first"; "budget 0 to 1,000,000"
 unfoldable pub budget_bytes : ℕ → List ℕ
 budget_bytes n = n % 256 ∷ n / 256 % 256 ∷ n / 65536 % 256 ∷ n / 16777216 % 256 ∷ []
 
-unfoldable pub take_budget : List ℕ → Due → Decimal → Line
-take_budget r due Malformed = faulty 2
-take_budget r due (Value n) = cond (leb n 1000000) (go_on due (sets r at_budget (budget_bytes n))) (faulty 3)
+unfoldable pub take_budget : List ℕ → Due → Option ℕ → Line
+take_budget r due None = faulty of-line.Form
+take_budget r due (Some n) = cond (leb n 1000000) (go_on due (sets r at_budget (budget_bytes n))) (faulty of-line.Range)
 
 -- Refusal 2, "form of number or list", then 4, "list: ..": the list's cells go to an offset.
 unfoldable pub take_list : List ℕ → Due → Kind → ℕ → Gathered → Line
 take_list r due kind at g =
     cond g.form
-    (cond (g.list && whole_list (get_or r at_variables 0) kind g.next) (go_on due (sets r at g.cells)) (faulty 4))
-    (faulty 2)
+    (cond (g.list && whole_list (get_or r at_variables 0) kind g.next) (go_on due (sets r at g.cells)) (faulty of-line.List))
+    (faulty of-line.Form)
 
 -- "within it the key, then form, then range or list": refusal 1 for "a line without the due key and =", else what the value after the key says
 unfoldable pub number_line : List ℕ → Due → List ℕ → List ℕ → ℕ → ℕ → ℕ → Line
-number_line r due line key lo hi at = cond (has_key key line) (take_number r due lo hi at (number_of (drop (length key) line))) (faulty 1)
+number_line r due line key lo hi at = cond (has_key key line) (take_number r due lo hi at (number_of (drop (length key) line))) (faulty of-line.Unexpected)
 
 unfoldable pub budget_line : List ℕ → Due → List ℕ → List ℕ → Line
-budget_line r due line key = cond (has_key key line) (take_budget r due (number_of (drop (length key) line))) (faulty 1)
+budget_line r due line key = cond (has_key key line) (take_budget r due (number_of (drop (length key) line))) (faulty of-line.Unexpected)
 
 unfoldable pub list_line : List ℕ → Due → List ℕ → List ℕ → Kind → ℕ → Line
-list_line r due line key kind at = cond (has_key key line) (take_list r due kind at (list_of r kind (drop (length key) line))) (faulty 1)
+list_line r due line key kind at = cond (has_key key line) (take_list r due kind at (list_of r kind (drop (length key) line))) (faulty of-line.Unexpected)
 
 -- the keys with their `=`
 abbrev pub key_vars : List ℕ
@@ -155,27 +154,34 @@ take_line r Patterns l = number_line r Patterns l key_patterns 0 8 at_patterns
 take_line r (Pattern p) l = list_line r (Pattern p) l key_pattern Members (at_pattern p)
 take_line r Limit l = number_line r Limit l key_limit 0 32 at_limit
 take_line r Budget l = budget_line r Budget l key_budget
-take_line r End l = faulty 1
+take_line r End l = faulty of-line.Unexpected
 
--- What a text says: a record, or a refusal with its number and its line.
+-- refusals 1 to 4, of a line: what is wrong with it, and its number
+abbrev pub fault_at : LineFault → ℕ → Refusal
+fault_at of-line.Unexpected line = UnexpectedLine line
+fault_at of-line.Form line = WrongForm line
+fault_at of-line.Range line = OutOfRange line
+fault_at of-line.List line = WrongList line
+
+-- What a text says: a record, or a refusal of one of its lines.
 pub data Whole : Type 0 where
   complete : List ℕ → Whole
-  refused : ℕ → ℕ → Whole
+  refused : Refusal → Whole
 
 -- the same, of the code's answer and the record that it was lent
-abbrev pub whole_of : Reading → List ℕ → Whole
-whole_of Read r = complete r
-whole_of (Refused number line) r = refused number line
+abbrev pub whole_of : Result Unit Refusal → List ℕ → Whole
+whole_of (Ok done) r = complete r
+whole_of (Err refusal) r = refused refusal
 
 -- line number n is done; where it was taken, the rest goes on
 abbrev pub proceed : ℕ → Line → (Due → List ℕ → Whole) → Whole
 proceed n (taken due r) rest = rest due r
-proceed n (faulty number) rest = refused number n
+proceed n (faulty fault) rest = refused (fault_at fault n)
 
 -- The lines from number n on. "The lowest faulty line is reported"; refusal 1 for "line missing or extra", a missing one at the number it
 -- would have had.
 unfoldable pub read_from : ℕ → Due → List ℕ → List (List ℕ) → Whole
-read_from n due r [] = cond (ended due) (complete r) (refused 1 n)
+read_from n due r [] = cond (ended due) (complete r) (refused (UnexpectedLine n))
 read_from n due r (l ∷ ls) = proceed n (take_line r due l) (λ d x. read_from (n + 1) d x ls)
 
 -- "Unused cells: size, pattern and outcome number 0, all others 255": an action that is not used, n of them, a record with nothing used
@@ -194,18 +200,18 @@ blank = replicate at_goal 0 ++ (replicate (at_pattern 0 - at_goal) 255 ++ (repli
 unfoldable pub read_whole : List ℕ → Whole
 read_whole text = read_from 1 Vars blank (lines_of text)
 
-abbrev pub answer_of : Whole → Reading
-answer_of (complete r) = Read
-answer_of (refused number line) = Refused number line
+abbrev pub answer_of : Whole → Result Unit Refusal
+answer_of (complete r) = Ok tt
+answer_of (refused refusal) = Err refusal
 
 -- "The reader writes 9,464 bytes and nothing after"; "refused calls leave every lent slice as found"
 abbrev pub record_left_by : List ℕ → Whole → List ℕ
 record_left_by record₀ (complete r) = r ++ drop record_size record₀
-record_left_by record₀ (refused number line) = record₀
+record_left_by record₀ (refused refusal) = record₀
 
 -- What the call answers, and what the lent record holds after it. "the reader tests 5 first": "lent record below 9,464 bytes", "its length".
-unfoldable pub read_answer : List ℕ → List ℕ → Reading
-read_answer text record₀ = cond (ltb (length record₀) record_size) (Refused 5 (length record₀)) (answer_of (read_whole text))
+unfoldable pub read_answer : List ℕ → List ℕ → Result Unit Refusal
+read_answer text record₀ = cond (ltb (length record₀) record_size) (Err (ShortRecord (length record₀))) (answer_of (read_whole text))
 
 unfoldable pub read_leaves : List ℕ → List ℕ → List ℕ
 read_leaves text record₀ = cond (ltb (length record₀) record_size) record₀ (record_left_by record₀ (read_whole text))

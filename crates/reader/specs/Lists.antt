@@ -1,24 +1,25 @@
 -- Document 01, "Text", the three kinds of list: pairs, values and members, each read into 16 cells.
 -- Assumes nothing.
-use Rattle.std.specs.Prelude.{ℕ, ◌+◌, Bool, true, false, cond, ◌&&◌, List, [], ◌∷◌, get_or, take, drop, set, replicate, ltb, leb, eqb}
+use Rattle.std.specs.Prelude.{ℕ, ◌+◌, Bool, true, false, cond, ◌&&◌, List, [], ◌∷◌, get_or, take, drop, set, replicate, ltb, leb, eqb, Option, Some, None}
 use Rattle.task_record.specs.Layout.{at_variables, at_sizes}
 use Rattle.reader.specs.Text.{comma, colon, index_of, pieces, number_of}
-use Rattle.reader.specs.declared.decimal.Decimal.{Decimal}
-use Rattle.reader.specs.declared.decimal.Decimal.TheVariants.{Value, Malformed}
 use Rattle.reader.specs.declared.lists.Pair.{Pair}
-use Rattle.reader.specs.declared.lists.Pair.TheVariants.{Named, Ill}
+use Rattle.reader.specs.declared.lists.Gathered.{Gathered}
 use Rattle.reader.specs.declared.lists.Kind.{Kind}
 use Rattle.reader.specs.declared.lists.Kind.TheVariants.{Pairs, Values, Members}
-use Rattle.reader.specs.declared.lists.Progress.{Progress}
+
+-- variable v with value x
+abbrev pub pair_named : ℕ → ℕ → Option Pair
+pair_named v x = Some (record { variable = v; value = x })
 
 -- what two numbers say
-abbrev pub pair_from : Decimal → Decimal → Pair
-pair_from Malformed y = Ill
-pair_from (Value v) Malformed = Ill
-pair_from (Value v) (Value x) = Named v x
+abbrev pub pair_from : Option ℕ → Option ℕ → Option Pair
+pair_from None y = None
+pair_from (Some v) None = None
+pair_from (Some v) (Some x) = pair_named v x
 
 -- "variable:value": what stands before the first colon and after it. Without a colon nothing stands after it, and nothing is no number.
-unfoldable pub pair_of : List ℕ → Pair
+unfoldable pub pair_of : List ℕ → Option Pair
 pair_of p = pair_from (number_of (take (index_of colon p) p)) (number_of (drop (index_of colon p + 1) p))
 
 -- the first of the pieces of a list's text
@@ -27,33 +28,22 @@ first_piece s = take (index_of comma s) s
 
 -- A piece of a list as variable and value. "need, eff and goal hold variable:value pairs ..": Pairs. "start holds N values": Values, the value of
 -- the variable that comes next. "pattern holds ascending variables": Members, marked 1 ("byte 1 if the variable is in, else 0").
-unfoldable pub item_of : Kind → ℕ → List ℕ → Pair
+unfoldable pub item_of : Kind → ℕ → List ℕ → Option Pair
 item_of Pairs next p = pair_of p
-item_of Values next p = pair_from (Value next) (number_of p)
-item_of Members next p = pair_from (number_of p) (Value 1)
+item_of Values next p = pair_from (Some next) (number_of p)
+item_of Members next p = pair_from (number_of p) (Some 1)
 
 -- "list: variable not below N, not ascending, value not below size": the rules for variable v and value x, of the record r with N and the
 -- sizes, where `next` is the lowest variable that may still come
 unfoldable pub pair_fits : List ℕ → ℕ → ℕ → ℕ → Bool
 pair_fits r next v x = leb next v && ltb v (get_or r at_variables 0) && ltb x (get_or r (at_sizes + v) 0)
 
--- What the pieces so far say: whether each had the form, whether each kept the list's rules, the lowest variable that may come, the cells.
-pub record Gathered : Type 0 where
-  pub form : Bool
-  pub list : Bool
-  pub next : ℕ
-  pub cells : List ℕ
-
--- the same, of the code's small state and the cells that are lent to it
-abbrev pub gathered : Progress → List ℕ → Gathered
-gathered c cells = record { form = c.form; list = c.list; next = c.next; cells = cells }
-
 -- One piece more: what is no pair is a fault of form, a pair against the rules is one of the list, and any other sets its cell.
-unfoldable pub pair_step : List ℕ → Gathered → Pair → Gathered
-pair_step r g Ill = record { form = false; list = g.list; next = g.next; cells = g.cells }
-pair_step r g (Named v x) =
-    cond (pair_fits r g.next v x)
-    (record { form = g.form; list = g.list; next = v + 1; cells = set g.cells v x })
+unfoldable pub pair_step : List ℕ → Gathered → Option Pair → Gathered
+pair_step r g None = record { form = false; list = g.list; next = g.next; cells = g.cells }
+pair_step r g (Some p) =
+    cond (pair_fits r g.next p.variable p.value)
+    (record { form = g.form; list = g.list; next = p.variable + 1; cells = set g.cells p.variable p.value })
     (record { form = g.form; list = false; next = g.next; cells = g.cells })
 
 unfoldable pub list_from : List ℕ → Kind → Gathered → List (List ℕ) → Gathered
@@ -77,14 +67,8 @@ unnamed Values = 255
 unnamed Members = 0
 
 -- nothing read yet
-abbrev pub no_progress : Progress
-no_progress = record { form = true; list = true; next = 0 }
-
-abbrev pub started : List ℕ → Gathered
-started cells = gathered no_progress cells
-
 unfoldable pub no_items : Kind → Gathered
-no_items kind = started (replicate 16 (unnamed kind))
+no_items kind = record { form = true; list = true; next = 0; cells = replicate 16 (unnamed kind) }
 
 -- the text of a list, read with the N and the sizes of the record r
 unfoldable pub list_of : List ℕ → Kind → List ℕ → Gathered

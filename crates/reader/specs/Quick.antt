@@ -4,17 +4,17 @@ use Rattle.std.specs.Prelude.{ℕ, ◌+◌, ◌≤◌, ◌<◌, true, List, ◌�
 use Rattle.std.proofs.lemmas.List.Edits.{sets}
 use Rattle.task_record.specs.Layout.{at_variables}
 use Rattle.reader.specs.Text.{lines_of}
-use Rattle.reader.specs.Lists.{Gathered, item_of, list_of, whole_list}
+use Rattle.reader.specs.Lists.{pair_named, item_of, list_of, whole_list}
 use Rattle.reader.specs.Grammar.{read_from}
 use Rattle.reader.specs.Written.{decimal, item_text}
 use Rattle.reader.specs.declared.lists.Kind.{Kind}
-use Rattle.reader.specs.declared.lists.Pair.TheVariants.{Named}
+use Rattle.reader.specs.declared.lists.Gathered.{Gathered}
 use Rattle.reader.specs.declared.order.Due.{Due}
 
 -- variable v with value x stands at a place as an item of a list, where `next` is the variable that comes next
 pub record ItemAt (t : List ℕ) (at : ℕ) (kind : Kind) (next v x end : ℕ) : Type 0 where
   pub stands : drop at t ≡ item_text kind v x ++ drop end t
-  pub says : item_of kind next (item_text kind v x) ≡ Named v x
+  pub says : item_of kind next (item_text kind v x) ≡ pair_named v x
   pub small : (v < 256) × (x < 256)
 
 -- what has been read when the cells are c and `next` comes next

@@ -1,8 +1,6 @@
 -- Document 01, "Text", on lists of bytes: lines, pieces, keys and decimal numbers. A later layer never asks for a position.
 -- Assumes nothing.
-use Rattle.std.specs.Prelude.{ℕ, zero, suc, ◌+◌, ◌-◌, ◌*◌, Bool, true, false, cond, not, ◌&&◌, ◌||◌, List, [], ◌∷◌, length, get_or, leb, eqb}
-use Rattle.reader.specs.declared.decimal.Decimal.{Decimal}
-use Rattle.reader.specs.declared.decimal.Decimal.TheVariants.{Value, Malformed}
+use Rattle.std.specs.Prelude.{ℕ, zero, suc, ◌+◌, ◌-◌, ◌*◌, Bool, true, false, cond, not, ◌&&◌, ◌||◌, List, [], ◌∷◌, length, get_or, leb, eqb, Option, Some, None}
 
 -- the bytes that part: a line's end, `,` and `:`
 abbrev pub line_break : ℕ
@@ -62,5 +60,5 @@ value n (x ∷ xs) = value (n * 10 + (x - 48)) xs
 unfoldable pub well_formed : List ℕ → Bool
 well_formed s = leb 1 (length s) && leb (length s) 7 && (leb (length s) 1 || not (eqb (get_or s 0 0) 48)) && digits s
 
-unfoldable pub number_of : List ℕ → Decimal
-number_of s = cond (well_formed s) (Value (value 0 s)) Malformed
+unfoldable pub number_of : List ℕ → Option ℕ
+number_of s = cond (well_formed s) (Some (value 0 s)) None

@@ -1,18 +1,19 @@
-// The three kinds of list, each read in one pass into lent cells. The pass remembers both kinds of fault, so that the form of the whole list
+// The three kinds of list, each read in one pass into its sixteen cells. The pass remembers both kinds of fault, so that the form of the whole list
 // goes before its rules without a second pass. Assumes nothing.
 ghost use Rattle.std.specs.Prelude.{◌≡◌, true, ◌<◌};
 ghost use Rattle.reader.specs.Text.{comma, index_of};
-ghost use Rattle.reader.specs.Lists.{first_piece, pair_from, pair_of, item_of, pair_fits, gathered, pair_step, no_progress, started, list_from, listed, is_values, unnamed, whole_list};
+ghost use Rattle.reader.specs.Lists.{first_piece, pair_from, pair_of, item_of, pair_fits, pair_step, no_items, list_of, is_values, unnamed, whole_list};
 
-use crate::decimal::{Decimal, number};
+use crate::decimal::number;
 use crate::pieces::{COLON, COMMA, find, find_either};
 use crate::store::{cell_at, put};
-use task_record::layout::{AT_SIZES, AT_VARIABLES, UNNAMED};
+use task_record::layout::{AT_SIZES, AT_VARIABLES, ROW_SIZE, UNNAMED};
 
+// A variable and its value.
 #[derive(Clone, Copy)]
-pub enum Pair {
-    Named(usize, usize),
-    Ill,
+pub struct Pair {
+    pub variable: usize,
+    pub value: usize,
 }
 
 // variable:value pairs, the values of all variables, or variables.
@@ -23,32 +24,29 @@ pub enum Kind {
     Members,
 }
 
-// What the pieces so far say, beside the cells: whether each had the form, whether each kept the list's rules, the lowest variable that may come.
+// What the pieces so far say: whether each had the form, whether each kept the list's rules, the lowest variable that may come, the cells.
 #[derive(Clone, Copy)]
-pub struct Progress {
+pub struct Gathered {
     pub form: bool,
     pub list: bool,
     pub next: usize,
+    pub cells: [u8; ROW_SIZE],
 }
 
-// What the first piece of a list says, and its length.
+// What the first piece of a list says, where it has the form, and its length.
 #[derive(Clone, Copy)]
 pub struct Piece {
-    pub pair: Pair,
+    pub pair: Option<Pair>,
     pub len: usize,
 }
 
 // What two numbers say.
-fn join(v: Decimal, x: Decimal) -> Pair
+fn join(v: Option<usize>, x: Option<usize>) -> Option<Pair>
     ensures { result ≡ pair_from v x }
 {
-    match v {
-        Decimal::Malformed => Pair::Ill,
-        Decimal::Value(a) => match x {
-            Decimal::Malformed => Pair::Ill,
-            Decimal::Value(b) => Pair::Named(a, b),
-        },
-    }
+    let variable = v?;
+    let value = x?;
+    Some(Pair { variable, value })
 }
 
 // The first piece of a list of pairs: up to the first comma, parted by the first colon before it. Each byte is looked at once.
@@ -57,16 +55,10 @@ fn first_pair(s: &[u8]) -> Piece
 {
     let k = find_either(s, COLON, COMMA);
     if s.len() <= k {
-        return Piece {
-            pair: Pair::Ill,
-            len: k,
-        };
+        return Piece { pair: None, len: k };
     }
     if s[k] != COLON {
-        return Piece {
-            pair: Pair::Ill,
-            len: k,
-        };
+        return Piece { pair: None, len: k };
     }
     let rest = &s[k + 1..];
     let e = find(rest, COMMA);
@@ -88,13 +80,13 @@ fn first_item(kind: Kind, next: usize, s: &[u8]) -> Piece
         Kind::Values => {
             let k = find(s, COMMA);
             let x = number(&s[..k]);
-            let pair = join(Decimal::Value(next), x);
+            let pair = join(Some(next), x);
             Piece { pair, len: k }
         }
         Kind::Members => {
             let k = find(s, COMMA);
             let v = number(&s[..k]);
-            let pair = join(v, Decimal::Value(1));
+            let pair = join(v, Some(1));
             Piece { pair, len: k }
         }
     }
@@ -116,29 +108,6 @@ fn allowed(rec: &[u8], next: usize, v: usize, x: usize) -> bool
     x < size
 }
 
-// One pair more.
-fn pair_step(rec: &[u8], cells: &mut [u8], c: Progress, p: Pair) -> Progress
-    ensures { pair_step rec.now (gathered c cells.old) p ≡ gathered result cells.new }
-{
-    let mut d = c;
-    match p {
-        Pair::Ill => {
-            d.form = false;
-            d
-        }
-        Pair::Named(v, x) => {
-            let next = c.next;
-            if allowed(rec, next, v, x) {
-                put(cells, v, x as u8);
-                d.next = v + 1;
-                return d;
-            }
-            d.list = false;
-            d
-        }
-    }
-}
-
 // The cell of a variable that a list does not name.
 pub(crate) fn unnamed_of(kind: Kind) -> u8
     ensures { result ≡ unnamed kind }
@@ -153,45 +122,64 @@ pub(crate) fn unnamed_of(kind: Kind) -> u8
 pub(crate) fn is_values(kind: Kind) -> bool
     ensures { result ≡ is_values kind }
 {
-    match kind {
-        Kind::Pairs => false,
-        Kind::Values => true,
-        Kind::Members => false,
+    matches!(kind, Kind::Values)
+}
+
+impl Gathered {
+    // Nothing read yet.
+    fn new(kind: Kind) -> Gathered
+        ensures { result ≡ no_items kind }
+    {
+        Gathered {
+            form: true,
+            list: true,
+            next: 0,
+            cells: [unnamed_of(kind); ROW_SIZE],
+        }
+    }
+
+    // One piece more.
+    fn add(&mut self, rec: &[u8], piece: Option<Pair>)
+        ensures { self.new ≡ pair_step rec.now self.old piece }
+    {
+        match piece {
+            None => {
+                self.form = false;
+            }
+            Some(pair) => {
+                let variable = pair.variable;
+                let value = pair.value;
+                if allowed(rec, self.next, variable, value) {
+                    put(&mut self.cells, variable, value as u8);
+                    self.next = variable + 1;
+                } else {
+                    self.list = false;
+                }
+            }
+        }
     }
 }
 
-// Nothing read yet.
-fn no_progress() -> Progress
-    ensures { result ≡ no_progress }
+// The text of a list, read with the number of variables and the sizes of a record.
+pub(crate) fn read_list(rec: &[u8], kind: Kind, text: &[u8]) -> Gathered
+    ensures { result ≡ list_of rec.now kind text.now }
 {
-    Progress {
-        form: true,
-        list: true,
-        next: 0,
-    }
-}
-
-// The pieces of a list's text, into cells that are lent as those of an empty list.
-pub(crate) fn read_list(rec: &[u8], cells: &mut [u8], kind: Kind, v: &[u8]) -> Progress
-    ensures { list_from rec.now kind (started cells.old) (listed (is_values kind) v.now) ≡ gathered result cells.new }
-{
-    let mut c = no_progress();
-    if v.len() == 0 {
+    let mut gathered = Gathered::new(kind);
+    if text.len() == 0 {
         if !is_values(kind) {
-            return c;
+            return gathered;
         }
     }
     let mut at = 0;
-    while at <= v.len() {
-        let rest = &v[at..];
-        let next = c.next;
+    while at <= text.len() {
+        let rest = &text[at..];
+        let next = gathered.next;
         let item = first_item(kind, next, rest);
-        let p = item.pair;
         let k = item.len;
-        c = pair_step(rec, cells, c, p);
+        gathered.add(rec, item.pair);
         at = at + k + 1;
     }
-    c
+    gathered
 }
 
 // Whether a list of values has one for each of n variables.

@@ -3,11 +3,11 @@ ghost use Rattle.std.specs.Prelude.{◌≡◌};
 ghost use Rattle.reader.specs.Grammar.{action_from, pattern_from, next_due, ended};
 
 use crate::places::at_action;
-use crate::store::{cell_at, wide};
+use crate::store::cell_at;
 use task_record::layout::{AT_ACTION_COUNT, AT_PATTERN_COUNT, AT_VARIABLES};
 
 // The line that is due, by its key: of a size the variable, of the lines of an action its number, of an eff its place, of a pattern its number.
-#[derive(Clone, Copy)]
+#[derive(Clone, Copy, PartialEq, Eq)]
 pub enum Due {
     Vars,
     Size(u8),
@@ -46,7 +46,7 @@ fn after_size(r: &[u8], i: u8) -> Due
     ensures { result ≡ next_due r.now (Due.Size i) }
 {
     let n = cell_at(r, AT_VARIABLES);
-    let k = wide(i) + 1;
+    let k = usize::from(i) + 1;
     if k < n {
         Due::Size(k as u8)
     } else {
@@ -58,11 +58,11 @@ fn after_eff(r: &[u8], m: u8, o: u8) -> Due
     ensures { result ≡ next_due r.now (Due.Eff m o) }
 {
     let n = cell_at(r, at_action(m));
-    let k = wide(o) + 1;
+    let k = usize::from(o) + 1;
     if k < n {
         return Due::Eff(m, k as u8);
     }
-    action_from(r, wide(m) + 1)
+    action_from(r, usize::from(m) + 1)
 }
 
 // What is due after a line.
@@ -79,7 +79,7 @@ pub(crate) fn next_due(r: &[u8], d: Due) -> Due
         Due::Goal => Due::Start,
         Due::Start => Due::Patterns,
         Due::Patterns => pattern_from(r, 0),
-        Due::Pattern(p) => pattern_from(r, wide(p) + 1),
+        Due::Pattern(p) => pattern_from(r, usize::from(p) + 1),
         Due::Limit => Due::Budget,
         Due::Budget => Due::End,
         Due::End => Due::End,
@@ -90,19 +90,5 @@ pub(crate) fn next_due(r: &[u8], d: Due) -> Due
 pub(crate) fn is_end(due: Due) -> bool
     ensures { result ≡ ended due }
 {
-    match due {
-        Due::End => true,
-        Due::Vars => false,
-        Due::Size(_) => false,
-        Due::Moves => false,
-        Due::Need(_) => false,
-        Due::Outcomes(_) => false,
-        Due::Eff(_, _) => false,
-        Due::Goal => false,
-        Due::Start => false,
-        Due::Patterns => false,
-        Due::Pattern(_) => false,
-        Due::Limit => false,
-        Due::Budget => false,
-    }
+    matches!(due, Due::End)
 }

@@ -2,59 +2,37 @@
 ghost use Rattle.std.specs.Prelude.{◌≡◌, ◌+◌, ◌≤◌, eqb, length, drop};
 ghost use Rattle.reader.specs.Text.{index_of, index_of_either, has_key};
 
-pub const LINE_BREAK: u8 = 10;
+pub const LINE_BREAK: u8 = b'\n';
 
-pub const COMMA: u8 = 44;
+pub const COMMA: u8 = b',';
 
-pub const COLON: u8 = 58;
+pub const COLON: u8 = b':';
 
 // The index of the first b, or the length where there is none.
 pub(crate) fn find(s: &[u8], b: u8) -> usize
     ensures { result ≡ index_of b s.now }
 {
-    let mut i = 0;
-    while i < s.len() {
-        if s[i] == b {
+    for (i, x) in s.iter().enumerate() {
+        if *x == b {
             return i;
         }
-        i += 1;
     }
-    i
+    s.len()
 }
 
 // The index of the first a or b, or the length where there is neither.
 pub(crate) fn find_either(s: &[u8], a: u8, b: u8) -> usize
     ensures { result ≡ index_of_either a b s.now }
 {
-    let mut i = 0;
-    while i < s.len() {
-        let x = s[i];
-        if x == a {
+    for (i, x) in s.iter().enumerate() {
+        if *x == a {
             return i;
         }
-        if x == b {
+        if *x == b {
             return i;
         }
-        i += 1;
     }
-    i
-}
-
-// Whether the line begins with the key.
-pub(crate) fn has_key(line: &[u8], key: &[u8]) -> bool
-    ensures { result ≡ has_key key.now line.now }
-{
-    let mut i = 0;
-    while i < key.len() {
-        if line.len() <= i {
-            return false;
-        }
-        if line[i] != key[i] {
-            return false;
-        }
-        i += 1;
-    }
-    true
+    s.len()
 }
 
 // 0 where two bytes are the same, else 1: so faults are gathered by `|`, and a key that is known is compared as a word and not byte by byte.

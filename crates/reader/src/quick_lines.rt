@@ -8,7 +8,7 @@ ghost use Rattle.reader.specs.Quick.{ListAt, NumberAt};
 use crate::lists::{Kind, is_values, is_whole, unnamed_of};
 use crate::pieces::{COMMA, LINE_BREAK, key_at};
 use crate::quick_items::{quick_item, quick_pair, short_number};
-use crate::store::{fill, wide};
+use crate::store::fill;
 use task_record::layout::{AT_SIZES, ROW_SIZE, UNNAMED};
 
 // In a good text at least so many bytes stand from the place of any line but the last on: those of the shortest last two lines.
@@ -47,7 +47,7 @@ fn fits(rec: &[u8], n: usize, next: usize, v: usize, x: usize) -> bool
     if n <= v {
         return false;
     }
-    let size = wide(rec[AT_SIZES + v]);
+    let size = usize::from(rec[AT_SIZES + v]);
     x < size
 }
 

@@ -6,14 +6,13 @@ ghost use Rattle.reader.specs.Text.{lines_of, number_of};
 ghost use Rattle.reader.specs.Grammar.{action_from, pattern_from, go_on, take_budget, read_from, complete};
 ghost use Rattle.reader.specs.Quick.{Leads};
 
-use crate::decimal::{Decimal, number};
+use crate::decimal::number;
 use crate::grammar::put_budget;
 use crate::lists::Kind;
 use crate::order::Due;
 use crate::pieces::{LINE_BREAK, key_at};
 use crate::places::{at_action, at_outcome, at_pattern, at_precondition};
 use crate::quick_lines::{behind, quick_list_line, quick_number_line, quick_pairs};
-use crate::store::wide;
 use task_record::layout::{
     AT_ACTION_COUNT, AT_GOAL, AT_LIMIT, AT_PATTERN_COUNT, AT_SIZES, AT_START, AT_VARIABLES,
 };
@@ -44,7 +43,7 @@ fn quick_outcomes(text: &[u8], at: usize, rec: &mut [u8], n: usize, m: u8, count
 {
     let mut o = 0u8;
     let mut k = at;
-    while wide(o) < count {
+    while usize::from(o) < count {
         let a = behind(text, k, b"eff=");
         if a == 0 {
             return 0;
@@ -76,7 +75,7 @@ fn quick_action(text: &[u8], at: usize, rec: &mut [u8], n: usize, m: u8) -> usiz
     if b == 0 {
         return 0;
     }
-    let count = wide(rec[at_action(m)]);
+    let count = usize::from(rec[at_action(m)]);
     quick_outcomes(text, b, rec, n, m, count)
 }
 
@@ -88,7 +87,7 @@ fn quick_actions(text: &[u8], at: usize, rec: &mut [u8], n: usize, count: usize)
 {
     let mut m = 0u8;
     let mut k = at;
-    while wide(m) < count {
+    while usize::from(m) < count {
         k = quick_action(text, k, rec, n, m);
         if k == 0 {
             return 0;
@@ -106,7 +105,7 @@ fn quick_patterns(text: &[u8], at: usize, rec: &mut [u8], n: usize, count: usize
 {
     let mut p = 0u8;
     let mut k = at;
-    while wide(p) < count {
+    while usize::from(p) < count {
         k = quick_list_line(text, k, rec, b"pattern=", Kind::Members, n, at_pattern(p));
         if k == 0 {
             return 0;
@@ -126,7 +125,7 @@ fn quick_front(text: &[u8], rec: &mut [u8]) -> usize
     if a == 0 {
         return 0;
     }
-    let n = wide(rec[AT_VARIABLES]);
+    let n = usize::from(rec[AT_VARIABLES]);
     let b = quick_sizes(text, a, rec, n);
     if b == 0 {
         return 0;
@@ -135,7 +134,7 @@ fn quick_front(text: &[u8], rec: &mut [u8]) -> usize
     if c == 0 {
         return 0;
     }
-    let count = wide(rec[AT_ACTION_COUNT]);
+    let count = usize::from(rec[AT_ACTION_COUNT]);
     quick_actions(text, c, rec, n, count)
 }
 
@@ -166,7 +165,7 @@ fn quick_tail(text: &[u8], at: usize, rec: &mut [u8], n: usize) -> usize
     if a == 0 {
         return 0;
     }
-    let count = wide(rec[AT_PATTERN_COUNT]);
+    let count = usize::from(rec[AT_PATTERN_COUNT]);
     let b = quick_patterns(text, a, rec, n, count);
     if b == 0 {
         return 0;
@@ -184,7 +183,7 @@ fn quick_lines(text: &[u8], rec: &mut [u8]) -> usize
     if a == 0 {
         return 0;
     }
-    let n = wide(rec[AT_VARIABLES]);
+    let n = usize::from(rec[AT_VARIABLES]);
     let b = quick_states(text, a, rec, n);
     if b == 0 {
         return 0;
@@ -209,8 +208,8 @@ fn quick_budget(rec: &mut [u8], s: &[u8]) -> bool
     ensures { result ≡ true → take_budget rec.old Due.Budget (number_of s.now) ≡ go_on Due.Budget rec.new }
 {
     match number(s) {
-        Decimal::Malformed => false,
-        Decimal::Value(n) => {
+        None => false,
+        Some(n) => {
             if 1000000 < n {
                 return false;
             }

@@ -6,22 +6,16 @@ ghost use Rattle.reader.specs.Grammar.{read_from, whole_of, read_answer, read_le
 ghost use Rattle.reader.specs.Answers.{read_numbers, text_by_lines};
 
 use crate::blank::clear_record;
-use crate::grammar::{Taken, take_line};
+use crate::grammar::take_line;
 use crate::order::{Due, is_end};
 use crate::pieces::{LINE_BREAK, find};
 use crate::quick_text::is_good;
 use crate::store::{fill, put_cells};
 use task_record::layout::{RECORD_SIZE, UNNAMED};
+use task_record::refusal::Refusal;
 
-// What a call answers: the text is read, or a refusal's number with its second number.
-#[derive(Clone, Copy)]
-pub enum Reading {
-    Read,
-    Refused(u64, u64),
-}
-
-// The lines of a text, one after the other, into a record that is lent with nothing used.
-fn read_lines(text: &[u8], rec: &mut [u8]) -> Reading
+// The lines of a text, one after the other, into a record with nothing used.
+fn read_lines(text: &[u8], rec: &mut [u8]) -> Result<(), Refusal>
     ensures { read_from 1 Due.Vars rec.old (lines_of text.now) ≡ whole_of result rec.new }
 {
     let mut due = Due::Vars;
@@ -31,10 +25,10 @@ fn read_lines(text: &[u8], rec: &mut [u8]) -> Reading
         let rest = &text[at..];
         let k = find(rest, LINE_BREAK);
         match take_line(rec, due, &rest[..k]) {
-            Taken::Faulty(number) => {
-                return Reading::Refused(number, line);
+            Err(fault) => {
+                return Err(fault.at(line));
             }
-            Taken::Next(next) => {
+            Ok(next) => {
                 due = next;
             }
         }
@@ -42,42 +36,37 @@ fn read_lines(text: &[u8], rec: &mut [u8]) -> Reading
         at = at + k + 1;
     }
     if is_end(due) {
-        return Reading::Read;
+        return Ok(());
     }
-    Reading::Refused(1, line)
+    Err(Refusal::UnexpectedLine(line))
 }
 
 // The same, into a lent record that has room. The record is filled apart, in `local`, and copied out once the whole text is good, so a refusal leaves
 // the lent one as found.
-fn read_slowly(text: &[u8], local: &mut [u8], record: &mut [u8]) -> Reading
+fn read_slowly(text: &[u8], local: &mut [u8], record: &mut [u8]) -> Result<(), Refusal>
     requires { (record_size ≤ length «record».old) × (length local.old ≡ record_size) }
     ensures { (result ≡ read_answer text.now «record».old) × («record».new ≡ read_leaves text.now «record».old) }
 {
     fill(local, 0, RECORD_SIZE, UNNAMED);
     clear_record(local);
-    let answer = read_lines(text, local);
-    match answer {
-        Reading::Read => {
-            put_cells(record, 0, local);
-            Reading::Read
-        }
-        Reading::Refused(number, line) => Reading::Refused(number, line),
-    }
+    read_lines(text, local)?;
+    put_cells(record, 0, local);
+    Ok(())
 }
 
 // Reads a text into a record: at once where every line is as most texts write it, else line by line from the start, which tells what is wrong.
-pub fn read_text(text: &[u8], record: &mut [u8]) -> Reading
+pub fn read_text(text: &[u8], record: &mut [u8]) -> Result<(), Refusal>
     ensures value { (result ≡ read_answer text.now «record».old) × («record».new ≡ read_leaves text.now «record».old) }
     ensures numbers { read_numbers result ≡ text_by_lines text.now «record».old }
 {
     if record.len() < RECORD_SIZE {
-        return Reading::Refused(5, record.len() as u64);
+        return Err(Refusal::ShortRecord(record.len() as u64));
     }
     let mut local = [UNNAMED; RECORD_SIZE];
     clear_record(&mut local);
     if is_good(text, &mut local) {
         put_cells(record, 0, &local);
-        return Reading::Read;
+        return Ok(());
     }
     read_slowly(text, &mut local, record)
 }

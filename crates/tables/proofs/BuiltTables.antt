@@ -1,6 +1,6 @@
 -- The tables that a build of a record leaves where it answers `Built n`: every entry is the cost of its abstract state, and the value call on
 -- them answers the summed estimate, so that demand 3 holds of it. Assumes nothing.
-use Rattle.std.proofs.Common.{◌≡◌, ℕ, zero, suc, ◌+◌, ◌<◌, ◌≤◌, List, [], ◌∷◌, ◌++◌, map, length, get_or, take, drop, sym, refl, ap, ◌∙◌, append_assoc, arith, length-append, length-drop, get_or-drop, get_or-take, take_at}
+use Rattle.std.proofs.Common.{◌≡◌, ℕ, zero, suc, ◌+◌, ◌<◌, ◌≤◌, List, [], ◌∷◌, ◌++◌, map, length, get_or, take, drop, sym, refl, ap, ◌∙◌, append_assoc, arith, length-append, length-drop, get_or-drop, get_or-take, take_at, Result, Ok, Err, Option, Some, None}
 use lib.Seq.{drop-append_seam, drop-append-add}
 use Rattle.planning.specs.Extended.{ℕ∞, inf}
 use Rattle.planning.specs.Finite.{All, chain}
@@ -14,52 +14,41 @@ use Rattle.planning.proofs.Table.{table-length, table_entry, light_entries_bound
 use Rattle.task_record.specs.Record.{Sound}
 use Rattle.task_record.specs.State.{state_check}
 use Rattle.task_record.specs.TaskOf.{task_of, patterns_of}
-use Rattle.task_record.specs.declared.record.StateCheck.TheVariants as of-state
 use Rattle.task_record.proofs.SoundTask.{sound_well_formed}
 use Rattle.task_record.proofs.States.{checked_good}
-use Rattle.patterns.specs.Space.{entries_needed, judge_tables, after_record, table_check}
+use Rattle.patterns.specs.Space.{entries_needed, judge_tables, table_check}
 use Rattle.patterns.specs.Estimate.{judge_estimate, estimate_check}
-use Rattle.tables.specs.RecordTables.{build_of, table_build, Buildable, built_over, where_fits, tables_built, where_ready, tables_prepared}
-use Rattle.tables.specs.declared.record_tables.TableBuild.TheVariants as of-build
+use Rattle.task_record.specs.Refusals.{where_ok}
+use Rattle.task_record.specs.declared.refusal.Refusal.{Refusal}
+use Rattle.tables.specs.RecordTables.{table_build, Buildable, built_over, tables_built, tables_prepared}
 use Rattle.patterns.specs.Value.{value_of, values_of, state_value}
-use Rattle.patterns.specs.declared.space.TableCheck.{TableCheck}
-use Rattle.patterns.specs.declared.space.TableCheck.TheVariants as of-tables
-use Rattle.patterns.specs.declared.estimate.EstimateCheck.TheVariants as of-estimate
-use Rattle.patterns.specs.declared.value.StateValue.{StateValue}
-use Rattle.patterns.specs.declared.value.StateValue.TheVariants as answer
 use Rattle.patterns.proofs.Built.{built_length, unit_weights, call_on_built, finite_answer_admissible, infinite_answer_no_plan}
-use Rattle.patterns.proofs.Refusals.{ready_means, fits_means, checked_ready, Answers, finite, infinite, answered_means}
+use Rattle.patterns.proofs.Refusals.{ready_means, fits_means, checked_ready, answered_means}
 use Rattle.patterns.proofs.Room.{fits_small, fits_room, small_fits}
 use Rattle.tables.proofs.TableChain.{entries-length}
 
 -- A call that refuses nothing can build.
-judged_buildable : (r : List ℕ) (lent n : ℕ) → Sound r → judge_tables (task_of r).sizes (patterns_of r) lent ≡ of-tables.Fits n →
+judged_buildable : (r : List ℕ) (lent n : ℕ) → Sound r → judge_tables (task_of r).sizes (patterns_of r) lent ≡ Ok n →
     Buildable r lent
 unfolding Small
 judged_buildable r lent n s h = let k = fits_room (task_of r).sizes (patterns_of r) lent n h in
     record { sound = s; small = fits_small (task_of r).sizes (patterns_of r) lent n h; room = omega (arith, k.0, k.1) }
 
-judged_built : (r : List ℕ) (lent n : ℕ) → Sound r → judge_tables (task_of r).sizes (patterns_of r) lent ≡ of-tables.Fits n →
-    table_build r lent ≡ of-build.Built n
-unfolding table_build build_of table_check after_record Sound
+judged_built : (r : List ℕ) (lent n : ℕ) → Sound r → judge_tables (task_of r).sizes (patterns_of r) lent ≡ Ok n →
+    table_build r lent ≡ Ok n
+unfolding Sound
 judged_built r lent n s h = rw (s, h)
 
 -- Where nothing is to be refused, the build refuses nothing.
-pub buildable_built : (r : List ℕ) (lent : ℕ) → Buildable r lent → table_build r lent ≡ of-build.Built (entries_needed (task_of r).sizes (patterns_of r))
+pub buildable_built : (r : List ℕ) (lent : ℕ) → Buildable r lent → table_build r lent ≡ Ok (entries_needed (task_of r).sizes (patterns_of r))
 unfolding Small
 buildable_built r lent b = judged_built r lent (entries_needed (task_of r).sizes (patterns_of r)) b.sound
     (small_fits (task_of r).sizes (patterns_of r) lent b.small b.room)
 
--- What a build answers is what its test found.
-built_by : (t : TableCheck) (n : ℕ) → build_of t ≡ of-build.Built n → t ≡ of-tables.Fits n
-unfolding build_of
-built_by (of-tables.Fits m) n h = let a : m ≡ n = cc in rw a
-built_by (of-tables.Refused m y) n h = let z : ◌≡◌ {A = ℕ} 0 1 = cc in absurd (omega arith)
-
-pub fits_buildable : (r : List ℕ) (lent n : ℕ) → table_check r lent ≡ of-tables.Fits n → Buildable r lent
+pub fits_buildable : (r : List ℕ) (lent n : ℕ) → table_check r lent ≡ Ok n → Buildable r lent
 fits_buildable r lent n h = let k = fits_means r lent n h in judged_buildable r lent n k.0 k.1
 
-pub ready_buildable : (r : List ℕ) (lent : ℕ) → estimate_check r lent ≡ of-estimate.Ready → Buildable r lent
+pub ready_buildable : (r : List ℕ) (lent : ℕ) → estimate_check r lent ≡ Ok tt → Buildable r lent
 ready_buildable r lent h = let k = checked_ready r lent h in let m = ready_means r lent k.1 in judged_buildable r lent m.0.0 k.0 m.0.1
 
 -- The table of pattern number k in tables that follow each other, and its entry i.
@@ -84,20 +73,15 @@ module _ (t : Task) where
 
 module _ (r tabs : List ℕ) where
   -- A build that refuses nothing.
-  module _ (n : ℕ) (built : table_build r (length tabs) ≡ of-build.Built n) where
-    fits : table_check r (length tabs) ≡ of-tables.Fits n
-    unfolding table_build
-    fits = built_by (table_check r (length tabs)) n built
-
+  module _ (n : ℕ) (built : table_build r (length tabs) ≡ Ok n) where
     buildable : Buildable r (length tabs)
-    buildable = fits_buildable r (length tabs) n fits
+    buildable = fits_buildable r (length tabs) n built
 
     pub entries-written : entries_needed (task_of r).sizes (patterns_of r) ≡ n
-    entries-written = (fits_room (task_of r).sizes (patterns_of r) (length tabs) n (fits_means r (length tabs) n fits).1).0
+    entries-written = (fits_room (task_of r).sizes (patterns_of r) (length tabs) n (fits_means r (length tabs) n built).1).0
 
     pub tables_left_lem : tables_built r tabs ≡ built_over r tabs
-    unfolding tables_built where_fits
-    tables_left_lem = ap (λ t. where_fits t (built_over r tabs) tabs) fits
+    tables_left_lem = ap (λ t. where_ok t (built_over r tabs) tabs) built
 
     -- "Entries after the last stay untouched", and nothing else is kept: n entries are written.
     pub rest_untouched : drop n (tables_built r tabs) ≡ drop n tabs
@@ -154,46 +138,43 @@ module _ (r tabs : List ℕ) where
       let a = length-append (tables (task_of r) (patterns_of r)) (drop (entries_needed (task_of r).sizes (patterns_of r)) tabs) in
       let e = built_length (task_of r) (patterns_of r) in let d = length-drop (entries_needed (task_of r).sizes (patterns_of r)) tabs in omega (arith, b.room)
 
-  left_length : (t : TableCheck) → table_check r (length tabs) ≡ t → length (where_fits t (built_over r tabs) tabs) ≡ length tabs
-  unfolding where_fits
-  left_length (of-tables.Fits n) h = built_over-length (fits_buildable r (length tabs) n h)
-  left_length (of-tables.Refused n x) h = refl
+  left_length : (t : Result ℕ Refusal) → table_check r (length tabs) ≡ t → length (where_ok t (built_over r tabs) tabs) ≡ length tabs
+  left_length (Ok n) h = built_over-length (fits_buildable r (length tabs) n h)
+  left_length (Err refused) h = refl
 
   pub build_keeps_length : length (tables_built r tabs) ≡ length tabs
-  unfolding tables_built
   build_keeps_length = left_length (table_check r (length tabs)) refl
 
   -- "A search that answers .. leaves its tables as a build does."
-  pub prepared_as_built : estimate_check r (length tabs) ≡ of-estimate.Ready → tables_prepared r tabs ≡ tables_built r tabs
-  unfolding tables_prepared where_ready
+  pub prepared_as_built : estimate_check r (length tabs) ≡ Ok tt → tables_prepared r tabs ≡ tables_built r tabs
   prepared_as_built h = let k = checked_ready r (length tabs) h in let m = ready_means r (length tabs) k.1 in
-      ap (λ e. where_ready e (built_over r tabs) tabs) h ∙ sym (tables_left_lem m.0.0 (judged_built r (length tabs) m.0.0 k.0 m.0.1))
+      ap (λ e. where_ok e (built_over r tabs) tabs) h ∙ sym (tables_left_lem m.0.0 (judged_built r (length tabs) m.0.0 k.0 m.0.1))
 
   module _ (s : List ℕ) where
     -- Where the value call refuses nothing on what a build left, the build has refused nothing.
-    answered_built : (v : StateValue) → Answers v → state_value r s (tables_built r tabs) ≡ v → tables_built r tabs ≡ built_over r tabs
-    answered_built v k h = let a = answered_means r s (tables_built r tabs) v k h in
-        let e : judge_estimate r (length tabs) ≡ of-estimate.Ready = rw build_keeps_length at a.1 in let m = ready_means r (length tabs) e in
+    answered_built : (v : Option ℕ) → state_value r s (tables_built r tabs) ≡ Ok v → tables_built r tabs ≡ built_over r tabs
+    answered_built v h = let a = answered_means r s (tables_built r tabs) v h in
+        let e : judge_estimate r (length tabs) ≡ Ok tt = rw build_keeps_length at a.1 in let m = ready_means r (length tabs) e in
         tables_left_lem m.0.0 (judged_built r (length tabs) m.0.0 (checked_good r s a.0).0 m.0.1)
 
     -- "It is the summed estimate of demand 3."
-    pub value-after_build : (n : ℕ) → table_build r (length tabs) ≡ of-build.Built n → state_check r s ≡ of-state.Good →
+    pub value-after_build : (n : ℕ) → table_build r (length tabs) ≡ Ok n → state_check r s ≡ Ok tt →
         Additive (task_of r) (patterns_of r) →
-        state_value r s (tables_built r tabs) ≡ value_of (estimate (task_of r) (patterns_of r) (values_of r s))
+        state_value r s (tables_built r tabs) ≡ Ok (value_of (estimate (task_of r) (patterns_of r) (values_of r s)))
     unfolding built_over
     value-after_build n built good add = rw (tables_left_lem n built)
         (call_on_built r s (drop (entries_needed (task_of r).sizes (patterns_of r)) tabs) good (buildable n built).small add)
 
     -- "Demand 3 holds of it for tables just as the build of the same task left them": a finite value is at most the cost of every strong
     -- plan from the state, and an infinite one means that there is none.
-    pub finite_after_build : (n : ℕ) → state_value r s (tables_built r tabs) ≡ answer.Finite n →
+    pub finite_after_build : (n : ℕ) → state_value r s (tables_built r tabs) ≡ Ok (Some n) →
         (p : Plan) → Strong (system (task_of r)) p (values_of r s) → n ≤ cost (system (task_of r)) p
     unfolding built_over
     finite_after_build n h p q = let rest = drop (entries_needed (task_of r).sizes (patterns_of r)) tabs in
-        finite_answer_admissible r s rest n (rw (answered_built (answer.Finite n) (finite n) h) at h) p q
+        finite_answer_admissible r s rest n (rw (answered_built (Some n) h) at h) p q
 
-    pub infinite_after_build : state_value r s (tables_built r tabs) ≡ answer.Infinite →
+    pub infinite_after_build : state_value r s (tables_built r tabs) ≡ Ok None →
         (p : Plan) → Strong (system (task_of r)) p (values_of r s) → ⊥
     unfolding built_over
     infinite_after_build h p q = let rest = drop (entries_needed (task_of r).sizes (patterns_of r)) tabs in
-        infinite_answer_no_plan r s rest (rw (answered_built answer.Infinite infinite h) at h) p q
+        infinite_answer_no_plan r s rest (rw (answered_built None h) at h) p q

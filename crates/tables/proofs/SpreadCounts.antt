@@ -1,6 +1,6 @@
--- What the call `spread` says of a pattern's abstract states where it answers `Counted n`: the counts add up to n, each is the number of
+-- What the call `spread` says of a pattern's abstract states where it answers `Ok n`: the counts add up to n, each is the number of
 -- states with its cost, and the last is the number of those that no strong plan leads out of. Assumes nothing.
-use Rattle.std.proofs.Common.{◌≡◌, ℕ, suc, ◌<◌, ◌≤◌, true, cond, ltb, List, [], ◌++◌, length, get_or, take, drop, replicate, sym, refl, ap, ◌∙◌, zero-add, arith, take_at, drop_at, ltb-false, ltb-true, lt-ltb}
+use Rattle.std.proofs.Common.{◌≡◌, ℕ, suc, ◌<◌, ◌≤◌, true, cond, ltb, List, [], ◌++◌, length, get_or, take, drop, replicate, sym, refl, ap, ◌∙◌, zero-add, arith, take_at, drop_at, ltb-false, ltb-true, lt-ltb, Result, Ok, Err}
 use lib.ListN.{get_or-append}
 use Rattle.planning.specs.Finite.{All, total, HowMany}
 use Rattle.planning.specs.Extended.{ℕ∞, fin, inf}
@@ -21,28 +21,26 @@ use Rattle.task_record.specs.Numbers.{pattern_count}
 use Rattle.task_record.specs.TaskOf.{task_of, patterns_of}
 use Rattle.task_record.proofs.SoundTask.{sound_well_formed}
 use Rattle.patterns.specs.Space.{table_check}
-use Rattle.patterns.specs.declared.space.TableCheck.{TableCheck}
-use Rattle.patterns.specs.declared.space.TableCheck.TheVariants as of-tables
+use Rattle.task_record.specs.Refusals.{after, where_ok}
+use Rattle.task_record.specs.declared.refusal.Refusal.{Refusal}
+use Rattle.task_record.specs.declared.refusal.Refusal.TheVariants.{ShortRow}
 use Rattle.patterns.proofs.Built.{unit_weights}
 use Rattle.patterns.proofs.Reading.{patterns_length}
-use Rattle.tables.specs.RecordTables.{Buildable, built_over, where_fits, tables_built}
-use Rattle.tables.specs.Spread.{costs_named, states_named, after_tables, table_spread, where_counted, tables_spread, row_spread}
-use Rattle.tables.specs.declared.spread.TableSpread.TheVariants as answer
+use Rattle.tables.specs.RecordTables.{Buildable, built_over, tables_built}
+use Rattle.tables.specs.Spread.{costs_named, states_named, table_spread, tables_spread, row_spread}
 use Rattle.tables.proofs.BuiltTables.{fits_buildable}
 use Rattle.tables.proofs.Spreading.{none_named}
 
 -- What a spread that refuses nothing has found.
-counted_by : (t : TableCheck) (row states n : ℕ) → after_tables t (cond (ltb row row_size) (answer.Refused 18 row) (answer.Counted states)) ≡ answer.Counted n →
-    ((k : ℕ) × (t ≡ of-tables.Fits k)) × (row_size ≤ row) × (states ≡ n)
-unfolding after_tables
-counted_by (of-tables.Fits k) row states n h = by_test (ltb row row_size)
+counted_by : (t : Result ℕ Refusal) (row states n : ℕ) → after t (λ k. cond (ltb row row_size) (Err (ShortRow row)) (Ok states)) ≡ Ok n →
+    ((k : ℕ) × (t ≡ Ok k)) × (row_size ≤ row) × (states ≡ n)
+counted_by (Ok k) row states n h = by_test (ltb row row_size)
     (λ e. let g = rw e at h in let z : ◌≡◌ {A = ℕ} 0 1 = cc in absurd (omega arith))
     (λ e. let g = rw e at h in let s : states ≡ n = cc in ((k, refl), ltb-false row row_size e, s))
-counted_by (of-tables.Refused number second) row states n h = let z : ◌≡◌ {A = ℕ} 0 1 = cc in absurd (omega arith)
+counted_by (Err refused) row states n h = let z : ◌≡◌ {A = ℕ} 0 1 = cc in absurd (omega arith)
 
-module _ (r tabs row : List ℕ) (p n : ℕ) (counted : table_spread r p (length tabs) (length row) ≡ answer.Counted n) where
-  found : ((k : ℕ) × (table_check r (length tabs) ≡ of-tables.Fits k)) × (row_size ≤ length row) × (states_named r p ≡ n)
-  unfolding table_spread
+module _ (r tabs row : List ℕ) (p n : ℕ) (counted : table_spread r p (length tabs) (length row) ≡ Ok n) where
+  found : ((k : ℕ) × (table_check r (length tabs) ≡ Ok k)) × (row_size ≤ length row) × (states_named r p ≡ n)
   found = counted_by (table_check r (length tabs)) (length row) (states_named r p) n counted
 
   buildable : Buildable r (length tabs)
@@ -50,16 +48,14 @@ module _ (r tabs row : List ℕ) (p n : ℕ) (counted : table_spread r p (length
 
   -- "From tables it builds in lent entries and leaves so": as a build leaves them.
   pub tables_as_built : tables_spread r p tabs (length row) ≡ tables_built r tabs
-  unfolding tables_spread where_counted tables_built where_fits
-  tables_as_built = ap (λ x. where_counted x (built_over r tabs) tabs) counted ∙ sym (ap (λ t. where_fits t (built_over r tabs) tabs) found.0.1)
+  tables_as_built = ap (λ x. where_ok x (built_over r tabs) tabs) counted ∙ sym (ap (λ t. where_ok t (built_over r tabs) tabs) found.0.1)
 
   -- The row that is left.
   abbrev pub left : List ℕ
   left = row_spread r p (length tabs) row
 
   row_left : left ≡ spread (costs_named r p) ++ drop row_size row
-  unfolding row_spread where_counted
-  row_left = ap (λ x. where_counted x (spread (costs_named r p) ++ drop row_size row) row) counted
+  row_left = ap (λ x. where_ok x (spread (costs_named r p) ++ drop row_size row) row) counted
 
   counts_left : take row_size left ≡ spread (costs_named r p)
   counts_left = rw row_left (take_at (spread (costs_named r p)) (drop row_size row) row_size (law.spread-length (costs_named r p)))

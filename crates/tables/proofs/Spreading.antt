@@ -1,5 +1,5 @@
 -- Laws of counting the entries of one pattern among built tables: where they stand, and that they read back as its costs. Assumes nothing.
-use Rattle.std.proofs.Common.{◌≡◌, ℕ, zero, suc, ◌+◌, ◌<◌, ◌≤◌, min, cond, eqb, ltb, List, [], ◌∷◌, ◌++◌, map, length, get_or, take, drop, set, replicate, sym, refl, ap, ◌∙◌, add-one, arith, length-take, take-suc-set, drop_at, le-ltb, lt-ltb, eqb-true}
+use Rattle.std.proofs.Common.{◌≡◌, ℕ, zero, suc, ◌+◌, ◌<◌, ◌≤◌, min, cond, eqb, ltb, List, [], ◌∷◌, ◌++◌, map, length, get_or, take, drop, set, replicate, sym, refl, ap, ◌∙◌, add-one, arith, length-take, take-suc-set, drop_at, le-ltb, lt-ltb, eqb-true, Result, Ok, Err}
 use lib.ListN.{length-map, replicate-append-replicate}
 use Rattle.planning.specs.Extended.{ℕ∞, fin, inf}
 use Rattle.planning.specs.Table.{state_count, table, tables, entry_of, cost_of, EntriesBelow, Small, most_cost}
@@ -10,17 +10,21 @@ use Rattle.planning.proofs.Table.{light_entries_bounded, cost_of_entry}
 use Rattle.planning.proofs.Spread.{place_inside, counts_few, raised_at, spread_of_none, spread_next}
 use Rattle.task_record.specs.Numbers.{pattern_count}
 use Rattle.task_record.specs.TaskOf.{task_of, patterns_of}
-use Rattle.task_record.proofs.ByLines.{line-told, after_record_lem}
-use Rattle.patterns.specs.Space.{entries_needed, judge_tables, after_record, table_check}
-use Rattle.patterns.specs.declared.space.TableCheck.TheVariants as of-tables
+use Rattle.task_record.specs.Answers.{short_record, bad_cell}
+use Rattle.task_record.specs.Refusals.{answer_numbers, after, where_ok}
+use Rattle.task_record.specs.declared.refusal.Refusal.{Refusal}
+use Rattle.task_record.specs.declared.refusal.Refusal.TheVariants.{ShortRow}
+use Rattle.task_record.proofs.ByLines.{line-told, after_record_lem, after_after, told_alone}
+use Rattle.planning.specs.Numbers.{answered, refused_if}
+use Rattle.task_record.specs.Record.{record_check}
+use Rattle.patterns.specs.Answers.{large_pattern, short_tables}
+use Rattle.patterns.specs.Space.{entries_needed, judge_tables, table_check}
 use Rattle.patterns.proofs.Built.{built_length, unit_weights}
 use Rattle.patterns.proofs.ByLines.{after_tables_lem}
 use Rattle.patterns.proofs.Reading.{patterns_length}
 use Rattle.tables.specs.Answers.{spread_numbers, short_row, spread_by_lines}
 use Rattle.tables.specs.RecordTables.{Buildable, built_over}
-use Rattle.tables.specs.Spread.{costs_named, states_named, after_tables, table_spread, where_counted, tables_spread, row_spread}
-use Rattle.tables.specs.declared.spread.TableSpread.{TableSpread}
-use Rattle.tables.specs.declared.spread.TableSpread.TheVariants as answer
+use Rattle.tables.specs.Spread.{costs_named, states_named, table_spread, tables_spread, row_spread}
 use Rattle.tables.proofs.TableChain.{entries-length}
 use Rattle.tables.proofs.BuiltTables.{built_over-length, chained_table}
 
@@ -138,36 +142,26 @@ module _ (r : List ℕ) (p : ℕ) (l : pattern_count r ≤ p) where
   unfolding states_named
   no_states = rw (le-ltb p (pattern_count r) l)
 
--- What the call answers, leaves and says in numbers, once it is known which case it is.
+-- What the call says in numbers, and what it answers once it is known which case it is.
 module _ (r : List ℕ) (p : ℕ) (tabs row : List ℕ) where
-  abbrev judged : TableSpread
-  judged = cond (ltb (length row) row_size) (answer.Refused 18 (length row)) (answer.Counted (states_named r p))
+  abbrev judged : Result ℕ Refusal
+  judged = cond (ltb (length row) row_size) (Err (ShortRow (length row))) (Ok (states_named r p))
 
-  numbers_told : spread_numbers (table_spread r p (length tabs) (length row)) ≡ spread_by_lines r p (length tabs) (length row)
-  unfolding table_spread table_check after_record after_tables spread_numbers spread_by_lines short_row
-  numbers_told =
-      after_record_lem spread_numbers (λ t. after_tables (after_record t (judge_tables (task_of r).sizes (patterns_of r) (length tabs))) judged) r _ (λ n k. refl)
-      (after_tables_lem spread_numbers (λ t. after_tables t judged) r (length tabs) _ (λ n k. refl)
-      (line-told spread_numbers (ltb (length row) row_size) (answer.Refused 18 (length row)) (answer.Counted (states_named r p)) 18 (length row) _ refl refl))
-
-  pub told : (x : TableSpread) → x ≡ table_spread r p (length tabs) (length row) →
-      ((x ≡ table_spread r p (length tabs) (length row)) × (where_counted x (built_over r tabs) tabs ≡ tables_spread r p tabs (length row)) × (where_counted x (spread (costs_named r p) ++ drop row_size row) row ≡ row_spread r p (length tabs) row))
-      × (spread_numbers x ≡ spread_by_lines r p (length tabs) (length row))
-  unfolding tables_spread row_spread
-  told x e = (
-    (e, ap (λ y. where_counted y (built_over r tabs) tabs) e, ap (λ y. where_counted y (spread (costs_named r p) ++ drop row_size row) row) e),
-    ap spread_numbers e ∙ numbers_told,
-  )
+  pub spread_told : spread_numbers (table_spread r p (length tabs) (length row)) ≡ spread_by_lines r p (length tabs) (length row)
+  unfolding spread_by_lines short_row refused_if
+  spread_told = let f = (λ (n : ℕ). answered 0 n 0 0) in let tables = judge_tables (task_of r).sizes (patterns_of r) (length tabs) in
+      ap (answer_numbers f) (after_after (record_check r) (λ u. tables) (λ n. judged))
+      ∙ after_record_lem f r (λ u. after tables (λ n. judged))
+      ∙ ap (λ t. short_record r (bad_cell r t)) (after_tables_lem f r (length tabs) (λ n. judged)
+      ∙ ap (λ t. large_pattern r (short_tables r (length tabs) t)) (told_alone f judged
+      ∙ line-told f (ltb (length row) row_size) (ShortRow (length row)) (Ok (states_named r p)) (λ n. Ok n) _ refl))
 
   -- The three cases: refused by the tables' own checks, by the row, and counted.
-  pub refused-tables : (n k : ℕ) → table_check r (length tabs) ≡ of-tables.Refused n k → answer.Refused n k ≡ table_spread r p (length tabs) (length row)
-  unfolding table_spread after_tables
-  refused-tables n k h = sym (ap (λ t. after_tables t judged) h)
+  pub refused-tables : (refused : Refusal) → table_check r (length tabs) ≡ Err refused → Err refused ≡ table_spread r p (length tabs) (length row)
+  refused-tables refused h = sym (ap (λ t. after t (λ n. judged)) h)
 
-  pub refused_row : (n : ℕ) → table_check r (length tabs) ≡ of-tables.Fits n → length row < row_size → answer.Refused 18 (length row) ≡ table_spread r p (length tabs) (length row)
-  unfolding table_spread after_tables
-  refused_row n h l = sym (ap (λ t. after_tables t judged) h ∙ rw (lt-ltb (length row) row_size l))
+  pub refused_row : (n : ℕ) → table_check r (length tabs) ≡ Ok n → length row < row_size → Err (ShortRow (length row)) ≡ table_spread r p (length tabs) (length row)
+  refused_row n h l = sym (ap (λ t. after t (λ n. judged)) h ∙ rw (lt-ltb (length row) row_size l))
 
-  pub counted_states : (n : ℕ) → table_check r (length tabs) ≡ of-tables.Fits n → row_size ≤ length row → answer.Counted (states_named r p) ≡ table_spread r p (length tabs) (length row)
-  unfolding table_spread after_tables
-  counted_states n h l = sym (ap (λ t. after_tables t judged) h ∙ rw (le-ltb (length row) row_size l))
+  pub counted_states : (n : ℕ) → table_check r (length tabs) ≡ Ok n → row_size ≤ length row → Ok (states_named r p) ≡ table_spread r p (length tabs) (length row)
+  counted_states n h l = sym (ap (λ t. after t (λ n. judged)) h ∙ rw (le-ltb (length row) row_size l))

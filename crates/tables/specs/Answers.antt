@@ -1,25 +1,25 @@
 -- The answers of build and spread as the document's numbers, of each case ("Where an answer is an enum, a definition gives, for each of its
 -- cases, this paper's number and values") and, of the spread, by the lines of "Where a call can say no". Assumes nothing.
-use Rattle.std.specs.Prelude.{ℕ, List, nat_lt}
-use Rattle.planning.specs.Numbers.{Numbers, refusal, answered, refused_if}
+use Rattle.std.specs.Prelude.{ℕ, List, nat_lt, Result}
+use Rattle.planning.specs.Numbers.{Numbers, answered, refused_if}
 use Rattle.planning.specs.Spread.{row_size}
 use Rattle.task_record.specs.Answers.{short_record, bad_cell}
+use Rattle.task_record.specs.Refusals.{answer_numbers}
+use Rattle.task_record.specs.declared.refusal.Refusal.{Refusal}
 use Rattle.patterns.specs.Answers.{large_pattern, short_tables}
 use Rattle.tables.specs.Spread.{states_named}
-use Rattle.tables.specs.declared.record_tables.TableBuild.{TableBuild}
-use Rattle.tables.specs.declared.record_tables.TableBuild.TheVariants as of-build
-use Rattle.tables.specs.declared.spread.TableSpread.{TableSpread}
-use Rattle.tables.specs.declared.spread.TableSpread.TheVariants as of-spread
 
 -- Kind 0: the entries written.
-unfoldable pub table_build_numbers : TableBuild → Numbers
-table_build_numbers (of-build.Built written) = answered 0 written 0 0
-table_build_numbers (of-build.Refused number second) = refusal number second
+abbrev pub table_build_numbers : Result ℕ Refusal → Numbers
+table_build_numbers built = answer_numbers (λ written. answered 0 written 0 0) built
+
+-- Kind 0: values can be read, and all is prepared.
+abbrev pub prepare_numbers : Result ℕ Refusal → Numbers
+prepare_numbers prepared = answer_numbers (λ start. answered 0 0 0 0) prepared
 
 -- Kind 0: the states counted.
-unfoldable pub spread_numbers : TableSpread → Numbers
-spread_numbers (of-spread.Counted states) = answered 0 states 0 0
-spread_numbers (of-spread.Refused number second) = refusal number second
+abbrev pub spread_numbers : Result ℕ Refusal → Numbers
+spread_numbers counted = answer_numbers (λ states. answered 0 states 0 0) counted
 
 -- "18: row below 4,097, with its length".
 unfoldable pub short_row : ℕ → Numbers → Numbers

@@ -6,9 +6,8 @@ ghost use Rattle.task_record.specs.Numbers.{pattern_count, size_of};
 ghost use Rattle.task_record.specs.Record.{Sound};
 ghost use Rattle.task_record.specs.TaskOf.{cells_at, task_of, start_of};
 ghost use Rattle.task_record.specs.Window.{Sixteen};
-ghost use Rattle.patterns.specs.Answers.{tables_by_lines, estimate_numbers, estimate_by_lines};
-ghost use Rattle.patterns.specs.Estimate.{estimate_check};
-ghost use Rattle.tables.specs.Answers.{table_build_numbers};
+ghost use Rattle.patterns.specs.Answers.{tables_by_lines, estimate_by_lines};
+ghost use Rattle.tables.specs.Answers.{table_build_numbers, prepare_numbers};
 ghost use Rattle.tables.specs.Packed.{pack_by, low, compiled};
 ghost use Rattle.tables.specs.RecordTables.{Buildable, table_build, built_over, tables_built, tables_prepared, words_prepared, sets_prepared, start_prepared};
 
@@ -17,18 +16,12 @@ use crate::builder::{ProvedWorklist, TableBuilder, Tested};
 use crate::compile_record::{compile_cleared, compile_record};
 use crate::packed::{LOW, pack};
 use crate::ranking::{state_count, wide};
-use patterns::estimate::{EstimateCheck, check_estimate};
-use patterns::space::{TableCheck, check_tables, sizes_of};
+use patterns::estimate::check_estimate;
+use patterns::space::{check_tables, sizes_of};
 use task_record::cells::{
     action_count, pattern_cells, pattern_count, start_cells, state_of, variable_count,
 };
-
-// Entries written; or number and second number of the refusal.
-#[derive(Clone, Copy)]
-pub enum TableBuild {
-    Built(u64),
-    Refused(u64, u64),
-}
+use task_record::refusal::Refusal;
 
 // The table of pattern p, from entry `begin` on; the entries before and after it stay. Answers where it ends.
 fn build_one<B: TableBuilder>(
@@ -76,22 +69,18 @@ pub(crate) fn build_checked<B: TableBuilder>(rec: &[u8], tables: &mut [u16])
 }
 
 // The tables of the task's patterns, one after the other; entries after the last stay.
-fn build_tables_with<B: TableBuilder>(rec: &[u8], tables: &mut [u16]) -> TableBuild
+fn build_tables_with<B: TableBuilder>(rec: &[u8], tables: &mut [u16]) -> Result<u64, Refusal>
     ensures value { (result ≡ table_build rec.now (length tables.old)) × (tables.new ≡ tables_built rec.now tables.old) }
     ensures numbers { table_build_numbers result ≡ tables_by_lines rec.now (length tables.old) }
 {
-    match check_tables(rec, tables.len()) {
-        TableCheck::Refused(number, second) => TableBuild::Refused(number, second),
-        TableCheck::Fits(n) => {
-            build_checked::<B>(rec, tables);
-            TableBuild::Built(n)
-        }
-    }
+    let entries = check_tables(rec, tables.len())?;
+    build_checked::<B>(rec, tables);
+    Ok(entries)
 }
 
 // The tables of the task's patterns, one after the other; entries after the last stay. Needs less than 430 KiB of stack, most of it for the worklist
 // of a table of 4,096 states, which a smaller one does not clear, and 10 KiB for the compiled task.
-pub fn build_tables(rec: &[u8], tables: &mut [u16]) -> TableBuild
+pub fn build_tables(rec: &[u8], tables: &mut [u16]) -> Result<u64, Refusal>
     ensures value { (result ≡ table_build rec.now (length tables.old)) × (tables.new ≡ tables_built rec.now tables.old) }
     ensures numbers { table_build_numbers result ≡ tables_by_lines rec.now (length tables.old) }
 {
@@ -99,7 +88,7 @@ pub fn build_tables(rec: &[u8], tables: &mut [u16]) -> TableBuild
 }
 
 // The same by the worklist that is proved. Needs less than 170 KiB of stack.
-pub fn build_tables_by_worklist(rec: &[u8], tables: &mut [u16]) -> TableBuild
+pub fn build_tables_by_worklist(rec: &[u8], tables: &mut [u16]) -> Result<u64, Refusal>
     ensures value { (result ≡ table_build rec.now (length tables.old)) × (tables.new ≡ tables_built rec.now tables.old) }
     ensures numbers { table_build_numbers result ≡ tables_by_lines rec.now (length tables.old) }
 {
@@ -117,31 +106,24 @@ fn start_word(rec: &[u8]) -> u64
 }
 
 // All that a search needs before it starts: patterns that are additive, their tables, the compiled task, its sets of applying actions, and the
-// start as a word. The record is checked once for all of it.
+// start as a word, which is the answer. The record is checked once for all of it.
 fn prepare_with<B: TableBuilder>(
     rec: &[u8],
     tables: &mut [u16],
     task: &mut [u64; 1282],
     sets: &mut [u64; 2048],
-    start: &mut u64,
-) -> EstimateCheck
-    ensures value { (result ≡ estimate_check rec.now (length tables.old)) × (tables.new ≡ tables_prepared rec.now tables.old) × (task.new ≡ words_prepared rec.now (length tables.old) task.old) }
+) -> Result<u64, Refusal>
+    ensures value { (result ≡ start_prepared rec.now (length tables.old)) × (tables.new ≡ tables_prepared rec.now tables.old) × (task.new ≡ words_prepared rec.now (length tables.old) task.old) }
     ensures sets { sets.new ≡ sets_prepared rec.now (length tables.old) sets.old }
-    ensures start { start.new ≡ start_prepared rec.now (length tables.old) start.old }
-    ensures numbers { estimate_numbers result ≡ estimate_by_lines rec.now (length tables.old) }
+    ensures numbers { prepare_numbers result ≡ estimate_by_lines rec.now (length tables.old) }
 {
-    match check_estimate(rec, tables.len()) {
-        EstimateCheck::Refused(number, second) => EstimateCheck::Refused(number, second),
-        EstimateCheck::Ready => {
-            compile_record(rec, task);
-            build_all::<B>(rec, task, tables);
-            let actions = wide(action_count(rec));
-            let bytes = (wide(variable_count(rec)) + 1) / 2;
-            fill_sets(task, 18446744073709551615, actions, bytes, sets);
-            *start = start_word(rec);
-            EstimateCheck::Ready
-        }
-    }
+    check_estimate(rec, tables.len())?;
+    compile_record(rec, task);
+    build_all::<B>(rec, task, tables);
+    let actions = wide(action_count(rec));
+    let bytes = (wide(variable_count(rec)) + 1) / 2;
+    fill_sets(task, 18446744073709551615, actions, bytes, sets);
+    Ok(start_word(rec))
 }
 
 // All that a search needs before it starts. No entry of the product: `search` calls it. Needs less than 420 KiB of stack.
@@ -150,14 +132,12 @@ pub fn prepare(
     tables: &mut [u16],
     task: &mut [u64; 1282],
     sets: &mut [u64; 2048],
-    start: &mut u64,
-) -> EstimateCheck
-    ensures value { (result ≡ estimate_check rec.now (length tables.old)) × (tables.new ≡ tables_prepared rec.now tables.old) × (task.new ≡ words_prepared rec.now (length tables.old) task.old) }
+) -> Result<u64, Refusal>
+    ensures value { (result ≡ start_prepared rec.now (length tables.old)) × (tables.new ≡ tables_prepared rec.now tables.old) × (task.new ≡ words_prepared rec.now (length tables.old) task.old) }
     ensures sets { sets.new ≡ sets_prepared rec.now (length tables.old) sets.old }
-    ensures start { start.new ≡ start_prepared rec.now (length tables.old) start.old }
-    ensures numbers { estimate_numbers result ≡ estimate_by_lines rec.now (length tables.old) }
+    ensures numbers { prepare_numbers result ≡ estimate_by_lines rec.now (length tables.old) }
 {
-    prepare_with::<Tested>(rec, tables, task, sets, start)
+    prepare_with::<Tested>(rec, tables, task, sets)
 }
 
 // The same, with tables by the worklist that is proved. Needs less than 160 KiB of stack.
@@ -166,12 +146,10 @@ pub fn prepare_by_worklist(
     tables: &mut [u16],
     task: &mut [u64; 1282],
     sets: &mut [u64; 2048],
-    start: &mut u64,
-) -> EstimateCheck
-    ensures value { (result ≡ estimate_check rec.now (length tables.old)) × (tables.new ≡ tables_prepared rec.now tables.old) × (task.new ≡ words_prepared rec.now (length tables.old) task.old) }
+) -> Result<u64, Refusal>
+    ensures value { (result ≡ start_prepared rec.now (length tables.old)) × (tables.new ≡ tables_prepared rec.now tables.old) × (task.new ≡ words_prepared rec.now (length tables.old) task.old) }
     ensures sets { sets.new ≡ sets_prepared rec.now (length tables.old) sets.old }
-    ensures start { start.new ≡ start_prepared rec.now (length tables.old) start.old }
-    ensures numbers { estimate_numbers result ≡ estimate_by_lines rec.now (length tables.old) }
+    ensures numbers { prepare_numbers result ≡ estimate_by_lines rec.now (length tables.old) }
 {
-    prepare_with::<ProvedWorklist>(rec, tables, task, sets, start)
+    prepare_with::<ProvedWorklist>(rec, tables, task, sets)
 }

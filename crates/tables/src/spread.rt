@@ -14,18 +14,12 @@ ghost use Rattle.tables.specs.Spread.{costs_named, states_named, table_spread, t
 use crate::builder::{ProvedWorklist, TableBuilder, Tested};
 use crate::ranking::{state_count, wide};
 use crate::record_tables::build_checked;
-use patterns::space::{TableCheck, check_tables, sizes_of};
+use patterns::space::{check_tables, sizes_of};
 use task_record::cells::{pattern_cells, pattern_count, state_of, variable_count};
+use task_record::refusal::Refusal;
 
 // A count for each cost that a table can hold, from 0 on, and after them one for infinity.
 const ROW: usize = 4097;
-
-// The states counted; or number and second number of the refusal.
-#[derive(Clone, Copy)]
-pub enum TableSpread {
-    Counted(u64),
-    Refused(u64, u64),
-}
 
 fn clear(row: &mut [u32])
     ensures { row.new ≡ replicate (length row.old) 0 }
@@ -113,25 +107,20 @@ fn spread_with<B: TableBuilder>(
     pattern: u64,
     tables: &mut [u16],
     row: &mut [u32],
-) -> TableSpread
+) -> Result<u64, Refusal>
     ensures value { (result ≡ table_spread rec.now pattern (length tables.old) (length row.old)) × (tables.new ≡ tables_spread rec.now pattern tables.old (length row.old)) × (row.new ≡ row_spread rec.now pattern (length tables.old) row.old) }
     ensures numbers { spread_numbers result ≡ spread_by_lines rec.now pattern (length tables.old) (length row.old) }
 {
-    match check_tables(rec, tables.len()) {
-        TableCheck::Refused(number, second) => TableSpread::Refused(number, second),
-        TableCheck::Fits(n) => {
-            if row.len() < ROW {
-                return TableSpread::Refused(18, row.len() as u64);
-            }
-            build_checked::<B>(rec, tables);
-            let states = count_pattern(rec, pattern, tables, &mut row[..ROW]);
-            TableSpread::Counted(states)
-        }
+    check_tables(rec, tables.len())?;
+    if row.len() < ROW {
+        return Err(Refusal::ShortRow(row.len() as u64));
     }
+    build_checked::<B>(rec, tables);
+    Ok(count_pattern(rec, pattern, tables, &mut row[..ROW]))
 }
 
 // How many abstract states of the pattern of a number have each cost, with the tables built anew. Needs as much stack as a build.
-pub fn spread(rec: &[u8], pattern: u64, tables: &mut [u16], row: &mut [u32]) -> TableSpread
+pub fn spread(rec: &[u8], pattern: u64, tables: &mut [u16], row: &mut [u32]) -> Result<u64, Refusal>
     ensures value { (result ≡ table_spread rec.now pattern (length tables.old) (length row.old)) × (tables.new ≡ tables_spread rec.now pattern tables.old (length row.old)) × (row.new ≡ row_spread rec.now pattern (length tables.old) row.old) }
     ensures numbers { spread_numbers result ≡ spread_by_lines rec.now pattern (length tables.old) (length row.old) }
 {
@@ -144,7 +133,7 @@ pub fn spread_by_worklist(
     pattern: u64,
     tables: &mut [u16],
     row: &mut [u32],
-) -> TableSpread
+) -> Result<u64, Refusal>
     ensures value { (result ≡ table_spread rec.now pattern (length tables.old) (length row.old)) × (tables.new ≡ tables_spread rec.now pattern tables.old (length row.old)) × (row.new ≡ row_spread rec.now pattern (length tables.old) row.old) }
     ensures numbers { spread_numbers result ≡ spread_by_lines rec.now pattern (length tables.old) (length row.old) }
 {

@@ -1,47 +1,53 @@
 -- What a call says in numbers after its record, or record and state, was checked: the lines 5 and 6, or 5, 6 and 10, of "Where a call can say
 -- no", and below them what it judges. Assumes nothing.
-use Rattle.std.proofs.Common.{◌≡◌, ℕ, Bool, true, false, cond, not, eqb, ltb, List, length, refl, ap, ◌∙◌}
-use Rattle.planning.specs.Numbers.{Numbers, refusal, refused_if}
+use Rattle.std.proofs.Common.{◌≡◌, ℕ, Bool, true, false, cond, not, eqb, ltb, List, length, refl, ap, ◌∙◌, Result, Ok, Err}
+use Rattle.planning.specs.Numbers.{Numbers, refused_if}
 use Rattle.task_record.specs.Layout.{record_size}
 use Rattle.task_record.specs.Record.{first_bad, record_check}
-use Rattle.task_record.specs.State.{first_bad_value, judge_state, after_record, state_check}
+use Rattle.task_record.specs.State.{first_bad_value, judge_state, state_check}
+use Rattle.task_record.specs.Refusals.{refusal_numbers, answer_numbers, after}
 use Rattle.task_record.specs.Answers.{short_record, bad_cell, bad_state}
-use Rattle.task_record.specs.declared.record.RecordCheck.{RecordCheck}
-use Rattle.task_record.specs.declared.record.RecordCheck.TheVariants as of-record
-use Rattle.task_record.specs.declared.record.StateCheck.{StateCheck}
-use Rattle.task_record.specs.declared.record.StateCheck.TheVariants as of-state
+use Rattle.task_record.specs.declared.refusal.Refusal.{Refusal}
+use Rattle.task_record.specs.declared.refusal.Refusal.TheVariants.{ShortRecord, WrongCell, WrongState}
 
--- One line: a test with its refusal before what is judged, told by `f`.
-pub line-told : {A : Type 0} → (f : A → Numbers) → (b : Bool) → (x y : A) → (number second : ℕ) → (judged : Numbers)
-    → f x ≡ refusal number second → f y ≡ judged → f (cond b x y) ≡ refused_if b number second judged
-unfolding refused_if
-line-told f true x y number second judged p q = p
-line-told f false x y number second judged p q = q
+-- One line: a test with its refusal before what is judged.
+pub line-told : {A B : Type 0} → (f : B → Numbers) → (b : Bool) → (e : Refusal) → (x : Result A Refusal) → (next : A → Result B Refusal) → (judged : Numbers)
+    → answer_numbers f (after x next) ≡ judged → answer_numbers f (after (cond b (Err e) x) next) ≡ cond b (refusal_numbers e) judged
+line-told f true e x next judged p = refl
+line-told f false e x next judged p = p
 
--- Lines 5 and 6: an answer `after` the check of the record, told by `f`, that hands on the check's refusal.
-pub after_record_lem : {A : Type 0} → (f : A → Numbers) → (after : RecordCheck → A) → (r : List ℕ) → (judged : Numbers)
-    → ((number second : ℕ) → f (after (of-record.Refused number second)) ≡ refusal number second) → f (after of-record.Sound) ≡ judged
-    → f (after (record_check r)) ≡ short_record r (bad_cell r judged)
-unfolding record_check short_record bad_cell
-after_record_lem f after r judged refused sound = line-told (λ t. f (after t)) (ltb (length r) record_size) _ _ 5 (length r) _ (refused 5 (length r))
-    (line-told (λ t. f (after t)) (ltb (first_bad r) record_size) _ _ 6 (first_bad r) judged (refused 6 (first_bad r)) sound)
+-- Lines 5 and 6.
+pub after_record_lem : {B : Type 0} → (f : B → Numbers) → (r : List ℕ) → (next : Unit {0} → Result B Refusal)
+    → answer_numbers f (after (record_check r) next) ≡ short_record r (bad_cell r (answer_numbers f (next tt)))
+unfolding record_check short_record bad_cell refused_if
+after_record_lem f r next = line-told f (ltb (length r) record_size) (ShortRecord (length r)) _ next _
+    (line-told f (ltb (first_bad r) record_size) (WrongCell (first_bad r)) (Ok tt) next _ refl)
 
 cond_not : {A : Type 0} → (b : Bool) → (x y : A) → cond b x y ≡ cond (not b) y x
 cond_not true x y = refl
 cond_not false x y = refl
 
 -- Line 10.
-pub after_state_lem : {A : Type 0} → (f : A → Numbers) → (after : StateCheck → A) → (r s : List ℕ) → (judged : Numbers)
-    → ((number second : ℕ) → f (after (of-state.Refused number second)) ≡ refusal number second) → f (after of-state.Good) ≡ judged
-    → f (after (judge_state r s)) ≡ bad_state r s judged
-unfolding judge_state bad_state
-after_state_lem f after r s judged refused good = ap (λ t. f (after t)) (cond_not (eqb (length s) 16) _ _)
-    ∙ line-told (λ t. f (after t)) (not (eqb (length s) 16)) _ _ 10 16 _ (refused 10 16)
-    (line-told (λ t. f (after t)) (ltb (first_bad_value r s) 16) _ _ 10 (first_bad_value r s) judged (refused 10 (first_bad_value r s)) good)
+pub after_state_lem : {B : Type 0} → (f : B → Numbers) → (r s : List ℕ) → (next : Unit {0} → Result B Refusal)
+    → answer_numbers f (after (judge_state r s) next) ≡ bad_state r s (answer_numbers f (next tt))
+unfolding judge_state bad_state refused_if
+after_state_lem f r s next = ap (λ t. answer_numbers f (after t next)) (cond_not (eqb (length s) 16) _ _)
+    ∙ line-told f (not (eqb (length s) 16)) (WrongState 16) _ next _
+    (line-told f (ltb (first_bad_value r s) 16) (WrongState (first_bad_value r s)) (Ok tt) next _ refl)
+
+-- What comes after one answer and then another.
+pub after_after : {A B C : Type 0} → (x : Result A Refusal) → (next : A → Result B Refusal) → (last : B → Result C Refusal)
+    → after (after x next) last ≡ after x (λ a. after (next a) last)
+after_after (Ok a) next last = refl
+after_after (Err e) next last = refl
 
 -- Lines 5, 6 and 10.
-pub after_check : {A : Type 0} → (f : A → Numbers) → (after : StateCheck → A) → (r s : List ℕ) → (judged : Numbers)
-    → ((number second : ℕ) → f (after (of-state.Refused number second)) ≡ refusal number second) → f (after of-state.Good) ≡ judged
-    → f (after (state_check r s)) ≡ short_record r (bad_cell r (bad_state r s judged))
-unfolding state_check after_record
-after_check f after r s judged refused good = after_record_lem f (λ t. after (after_record t (judge_state r s))) r (bad_state r s judged) refused (after_state_lem f after r s judged refused good)
+pub after_check : {B : Type 0} → (f : B → Numbers) → (r s : List ℕ) → (next : Unit {0} → Result B Refusal)
+    → answer_numbers f (after (state_check r s) next) ≡ short_record r (bad_cell r (bad_state r s (answer_numbers f (next tt))))
+after_check f r s next = ap (answer_numbers f) (after_after (record_check r) (λ u. judge_state r s) next)
+    ∙ after_record_lem f r (λ u. after (judge_state r s) next) ∙ ap (λ t. short_record r (bad_cell r t)) (after_state_lem f r s next)
+
+-- An answer that is told as it is comes after nothing else.
+pub told_alone : {A : Type 0} → (f : A → Numbers) → (x : Result A Refusal) → answer_numbers f x ≡ answer_numbers f (after x (λ a. Ok a))
+told_alone f (Ok a) = refl
+told_alone f (Err e) = refl

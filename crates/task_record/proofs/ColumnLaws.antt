@@ -1,5 +1,8 @@
 -- What the columns (specs/Columns.antt) say of the scan of a record: a part whose columns are right is passed whole. Assumes nothing.
-use Rattle.std.proofs.Common.{◌≡◌, ℕ, ◌+◌, ◌-◌, ◌*◌, ◌/◌, ◌%◌, ◌<◌, ◌≤◌, true, cond, eqb, ltb, List, get_or, sym, ◌∙◌, arith, ltb-false, ltb-true, le-ltb, lt-ltb, eq-eqb, eqb-true, le-leb, leb-true}
+use Rattle.std.proofs.Common.{◌≡◌, ℕ, ◌+◌, ◌-◌, ◌*◌, ◌/◌, ◌%◌, ◌<◌, ◌≤◌, true, cond, eqb, ltb, List, get_or, sym, ◌∙◌, arith, ltb-false, ltb-true, le-ltb, lt-ltb, eq-eqb, eqb-true, le-leb, leb-true, Some, ◌++◌, replicate, refl}
+use lib.ListN.{get_or-replicate, get_or-append}
+use Rattle.std.proofs.Math.Seq.{get_or-append_right}
+use Rattle.task_record.proofs.Sixteens.{zeros}
 use lib.Bits.{bit_or, bit_and, or_add_and, and_le_l, and_le_r}
 use borrow.Author.Tests.{eqb-false}
 use Rattle.task_record.specs.Layout.{at_sizes, at_goal, at_start, at_pattern, at_action, action_size}
@@ -15,7 +18,7 @@ use Rattle.task_record.proofs.Tests.{both_left}
 use Rattle.task_record.proofs.Scanning.{first_none}
 use Rattle.task_record.proofs.Offsets.{size_at, goal_at, start_at, pattern_at}
 use Rattle.task_record.proofs.Windows.{size_window, assignment_window, unused_assignment_window, state_window, pattern_window, unused_pattern_window}
-use Rattle.task_record.proofs.Parts.{Bytes, size_right, block_cell, action_goes_on}
+use Rattle.task_record.proofs.Parts.{Bytes, size_right, few_used, block_cell, action_goes_on}
 
 -- What was gathered by `|` is 0 only where each part is.
 pub or_zero_left : (a b : ℕ) → bit_or a b ≡ 0 → a ≡ 0
@@ -51,11 +54,11 @@ pub faults_next : (P : ℕ → Type 0) (i bad b : ℕ) → (b ≡ 0 → P i) →
 faults_next P i bad b here earlier h = below_next P i (here (or_zero_right bad b h)) (earlier (or_zero_left bad b h))
 
 module _ (r : List ℕ) (m : ℕ) where
-  pub used_rows : m < action_count r → 1 ≤ outcome_count r m → outcome_count r m ≤ 8 → used_blocks r m ≡ 1 + outcome_count r m
+  pub used_rows : m < action_count r → 1 ≤ outcome_count r m → outcome_count r m ≤ 8 → used_blocks r m ≡ Some (1 + outcome_count r m)
   unfolding used_blocks
   used_rows h a b = rw (lt-ltb m (action_count r) h, le-leb 1 (outcome_count r m) a, le-leb (outcome_count r m) 8 b)
 
-  pub no_rows : action_count r ≤ m → outcome_count r m ≡ 0 → used_blocks r m ≡ 0
+  pub no_rows : action_count r ≤ m → outcome_count r m ≡ 0 → used_blocks r m ≡ Some 0
   unfolding used_blocks
   no_rows h z = rw (le-ltb m (action_count r) h, eq-eqb (outcome_count r m) 0 z)
 
@@ -122,29 +125,29 @@ module _ (r : List ℕ) (bytes : Bytes r) where
         sym (unused_pattern_window x b r (i % 16) (i / 16) w) ∙ le-leb ((x + 0) % 256) 0 (omega arith)))
 
     -- The cells of a variable in the nine rows of an action.
-    pub action_passes : (m used : ℕ) → used_blocks r m ≡ used → used ≤ 9 → ((v : ℕ) → v < 16 → ActionColumn r (size_of r v) (at_action m + 1 + v) used)
+    pub action_passes : (m used : ℕ) → used_blocks r m ≡ Some used → ((v : ℕ) → v < 16 → ActionColumn r (size_of r v) (at_action m + 1 + v) used)
         → first_from (cell_ok r) (at_action m) action_size ≡ at_action (m + 1)
     unfolding fits
-    action_passes m used q few each =
-        let up : used_blocks r m ≤ 9 = omega arith in
+    action_passes m used q each =
+        let up = few_used r bytes m used q in
         let all : (i : ℕ) → i < 144 → cell_ok r (at_action m + 1 + i) ≡ true =
         (λ i l.
         let x = get_or r (at_action m + 1 + i) 0 in
         let b = bytes (at_action m + 1 + i) in
         let col = each (i % 16) (omega arith) in
         let p : at_action m + 1 + i % 16 + 16 * (i / 16) ≡ at_action m + 1 + i = omega arith in
-        block_cell r bytes m up i l
-        ∙ by_test (ltb (i / 16) (used_blocks r m))
+        block_cell r bytes m used q i l
+        ∙ by_test (ltb (i / 16) used)
         (λ w.
-        let g = ltb-true (i / 16) (used_blocks r m) w in
+        let g = ltb-true (i / 16) used w in
         let u = rw p at (col.named (i / 16) (omega arith)) in
         rw w (sym (assignment_window x b r (i % 16) (size_right r bytes right (i % 16) (omega arith))) ∙ u))
         (λ w.
-        let g = ltb-false (i / 16) (used_blocks r m) w in
+        let g = ltb-false (i / 16) used w in
         let u = rw p at (col.unnamed (i / 16) (omega arith) (omega arith)) in
         rw w (sym (unused_assignment_window x b r (i % 16)) ∙ le-leb ((x + 1) % 256) 0 (omega arith)))) in
         let e : at_action m + 1 + 144 ≡ at_action (m + 1) = omega arith in
-        action_goes_on r bytes m up ∙ first_none (cell_ok r) (at_action m + 1) 144 all ∙ e
+        action_goes_on r bytes m used q ∙ first_none (cell_ok r) (at_action m + 1) 144 all ∙ e
 
 -- The same of sizes that were read once.
 module _ (r sizes : List ℕ) (bytes : Bytes r) (passed : SizesPassed r sizes) where
@@ -154,7 +157,10 @@ module _ (r sizes : List ℕ) (bytes : Bytes r) (passed : SizesPassed r sizes) w
 
   pub action_told : (m : ℕ) → m < action_count r → 1 ≤ outcome_count r m → outcome_count r m ≤ 8
       → ((v : ℕ) → v < 16 → ActionColumn r (get_or sizes v 0) (at_action m + 1 + v) (1 + outcome_count r m)) → first_from (cell_ok r) (at_action m) action_size ≡ at_action (m + 1)
-  action_told m h a b each = action_passes r bytes passed.right m (1 + outcome_count r m) (used_rows r m h a b) (omega arith) (λ v l. rw (passed.read.cell v l) at (each v l))
+  action_told m h a b each = action_passes r bytes passed.right m (1 + outcome_count r m) (used_rows r m h a b) (λ v l. rw (passed.read.cell v l) at (each v l))
+
+pub is_ramp : Ramp (replicate 16 255 ++ replicate 16 0)
+is_ramp = record { whole = refl; high = λ k h. get_or-append (replicate {A = ℕ} 16 255) (replicate {A = ℕ} 16 0) 0 k h ∙ get_or-replicate 16 k 255 0 h; low = λ k h. get_or-append_right (replicate {A = ℕ} 16 255) (replicate {A = ℕ} 16 0) k 0 h ∙ zeros 16 (k - 16) }
 
 -- The place of variable v in a ramp of which n cells from the left are used.
 pub ramp_cell : (ramp : List ℕ) → Ramp ramp → (n v : ℕ) → n ≤ 16 → v < 16 → get_or ramp (16 - n + v) 0 ≡ cond (ltb v n) 255 0

@@ -1,20 +1,10 @@
 -- Laws on scans (specs/Scan.antt): one step, two scans in a row, a block that passes or fails as a whole. Assumes nothing.
-use Rattle.std.proofs.Common.{◌≡◌, ℕ, zero, suc, ◌+◌, ◌-◌, ◌<◌, ◌≤◌, Bool, true, false, ◌&&◌, eqb, sym, refl, ap, ◌∙◌, add-zero, zero-add, add-one, arith}
+use Rattle.std.proofs.Common.{◌≡◌, ℕ, zero, suc, ◌+◌, ◌-◌, ◌<◌, ◌≤◌, Bool, true, false, ◌&&◌, eqb, sym, refl, ap, ◌∙◌, add-zero, zero-add, add-one, arith, cond, ltb, ltb-false, ltb-true, le-ltb, lt-ltb, Result, Ok, Err, is_err}
 use mathlib.Core.Bool.{and-true, and_assoc}
 use lib.Bits.{bit_or}
-use Rattle.task_record.specs.Scan.{first_from, all_below}
+use Rattle.task_record.specs.Scan.{first_from, scan, all_below}
 use Rattle.planning.proofs.Test.{by_test}
 use Rattle.task_record.proofs.Tests.{both, both_left, both_right, or_none}
-
--- One step of a scan of n numbers.
-module _ (ok : ℕ → Bool) (i n : ℕ) (l : i < n) where
-  pub first_next : ok i ≡ true → first_from ok i (n - i) ≡ first_from ok (i + 1) (n - (i + 1))
-  unfolding first_from
-  first_next o = let e : n - i ≡ suc (n - (i + 1)) = omega arith in rw (e, o)
-
-  pub first_here : ok i ≡ false → first_from ok i (n - i) ≡ i
-  unfolding first_from
-  first_here o = let e : n - i ≡ suc (n - (i + 1)) = omega arith in rw (e, o)
 
 pub first_none_left : (ok : ℕ → Bool) (k n : ℕ) → n ≡ 0 → first_from ok k n ≡ k
 unfolding first_from
@@ -24,10 +14,6 @@ first_none_left ok k n e = rw e
 pub first_suc : (ok : ℕ → Bool) (k n : ℕ) → ok k ≡ true → first_from ok k (suc n) ≡ first_from ok (k + 1) n
 unfolding first_from
 first_suc ok k n o = rw o
-
-pub first_stops : (ok : ℕ → Bool) (k n : ℕ) → ok k ≡ false → first_from ok k (suc n) ≡ k
-unfolding first_from
-first_stops ok k n o = rw o
 
 pub first_le : (ok : ℕ → Bool) (k n : ℕ) → first_from ok k n ≤ k + n
 unfolding first_from
@@ -47,23 +33,6 @@ first_past ok k (suc n) m h =
     by_test (ok k)
     (λ v. let g = rw v at h in rw (a, v, b) (first_past ok (k + 1) n m (omega arith)))
     (λ v. let g = rw v at h in absurd (omega arith))
-
-pub first_within : (ok : ℕ → Bool) (k n m : ℕ) → first_from ok k n < k + n → first_from ok k (n + m) ≡ first_from ok k n
-unfolding first_from
-first_within ok k zero m h = absurd (omega arith)
-first_within ok k (suc n) m h =
-    let a : suc n + m ≡ suc (n + m) = omega arith in
-    by_test (ok k)
-    (λ v. let g = rw v at h in rw (a, v) (first_within ok (k + 1) n m (omega arith)))
-    (λ v. rw (a, v))
-
--- The same for x and y, the answers of the two scans, and t numbers in all.
-module _ (ok : ℕ → Bool) (k n m t x : ℕ) (all : n + m ≡ t) (first : x ≡ first_from ok k n) where
-  pub found_first : x < k + n → x ≡ first_from ok k t
-  found_first h = first ∙ sym (rw all at (first_within ok k n m (omega arith)))
-
-  pub found_second : (y : ℕ) → k + n ≤ x → y ≡ first_from ok (k + n) m → y ≡ first_from ok k t
-  found_second y h second = second ∙ sym (rw all at (first_past ok k n m (omega arith)))
 
 -- Two scans in a row that find nothing.
 pub first_on : (ok : ℕ → Bool) (k n m : ℕ) → first_from ok k n ≡ k + n → first_from ok (k + n) m ≡ k + n + m → first_from ok k (n + m) ≡ k + n + m
@@ -98,17 +67,6 @@ first_same ok other k (suc n) same =
     let r = first_same ok other (k + 1) n (λ i l. let b : k + 1 + i ≡ k + (i + 1) = omega arith in rw b (same (i + 1) (omega arith))) in
     rw (e, r)
 
--- A test given from another place on: a scan of it stands b further.
-pub first_moved : (ok moved : ℕ → Bool) (b k n : ℕ) → ((i : ℕ) → i < n → ok (b + (k + i)) ≡ moved (k + i)) → first_from ok (b + k) n ≡ b + first_from moved k n
-unfolding first_from
-first_moved ok moved b k zero same = refl
-first_moved ok moved b k (suc n) same =
-    let e : ok (b + k) ≡ moved k = rw add-zero at (same 0 (omega arith)) in
-    let a : b + k + 1 ≡ b + (k + 1) = omega arith in
-    by_test (moved k)
-    (λ v. rw (e, v, a) (first_moved ok moved b (k + 1) n (λ i l. let c : k + 1 + i ≡ k + (i + 1) = omega arith in rw c (same (i + 1) (omega arith)))))
-    (λ v. rw (e, v))
-
 -- A block that passes as a whole.
 pub block_passes : (ok : ℕ → Bool) (n : ℕ) → all_below ok n ≡ true → first_from ok 0 n ≡ n
 unfolding all_below
@@ -123,19 +81,6 @@ block_passes ok (suc n) h =
     let t = first_none_left ok (0 + n + 1) 0 refl in
     let f : 0 + n + 1 ≡ suc n = omega arith in
     rw e at q ∙ s ∙ t ∙ f
-
-pub block_fails : (ok : ℕ → Bool) (n : ℕ) → all_below ok n ≡ false → first_from ok 0 n < n
-unfolding all_below
-block_fails ok zero h = let z : ◌≡◌ {A = ℕ} 0 1 = cc in absurd (omega arith)
-block_fails ok (suc n) h =
-    let e : n + 1 ≡ suc n = omega arith in
-    by_test (all_below ok n)
-    (λ v.
-    let p = block_passes ok n v in
-    let o : ok (0 + n) ≡ false = rw zero-add (rw v at h) in
-    let q = first_past ok 0 n 1 (omega arith) ∙ first_stops ok (0 + n) 0 o in
-    let r = rw e at q in omega arith)
-    (λ v. let i = block_fails ok n v in let q = first_within ok 0 n 1 (omega arith) in let r = rw e at q in omega arith)
 
 -- All of the numbers, one by one and from the first on.
 pub all_at : (ok : ℕ → Bool) (n i : ℕ) → all_below ok n ≡ true → i < n → ok i ≡ true
@@ -157,3 +102,93 @@ all_from_first ok (suc n) =
 pub gathered_next : (ok : ℕ → Bool) (i bad b : ℕ) → eqb b 0 ≡ ok i → eqb bad 0 ≡ all_below ok i → eqb (bit_or bad b) 0 ≡ all_below ok (i + 1)
 unfolding all_below
 gathered_next ok i bad b e h = rw (add-one, or_none, e, h)
+
+-- A scan as an answer: its first step, its stop, its end.
+pub scan_suc : (ok : ℕ → Bool) (k n : ℕ) → ok k ≡ true → scan ok k (suc n) ≡ scan ok (k + 1) n
+unfolding scan
+scan_suc ok k n o = rw o
+
+pub scan_stops : (ok : ℕ → Bool) (k n : ℕ) → ok k ≡ false → scan ok k (suc n) ≡ Err k
+unfolding scan
+scan_stops ok k n o = rw o
+
+pub scan_none_left : (ok : ℕ → Bool) (k n : ℕ) → n ≡ 0 → scan ok k n ≡ Ok tt
+unfolding scan
+scan_none_left ok k n e = rw e
+
+-- The same with n numbers in all, i of them passed.
+module _ (ok : ℕ → Bool) (a i n : ℕ) (l : i < n) where
+  pub scan_next : ok (a + i) ≡ true → scan ok (a + i) (n - i) ≡ scan ok (a + (i + 1)) (n - (i + 1))
+  scan_next o =
+      let e : n - i ≡ suc (n - (i + 1)) = omega arith in
+      let f : a + (i + 1) ≡ a + i + 1 = omega arith in
+      rw (e, f) (scan_suc ok (a + i) (n - (i + 1)) o)
+
+  pub scan_here : ok (a + i) ≡ false → scan ok (a + i) (n - i) ≡ Err (a + i)
+  scan_here o = let e : n - i ≡ suc (n - (i + 1)) = omega arith in rw e (scan_stops ok (a + i) (n - (i + 1)) o)
+
+-- What a scan answers, by the first number that fails.
+pub scan_first : (ok : ℕ → Bool) (k n : ℕ) → scan ok k n ≡ cond (ltb (first_from ok k n) (k + n)) (Err (first_from ok k n)) (Ok tt)
+unfolding scan first_from
+scan_first ok k zero = rw (add-zero, le-ltb k k (omega arith))
+scan_first ok k (suc n) =
+    let e : k + suc n ≡ k + 1 + n = omega arith in
+    by_test (ok k) (λ v. rw (v, e) (scan_first ok (k + 1) n)) (λ v. rw (v, lt-ltb k (k + suc n) (omega arith)))
+
+-- Where it finds none.
+pub scan_passed : (ok : ℕ → Bool) (k n : ℕ) → scan ok k n ≡ Ok tt → k + n ≤ first_from ok k n
+scan_passed ok k n h =
+    by_test (ltb (first_from ok k n) (k + n))
+    (λ t. let f = rw t at (sym (scan_first ok k n) ∙ h) in let z : ◌≡◌ {A = ℕ} 0 1 = cc in absurd (omega arith))
+    (λ t. ltb-false (first_from ok k n) (k + n) t)
+
+-- Two scans in a row, of t numbers in all: the second is made where the first finds nothing.
+pub scan_on : (ok : ℕ → Bool) (k n m t : ℕ) → n + m ≡ t → scan ok k n ≡ Ok tt → scan ok k t ≡ scan ok (k + n) m
+unfolding scan
+scan_on ok k zero m t all h = let e : m ≡ t = omega arith in rw (add-zero, e)
+scan_on ok k (suc n) m t all h =
+    let a : t ≡ suc (n + m) = omega arith in
+    let b : k + suc n ≡ k + 1 + n = omega arith in
+    by_test (ok k)
+    (λ v. let g = rw v at h in rw (a, v, b) (scan_on ok (k + 1) n m (n + m) refl g))
+    (λ v. let g = rw v at h in let z : ◌≡◌ {A = ℕ} 0 1 = cc in absurd (omega arith))
+
+pub scan_ends : (ok : ℕ → Bool) (k n m t e : ℕ) → n + m ≡ t → scan ok k n ≡ Err e → scan ok k t ≡ Err e
+unfolding scan
+scan_ends ok k zero m t e all h = let z : ◌≡◌ {A = ℕ} 0 1 = cc in absurd (omega arith)
+scan_ends ok k (suc n) m t e all h =
+    let a : t ≡ suc (n + m) = omega arith in
+    by_test (ok k)
+    (λ v. let g = rw v at h in rw (a, v) (scan_ends ok (k + 1) n m (n + m) e refl g))
+    (λ v. let g = rw v at h in rw (a, v) g)
+
+-- Two tests that agree on the numbers scanned.
+pub scan_same : (ok other : ℕ → Bool) (k n : ℕ) → ((i : ℕ) → i < n → ok (k + i) ≡ other (k + i)) → scan ok k n ≡ scan other k n
+unfolding scan
+scan_same ok other k zero same = refl
+scan_same ok other k (suc n) same =
+    let e : ok k ≡ other k = rw add-zero at (same 0 (omega arith)) in
+    let r = scan_same ok other (k + 1) n (λ i l. let b : k + 1 + i ≡ k + (i + 1) = omega arith in rw b (same (i + 1) (omega arith))) in
+    rw (e, r)
+
+pub scan_none : (ok : ℕ → Bool) (k n : ℕ) → ((i : ℕ) → i < n → ok (k + i) ≡ true) → scan ok k n ≡ Ok tt
+unfolding scan
+scan_none ok k zero all = refl
+scan_none ok k (suc n) all =
+    let o : ok k ≡ true = rw add-zero at (all 0 (omega arith)) in
+    rw o (scan_none ok (k + 1) n (λ i l. let c : k + 1 + i ≡ k + (i + 1) = omega arith in rw c (all (i + 1) (omega arith))))
+
+pub scan_all : (ok : ℕ → Bool) (k n : ℕ) → scan ok k n ≡ Ok tt → (i : ℕ) → i < n → ok (k + i) ≡ true
+scan_all ok k n h = first_all ok k n (scan_passed ok k n h)
+
+-- A scan that is no fault.
+pub no_fault : (x : Result Unit ℕ) → is_err x ≡ false → x ≡ Ok tt
+no_fault (Ok tt) h = refl
+no_fault (Err e) h = let z : ◌≡◌ {A = ℕ} 0 1 = cc in absurd (omega arith)
+
+-- A scan that finds one finds the first.
+pub scan_found : (ok : ℕ → Bool) (k n e : ℕ) → scan ok k n ≡ Err e → (first_from ok k n ≡ e) × (e < k + n)
+scan_found ok k n e h =
+    by_test (ltb (first_from ok k n) (k + n))
+    (λ t. let f = rw t at (sym (scan_first ok k n) ∙ h) in let g : first_from ok k n ≡ e = cc in let l = ltb-true (first_from ok k n) (k + n) t in (g, omega arith))
+    (λ t. let f = rw t at (sym (scan_first ok k n) ∙ h) in let z : ◌≡◌ {A = ℕ} 0 1 = cc in absurd (omega arith))

@@ -1,18 +1,16 @@
 -- States of 16 cells of a sound record: the start is one, what the check calls good is one, outcomes lead from one to one; and the record's
 -- cells say of such a state what the task says of the values of its variables. Assumes nothing.
-use Rattle.std.proofs.Common.{◌≡◌, ℕ, ◌+◌, ◌-◌, ◌<◌, ◌&&◌, eqb, ltb, List, length, get_or, take, drop, sym, refl, ◌∙◌, zero-add, arith, length-take-le, get_or-take, ltb-false, ltb-true, lt-ltb, eqb-true}
+use Rattle.std.proofs.Common.{◌≡◌, ℕ, ◌+◌, ◌-◌, ◌<◌, ◌&&◌, eqb, ltb, List, length, get_or, take, drop, sym, refl, ◌∙◌, zero-add, arith, length-take-le, get_or-take, ltb-false, ltb-true, lt-ltb, eqb-true, Result, Ok, Err}
 use native.Mathlib.Nat.{sub-zero}
 use Rattle.planning.specs.Task.{State, meets, apply, action_at, no_action}
 use Rattle.planning.proofs.Finite.{length-tabulate, get_or_tabulate}
 use Rattle.task_record.specs.Layout.{at_sizes, at_goal, at_start, at_precondition, at_outcome}
 use Rattle.task_record.specs.Numbers.{variable_count, action_count, size_of, outcome_count}
 use Rattle.task_record.specs.Record.{assignment_ok, value_ok, state_ok, state_cell_ok, record_check, Sound}
-use Rattle.task_record.specs.State.{first_bad_value, judge_state, after_record, state_check, GoodState}
+use Rattle.task_record.specs.State.{first_bad_value, judge_state, state_check, GoodState}
 use Rattle.task_record.specs.TaskOf.{cells_at, action_of, task_of}
-use Rattle.task_record.specs.declared.record.RecordCheck.{RecordCheck}
-use Rattle.task_record.specs.declared.record.RecordCheck.TheVariants as of-record
-use Rattle.task_record.specs.declared.record.StateCheck.{StateCheck}
-use Rattle.task_record.specs.declared.record.StateCheck.TheVariants as of-state
+use Rattle.task_record.specs.Refusals.{after}
+use Rattle.task_record.specs.declared.refusal.Refusal.{Refusal}
 use Rattle.planning.proofs.Test.{by_test}
 use Rattle.task_record.proofs.Tests.{both_left, both_right, one_of}
 use Rattle.task_record.proofs.Scanning.{first_all}
@@ -23,12 +21,11 @@ use Rattle.task_record.proofs.Soundness.{sound_length, sound_cell}
 use Rattle.task_record.proofs.Fronts.{meets_front, apply_front}
 use Rattle.task_record.proofs.SoundTask.{Assigns, in_sizes_lem, cell_of_part, length_of_part, variables_right, sizes_length, goal_assigns, precondition_assigns, outcome_assigns, assigns_unnamed}
 
-after_good : (a : RecordCheck) (j : StateCheck) → after_record a j ≡ of-state.Good → (a ≡ of-record.Sound) × (j ≡ of-state.Good)
-unfolding after_record
-after_good of-record.Sound j h = (refl, h)
-after_good (of-record.Refused n k) j h = let z : ◌≡◌ {A = ℕ} 0 1 = cc in absurd (omega arith)
+after_good : (a j : Result Unit Refusal) → after a (λ u. j) ≡ Ok tt → (a ≡ Ok tt) × (j ≡ Ok tt)
+after_good (Ok tt) j h = (refl, h)
+after_good (Err e) j h = let z : ◌≡◌ {A = ℕ} 0 1 = cc in absurd (omega arith)
 
-judged_good : (r s : List ℕ) → judge_state r s ≡ of-state.Good → GoodState r s
+judged_good : (r s : List ℕ) → judge_state r s ≡ Ok tt → GoodState r s
 unfolding judge_state first_bad_value state_cell_ok
 judged_good r s h =
     by_test (eqb (length s) 16)
@@ -43,8 +40,8 @@ judged_good r s h =
     }))
     (λ t. let g = rw t at h in let z : ◌≡◌ {A = ℕ} 0 1 = cc in absurd (omega arith))
 
-pub checked_good : (r s : List ℕ) → state_check r s ≡ of-state.Good → Sound r × GoodState r s
-unfolding state_check Sound
+pub checked_good : (r s : List ℕ) → state_check r s ≡ Ok tt → Sound r × GoodState r s
+unfolding Sound
 checked_good r s h =
     let a = after_good (record_check r) (judge_state r s) h in (a.0, judged_good r s a.1)
 

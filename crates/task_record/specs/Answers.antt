@@ -1,24 +1,20 @@
 -- The answers of the two checks as the document's numbers, of each case ("Where an answer is an enum, a definition gives, for each of its cases,
 -- this paper's number and values") and of each call, by the lines of "Where a call can say no". Assumes nothing.
-use Rattle.std.specs.Prelude.{ℕ, not, List, length, ◌==◌, nat_lt}
-use Rattle.planning.specs.Numbers.{Numbers, refusal, answered, refused_if}
+use Rattle.std.specs.Prelude.{ℕ, not, List, length, ◌==◌, nat_lt, Result}
+use Rattle.planning.specs.Numbers.{Numbers, answered, refused_if}
 use Rattle.task_record.specs.Layout.{record_size}
 use Rattle.task_record.specs.Record.{first_bad}
 use Rattle.task_record.specs.State.{first_bad_value}
-use Rattle.task_record.specs.declared.record.RecordCheck.{RecordCheck}
-use Rattle.task_record.specs.declared.record.RecordCheck.TheVariants as of-record
-use Rattle.task_record.specs.declared.record.StateCheck.{StateCheck}
-use Rattle.task_record.specs.declared.record.StateCheck.TheVariants as of-state
+use Rattle.task_record.specs.Refusals.{answer_numbers}
+use Rattle.task_record.specs.declared.refusal.Refusal.{Refusal}
 
 -- Kind 0: the record is sound.
-unfoldable pub record_numbers : RecordCheck → Numbers
-record_numbers of-record.Sound = answered 0 0 0 0
-record_numbers (of-record.Refused number second) = refusal number second
+abbrev pub record_numbers : Result Unit Refusal → Numbers
+record_numbers checked = answer_numbers (λ u. answered 0 0 0 0) checked
 
 -- Kind 0: the state is one of the record's task.
-unfoldable pub state_numbers : StateCheck → Numbers
-state_numbers of-state.Good = answered 0 0 0 0
-state_numbers (of-state.Refused number second) = refusal number second
+abbrev pub state_numbers : Result Unit Refusal → Numbers
+state_numbers checked = answer_numbers (λ u. answered 0 0 0 0) checked
 
 -- "any record: 5, lent record below 9,464 bytes; its length".
 unfoldable pub short_record : List ℕ → Numbers → Numbers

@@ -3,6 +3,7 @@
 pub mod Layout
 pub mod Numbers
 pub mod Scan
+pub mod Refusals
 pub mod Record
 pub mod State
 pub mod Answers

@@ -1,11 +1,11 @@
 -- The rule of each cell of a record, by its offset, and what the check of a record answers: document 01, "The tower as a task", "Record"
 -- and "Where a call can say no", lines 5 and 6. Assumes nothing.
-use Rattle.std.specs.Prelude.{◌≡◌, ℕ, ◌-◌, ◌/◌, ◌%◌, Bool, true, cond, ◌&&◌, ◌||◌, List, length, ◌==◌, nat_le, nat_lt}
+use Rattle.std.specs.Prelude.{◌≡◌, ℕ, ◌-◌, ◌/◌, ◌%◌, Bool, true, cond, ◌&&◌, ◌||◌, List, length, ◌==◌, nat_le, nat_lt, Result, Ok, Err}
 use Rattle.task_record.specs.Layout.{record_size, at_variables, at_actions, at_patterns, at_limit, at_budget, at_sizes, at_goal, at_start, at_pattern, at_action, action_size, in_precondition, in_outcomes}
 use Rattle.task_record.specs.Numbers.{byte, variable_count, action_count, pattern_count, limit_of, budget_of, size_of, outcome_count}
 use Rattle.task_record.specs.Scan.{first_from}
-use Rattle.task_record.specs.declared.record.RecordCheck.{RecordCheck}
-use Rattle.task_record.specs.declared.record.RecordCheck.TheVariants as answer
+use Rattle.task_record.specs.declared.refusal.Refusal.{Refusal}
+use Rattle.task_record.specs.declared.refusal.Refusal.TheVariants.{ShortRecord, WrongCell}
 
 abbrev within : ℕ → ℕ → ℕ → Bool
 within low high x = nat_le low x && nat_le x high
@@ -70,11 +70,11 @@ unfoldable pub first_bad : List ℕ → ℕ
 first_bad r = first_from (cell_ok r) 0 record_size
 
 -- "5 lent record below 9,464 bytes: its length. 6 cell outside its rule: lowest offset (budget 4)."
-unfoldable pub record_check : List ℕ → RecordCheck
+unfoldable pub record_check : List ℕ → Result Unit Refusal
 record_check r =
-    cond (nat_lt (length r) record_size) (answer.Refused 5 (length r))
-    (cond (nat_lt (first_bad r) record_size) (answer.Refused 6 (first_bad r)) answer.Sound)
+    cond (nat_lt (length r) record_size) (Err (ShortRecord (length r)))
+    (cond (nat_lt (first_bad r) record_size) (Err (WrongCell (first_bad r))) (Ok tt))
 
 -- "A task is sound when its record gives neither 5 nor 6."
 unfoldable pub Sound : List ℕ → Type 0
-Sound r = record_check r ≡ answer.Sound
+Sound r = record_check r ≡ Ok tt

@@ -1,7 +1,7 @@
 -- One test for every kind of cell, as the code makes it on sixteen cells at once. A window is given by a shift and a top: a byte fits it if,
 -- moved up by the shift and round past 255, it is at most the top. So 255 and the values below a size are the window of shift 1 and top size.
 -- Assumes nothing.
-use Rattle.std.specs.Prelude.{◌≡◌, ℕ, ◌+◌, ◌-◌, ◌%◌, ◌<◌, Bool, cond, ◌&&◌, List, length, ◌==◌, nat_le, nat_lt, slice_index}
+use Rattle.std.specs.Prelude.{◌≡◌, ℕ, ◌+◌, ◌-◌, ◌%◌, ◌<◌, Bool, cond, ◌&&◌, List, length, ◌==◌, nat_le, nat_lt, slice_index, Option, Some, None}
 use Rattle.task_record.specs.Numbers.{action_count, outcome_count}
 
 unfoldable pub fits : ℕ → ℕ → ℕ → Bool
@@ -20,8 +20,8 @@ pub record Sixteen (f : ℕ → ℕ) (cells : List ℕ) : Type 0 where
   pub whole : length cells ≡ 16
   pub cell : (v : ℕ) → v < 16 → slice_index cells v ≡ f v
 
--- How many of an action's nine blocks of 16, the precondition and eight outcomes, are used; 10 where its number of outcomes is wrong.
-unfoldable pub used_blocks : List ℕ → ℕ → ℕ
+-- How many of an action's nine blocks of 16, the precondition and eight outcomes, are used, where its number of outcomes is right.
+unfoldable pub used_blocks : List ℕ → ℕ → Option ℕ
 used_blocks r m =
-    cond (nat_lt m (action_count r)) (cond (nat_le 1 (outcome_count r m) && nat_le (outcome_count r m) 8) (1 + outcome_count r m) 10)
-    (cond (outcome_count r m == 0) 0 10)
+    cond (nat_lt m (action_count r)) (cond (nat_le 1 (outcome_count r m) && nat_le (outcome_count r m) 8) (Some (1 + outcome_count r m)) None)
+    (cond (outcome_count r m == 0) (Some 0) None)

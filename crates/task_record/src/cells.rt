@@ -10,19 +10,10 @@ use crate::layout::{
     AT_PATTERNS, AT_SIZES, AT_START, AT_VARIABLES, IN_OUTCOMES, IN_PRECONDITION, ROW_SIZE,
 };
 
-pub(crate) fn wide(x: u8) -> usize
-    ensures { (result ≡ x) × (result < 256) }
-{
-    x as usize
-}
-
 pub(crate) fn cell(rec: &[u8], k: usize) -> u8
     ensures { result ≡ byte rec.now k }
 {
-    if k < rec.len() {
-        return rec[k];
-    }
-    0
+    rec.get(k).copied().unwrap_or(0)
 }
 
 pub fn variable_count(rec: &[u8]) -> u8
@@ -49,29 +40,24 @@ pub fn limit(rec: &[u8]) -> u8
     cell(rec, AT_LIMIT)
 }
 
-fn digit(rec: &[u8], k: usize) -> u32
-    ensures { (result ≡ byte rec.now k) × (result < 256) }
-{
-    cell(rec, k) as u32
-}
-
 pub fn budget(rec: &[u8]) -> u32
     ensures { result ≡ budget_of rec.now }
 {
-    let low = digit(rec, AT_BUDGET) + 256 * digit(rec, AT_BUDGET + 1);
-    low + 65536 * digit(rec, AT_BUDGET + 2) + 16777216 * digit(rec, AT_BUDGET + 3)
+    let low = u32::from(cell(rec, AT_BUDGET)) + 256 * u32::from(cell(rec, AT_BUDGET + 1));
+    let third = u32::from(cell(rec, AT_BUDGET + 2));
+    low + 65536 * third + 16777216 * u32::from(cell(rec, AT_BUDGET + 3))
 }
 
 pub fn size_of(rec: &[u8], v: u8) -> u8
     ensures { result ≡ size_of rec.now v }
 {
-    cell(rec, AT_SIZES + wide(v))
+    cell(rec, AT_SIZES + usize::from(v))
 }
 
 pub fn outcome_count(rec: &[u8], m: u8) -> u8
     ensures { result ≡ outcome_count rec.now m }
 {
-    cell(rec, AT_ACTIONS + ACTION_SIZE * wide(m))
+    cell(rec, AT_ACTIONS + ACTION_SIZE * usize::from(m))
 }
 
 // The sixteen cells from offset `at` on, or as many as there are.
@@ -104,13 +90,16 @@ pub fn start_cells(rec: &[u8]) -> &[u8]
 pub fn pattern_cells(rec: &[u8], p: u8) -> &[u8]
     ensures { result.now ≡ take 16 (drop (at_pattern p) rec.now) }
 {
-    part(rec, AT_PATTERNS + ROW_SIZE * wide(p))
+    part(rec, AT_PATTERNS + ROW_SIZE * usize::from(p))
 }
 
 pub fn precondition_cells(rec: &[u8], m: u8) -> &[u8]
     ensures { result.now ≡ take 16 (drop (at_precondition m) rec.now) }
 {
-    part(rec, AT_ACTIONS + IN_PRECONDITION + ACTION_SIZE * wide(m))
+    part(
+        rec,
+        AT_ACTIONS + IN_PRECONDITION + ACTION_SIZE * usize::from(m),
+    )
 }
 
 pub fn outcome_cells(rec: &[u8], m: u8, k: u8) -> &[u8]
@@ -118,17 +107,14 @@ pub fn outcome_cells(rec: &[u8], m: u8, k: u8) -> &[u8]
 {
     part(
         rec,
-        AT_ACTIONS + IN_OUTCOMES + ACTION_SIZE * wide(m) + ROW_SIZE * wide(k),
+        AT_ACTIONS + IN_OUTCOMES + ACTION_SIZE * usize::from(m) + ROW_SIZE * usize::from(k),
     )
 }
 
 fn cell_or_255(c: &[u8], k: usize) -> u8
     ensures { result ≡ slice_index_or c.now k 255 }
 {
-    if k < c.len() {
-        return c[k];
-    }
-    255
+    c.get(k).copied().unwrap_or(255)
 }
 
 fn filled_up(c: &[u8]) -> [u8; 16]

@@ -7,37 +7,18 @@ ghost use Rattle.task_record.specs.Numbers.{size_of, variable_count, action_coun
 ghost use Rattle.task_record.specs.Scan.{first_from};
 ghost use Rattle.task_record.specs.Window.{fits, Sixteen};
 ghost use Rattle.task_record.specs.Record.{cell_ok};
-ghost use Rattle.task_record.specs.Parts.{SizesPassed};
 ghost use Rattle.task_record.specs.Columns.{ActionColumn, MemberColumn, FrontPassed, Ramp};
 
 use crate::blocks::misfit;
-use crate::cells::{action_count, pattern_count, variable_count, wide};
+use crate::cells::{action_count, pattern_count, variable_count};
 use crate::layout::{ACTION_SIZE, AT_ACTIONS, AT_GOAL, AT_PATTERNS, AT_START};
-
-// What x is over the top.
-fn over(x: u8, top: u8) -> u8
-    ensures { result ≡ x - top }
-{
-    if x <= top {
-        return 0;
-    }
-    x - top
-}
-
-fn higher(x: u8, y: u8) -> u8
-    ensures { (x ≤ result) × (y ≤ result) }
-{
-    if x < y {
-        return y;
-    }
-    x
-}
+use crate::measured::Measured;
 
 // A state's cell: below the size, or 255 where the size is 0.
 fn value_fault(x: u8, size: u8) -> u8
     ensures { (result == 0) ≡ fits x (1 - size) (size - 1) }
 {
-    misfit(x, over(1, size), over(size, 1))
+    misfit(x, 1u8.saturating_sub(size), size.saturating_sub(1))
 }
 
 // `used` is 255 for a variable that the task has, else 0.
@@ -47,50 +28,41 @@ fn front_fault(used: u8, size: u8, goal: u8, start: u8) -> u8
     misfit(size, used & 254, used & 14) | misfit(goal, 1, size) | value_fault(start, size)
 }
 
-fn thirty_two_zeros() -> [u8; 32]
-    ensures { result ≡ replicate 32 0 }
-{
-    [0; 32]
-}
-
 // Sixteen times 255, then 0: sixteen cells from place 16 - n on have 255 in the first n.
 fn ramp() -> [u8; 32]
     ensures { Ramp result }
 {
-    let mut r = thirty_two_zeros();
-    for v in 0..16usize {
-        r[v] = 255;
-    }
+    let mut r = [0; 32];
+    r[..16].fill(255);
     r
 }
 
 // Sizes, goal and start.
-pub(crate) fn front_fits(rec: &[u8], sizes: [u8; 16]) -> bool
-    requires { (record_size ≤ length rec.now) × (Sixteen (size_of rec.now) sizes) × (variable_count rec.now ≤ 16) }
+pub(crate) fn front_fits(rec: &[u8], sizes: &[u8; 16]) -> bool
+    requires { (record_size ≤ length rec.now) × (Sixteen (size_of rec.now) sizes.now) × (variable_count rec.now ≤ 16) }
     ensures { result ≡ true → FrontPassed rec.now }
 {
     let from = ramp();
-    let skipped = 16 - wide(variable_count(rec));
+    let skipped = 16 - usize::from(variable_count(rec));
     let mut bad = 0u8;
     for v in 0..16usize {
-        bad = bad
-            | front_fault(
-                from[skipped + v],
-                sizes[v],
-                rec[AT_GOAL + v],
-                rec[AT_START + v],
-            );
+        bad |= front_fault(
+            from[skipped + v],
+            sizes[v],
+            rec[AT_GOAL + v],
+            rec[AT_START + v],
+        );
     }
     bad == 0
 }
 
-pub(crate) fn state_fits(c: &[u8], sizes: [u8; 16]) -> bool
+pub(crate) fn state_fits(c: &[u8], sizes: &[u8; 16]) -> bool
     requires { length c.now ≡ 16 }
-    ensures { result ≡ true → (v : ℕ) → v < 16 → fits (slice_index c.now v) (1 - slice_index sizes v) (slice_index sizes v - 1) ≡ true }
+    ensures { result ≡ true → (v : ℕ) → v < 16 → fits (slice_index c.now v) (1 - slice_index sizes.now v) (slice_index sizes.now v - 1) ≡ true }
 {
     let mut bad = 0u8;
     for v in 0..16usize {
-        bad = bad | value_fault(c[v], sizes[v]);
+        bad |= value_fault(c[v], sizes[v]);
     }
     bad == 0
 }
@@ -102,60 +74,42 @@ fn member_fault(c: &[u8], size: u8, a: usize, used: usize) -> u8
 {
     let mut high = 0u8;
     for j in 0..8usize {
-        high = high | c[a + 16 * j];
+        high |= c[a + 16 * j];
     }
     let mut rest = 0u8;
     for j in used..8 {
-        rest = rest | c[a + 16 * j];
+        rest |= c[a + 16 * j];
     }
-    over(high, over(1, over(1, size))) | rest
+    high.saturating_sub(1u8.saturating_sub(1u8.saturating_sub(size))) | rest
 }
 
-fn eight_fit(c: &[u8], sizes: [u8; 16], used: usize) -> bool
-    requires { (record_size ≤ length c.now) × (used ≤ 8) }
-    ensures { result ≡ true → (v : ℕ) → v < 16 → MemberColumn c.now (slice_index sizes v) (at_pattern 0 + v) used }
+fn eight_fit<const USED: usize>(c: &[u8], sizes: &[u8; 16]) -> bool
+    requires { (record_size ≤ length c.now) × (USED ≤ 8) }
+    ensures { result ≡ true → (v : ℕ) → v < 16 → MemberColumn c.now (slice_index sizes.now v) (at_pattern 0 + v) USED }
 {
     let mut bad = 0u8;
     for v in 0..16usize {
-        bad = bad | member_fault(c, sizes[v], AT_PATTERNS + v, used);
+        bad |= member_fault(c, sizes[v], AT_PATTERNS + v, USED);
     }
     bad == 0
 }
 
 // A case for each number of patterns, since the loops of a column are unrolled only where their ends are known.
-pub(crate) fn patterns_fit(rec: &[u8], sizes: [u8; 16]) -> bool
-    requires { SizesPassed rec.now sizes }
-    ensures { result ≡ true → first_from (cell_ok rec.now) (at_pattern 0) (at_action 0 - at_pattern 0) ≡ at_action 0 }
+pub(crate) fn patterns_fit(record: &Measured) -> bool
+    ensures { result ≡ true → first_from (cell_ok record.now.rec.now) (at_pattern 0) (at_action 0 - at_pattern 0) ≡ at_action 0 }
 {
-    let used = pattern_count(rec);
-    if used == 0 {
-        return eight_fit(rec, sizes, 0);
+    match pattern_count(record.rec) {
+        0 => eight_fit::<0>(record.rec, &record.sizes),
+        1 => eight_fit::<1>(record.rec, &record.sizes),
+        2 => eight_fit::<2>(record.rec, &record.sizes),
+        3 => eight_fit::<3>(record.rec, &record.sizes),
+        4 => eight_fit::<4>(record.rec, &record.sizes),
+        5 => eight_fit::<5>(record.rec, &record.sizes),
+        6 => eight_fit::<6>(record.rec, &record.sizes),
+        7 => eight_fit::<7>(record.rec, &record.sizes),
+        8 => eight_fit::<8>(record.rec, &record.sizes),
+        _ => false,
     }
-    if used == 1 {
-        return eight_fit(rec, sizes, 1);
-    }
-    if used == 2 {
-        return eight_fit(rec, sizes, 2);
-    }
-    if used == 3 {
-        return eight_fit(rec, sizes, 3);
-    }
-    if used == 4 {
-        return eight_fit(rec, sizes, 4);
-    }
-    if used == 5 {
-        return eight_fit(rec, sizes, 5);
-    }
-    if used == 6 {
-        return eight_fit(rec, sizes, 6);
-    }
-    if used == 7 {
-        return eight_fit(rec, sizes, 7);
-    }
-    if used == 8 {
-        return eight_fit(rec, sizes, 8);
-    }
-    false
 }
 
 // A column of the nine rows of an action, of which the first `used` are used: the highest of them, moved up by 1 so that 255 goes to 0, is at
@@ -166,56 +120,42 @@ fn action_fault(c: &[u8], size: u8, a: usize, used: usize) -> u8
 {
     let mut high = 0u8;
     for j in 0..used {
-        high = higher(high, std::num::wrapping_add_u8(c[a + 16 * j], 1));
+        high = high.max(c[a + 16 * j].wrapping_add(1));
     }
     let mut low = 255u8;
     for j in used..9 {
-        low = low & c[a + 16 * j];
+        low &= c[a + 16 * j];
     }
-    over(high, size) | over(255, low)
+    high.saturating_sub(size) | (255 - low)
 }
 
-fn nine_fit(c: &[u8], sizes: [u8; 16], a: usize, used: usize) -> bool
-    requires { (a + 144 ≤ length c.now) × (a ≤ 65000) × (used ≤ 9) }
-    ensures { result ≡ true → (v : ℕ) → v < 16 → ActionColumn c.now (slice_index sizes v) (a + v) used }
+fn nine_fit<const USED: usize>(c: &[u8], sizes: &[u8; 16], a: usize) -> bool
+    requires { (a + 144 ≤ length c.now) × (a ≤ 65000) × (USED ≤ 9) }
+    ensures { result ≡ true → (v : ℕ) → v < 16 → ActionColumn c.now (slice_index sizes.now v) (a + v) USED }
 {
     let mut bad = 0u8;
     for v in 0..16usize {
-        bad = bad | action_fault(c, sizes[v], a + v, used);
+        bad |= action_fault(c, sizes[v], a + v, USED);
     }
     bad == 0
 }
 
-// A case for each number of outcomes, as for the patterns.
-fn rows_fit(c: &[u8], sizes: [u8; 16], a: usize, count: u8) -> bool
+// A case for each number of outcomes, as for the patterns; a used block more is the precondition's.
+fn rows_fit(c: &[u8], sizes: &[u8; 16], a: usize, count: u8) -> bool
     requires { (a + 144 ≤ length c.now) × (a ≤ 65000) }
-    ensures { result ≡ true → (1 ≤ count) × (count ≤ 8) × ((v : ℕ) → v < 16 → ActionColumn c.now (slice_index sizes v) (a + v) (1 + count)) }
+    ensures { result ≡ true → (1 ≤ count) × (count ≤ 8) × ((v : ℕ) → v < 16 → ActionColumn c.now (slice_index sizes.now v) (a + v) (1 + count)) }
 {
-    if count == 1 {
-        return nine_fit(c, sizes, a, 2);
+    match count {
+        1 => nine_fit::<2>(c, sizes, a),
+        2 => nine_fit::<3>(c, sizes, a),
+        3 => nine_fit::<4>(c, sizes, a),
+        4 => nine_fit::<5>(c, sizes, a),
+        5 => nine_fit::<6>(c, sizes, a),
+        6 => nine_fit::<7>(c, sizes, a),
+        7 => nine_fit::<8>(c, sizes, a),
+        8 => nine_fit::<9>(c, sizes, a),
+        _ => false,
     }
-    if count == 2 {
-        return nine_fit(c, sizes, a, 3);
-    }
-    if count == 3 {
-        return nine_fit(c, sizes, a, 4);
-    }
-    if count == 4 {
-        return nine_fit(c, sizes, a, 5);
-    }
-    if count == 5 {
-        return nine_fit(c, sizes, a, 6);
-    }
-    if count == 6 {
-        return nine_fit(c, sizes, a, 7);
-    }
-    if count == 7 {
-        return nine_fit(c, sizes, a, 8);
-    }
-    if count == 8 {
-        return nine_fit(c, sizes, a, 9);
-    }
-    false
 }
 
 // The same of an action that is not used.
@@ -225,9 +165,9 @@ fn unnamed_fault(c: &[u8], a: usize) -> u8
 {
     let mut low = 255u8;
     for j in 0..9usize {
-        low = low & c[a + 16 * j];
+        low &= c[a + 16 * j];
     }
-    over(255, low)
+    255 - low
 }
 
 fn nine_unnamed(c: &[u8], a: usize) -> bool
@@ -236,42 +176,42 @@ fn nine_unnamed(c: &[u8], a: usize) -> bool
 {
     let mut bad = 0u8;
     for v in 0..16usize {
-        bad = bad | unnamed_fault(c, a + v);
+        bad |= unnamed_fault(c, a + v);
     }
     bad == 0
 }
 
-fn used_fits(rec: &[u8], sizes: [u8; 16], m: usize) -> bool
-    requires { (SizesPassed rec.now sizes) × (m < action_count rec.now) × (m < 64) }
-    ensures { result ≡ true → first_from (cell_ok rec.now) (at_action m) action_size ≡ at_action (m + 1) }
+fn used_fits(record: &Measured, m: usize) -> bool
+    requires { (m < action_count record.now.rec.now) × (m < 64) }
+    ensures { result ≡ true → first_from (cell_ok record.now.rec.now) (at_action m) action_size ≡ at_action (m + 1) }
 {
     let a = AT_ACTIONS + ACTION_SIZE * m;
-    rows_fit(rec, sizes, a + 1, rec[a])
+    rows_fit(record.rec, &record.sizes, a + 1, record.rec[a])
 }
 
-fn unused_fits(rec: &[u8], m: usize) -> bool
-    requires { (record_size ≤ length rec.now) × (first_from (cell_ok rec.now) at_sizes 16 ≡ at_goal) × (action_count rec.now ≤ m) × (m < 64) }
-    ensures { result ≡ true → first_from (cell_ok rec.now) (at_action m) action_size ≡ at_action (m + 1) }
+fn unused_fits(record: &Measured, m: usize) -> bool
+    requires { (action_count record.now.rec.now ≤ m) × (m < 64) }
+    ensures { result ≡ true → first_from (cell_ok record.now.rec.now) (at_action m) action_size ≡ at_action (m + 1) }
 {
     let a = AT_ACTIONS + ACTION_SIZE * m;
-    if rec[a] != 0 {
+    if record.rec[a] != 0 {
         return false;
     }
-    nine_unnamed(rec, a + 1)
+    nine_unnamed(record.rec, a + 1)
 }
 
-pub(crate) fn actions_fit(rec: &[u8], sizes: [u8; 16]) -> bool
-    requires { (SizesPassed rec.now sizes) × (action_count rec.now ≤ 64) }
-    ensures { result ≡ true → first_from (cell_ok rec.now) (at_action 0) (record_size - at_action 0) ≡ record_size }
+pub(crate) fn actions_fit(record: &Measured) -> bool
+    requires { action_count record.now.rec.now ≤ 64 }
+    ensures { result ≡ true → first_from (cell_ok record.now.rec.now) (at_action 0) (record_size - at_action 0) ≡ record_size }
 {
-    let used = wide(action_count(rec));
+    let used = usize::from(action_count(record.rec));
     for m in 0..used {
-        if !used_fits(rec, sizes, m) {
+        if !used_fits(record, m) {
             return false;
         }
     }
     for m in used..64 {
-        if !unused_fits(rec, m) {
+        if !unused_fits(record, m) {
             return false;
         }
     }

@@ -5,7 +5,7 @@ use Rattle.patterns.proofs.Weights.{Numbering}
 use Rattle.patterns.proofs.places.place_of.Given as goal
 
 abbrev pub invariant-loop-v : goal.invariant-loop-v
-invariant-loop-v l = Numbering l.sizes l.pattern l.state l.index l.weight l.v × (l.weight ≤ 4096)
+invariant-loop-v l = Numbering l.sizes l.pattern l.state l.index l.states l.v × (l.states ≤ 4096)
 
 abbrev pub decreases-loop-v : goal.decreases-loop-v
 decreases-loop-v l = length l.sizes - l.v

@@ -1,10 +1,9 @@
 -- `judge_room`: the patterns passed are small, and their entries are counted. Assumes nothing.
-use mathlib.Core.Path.{◌≡◌, sym, ap₂, ◌∙◌}
+use mathlib.Core.Path.{◌≡◌, sym, ◌∙◌}
 use mathlib.Core.List.{[]}
-use Prim.Native.Nat.{◌≤◌, ◌<◌, min}
+use Prim.Native.Nat.{◌≤◌, ◌<◌}
 use native.Mathlib.Omega.{arith}
 use lib.ListN.{get_or}
-use Rattle.planning.specs.Table.{state_count}
 use Rattle.task_record.specs.Numbers.{pattern_count}
 use Rattle.task_record.specs.TaskOf.{task_of, patterns_of}
 use Rattle.task_record.proofs.SoundTask.{patterns_right}
@@ -16,31 +15,32 @@ use Rattle.patterns.proofs.space.judge_room.Goals as goal
 pub loop-p-init : goal.loop-p-init
 loop-p-init c = let r = c.args.rec.now in adding_start (task_of r).sizes (patterns_of r)
 
-pub state_count-states-requires : goal.state_count-states-requires
-state_count-states-requires c = let r = c.args.rec.now in let l = c.loop-p in
+pub state_count-requires : goal.state_count-requires
+state_count-requires c = let r = c.args.rec.now in let l = c.loop-p in
     let t : l.p < pattern_count r = rw c.pattern_count-p-end.ensures at c.loop-p-test.true in
     let f = sizes_few r c.requires.0 in let w = pattern_whole r c.requires.0 l.p t in
     rw (c.requires.1, c.pattern_cells.ensures) (sizes_positive r c.requires.0, omega arith)
 
-pub returns-then-states-gt4096 : goal.returns-then-states-gt4096
-returns-then-states-gt4096 c = let r = c.args.rec.now in let l = c.loop-p in
+pub returns-in_default : goal.returns-in_default
+returns-in_default c = let r = c.args.rec.now in let l = c.loop-p in
     let t : l.p < pattern_count r = rw c.pattern_count-p-end.ensures at c.loop-p-test.true in
-    let e : c.state_count-states.result ≡ min (state_count (task_of r).sizes (get_or (patterns_of r) l.p [])) 4097 = c.state_count-states.ensures ∙ ap₂ (λ z q. min (state_count z q) 4097) c.requires.1 (c.pattern_cells.ensures ∙ sym (pattern_at r l.p t)) in
-    sym (judged_large (task_of r).sizes (patterns_of r) l.needed l.p l.invariant c.args.lent (rw (patterns_length r) t) (omega (arith, c.if-states-gt4096.true)))
+    let q : c.pattern_cells.result.now ≡ get_or (patterns_of r) l.p [] = c.pattern_cells.ensures ∙ sym (pattern_at r l.p t) in
+    let k = rw (c.requires.1, q) at c.in_default.ensures.large in
+    rw c.from.ensures (sym (judged_large (task_of r).sizes (patterns_of r) l.needed l.p l.invariant c.args.lent (rw (patterns_length r) t) k))
 
 pub overflow_add-needed : goal.overflow_add-needed
 overflow_add-needed c = let r = c.args.rec.now in let l = c.loop-p in let k = patterns_right r c.requires.0 in
-    let t : l.p < pattern_count r = rw c.pattern_count-p-end.ensures at c.loop-p-test.true in omega (arith, l.invariant.bounded, c.if-states-gt4096.false)
-
-pub loop-p-smaller : goal.loop-p-smaller
-loop-p-smaller c = rw (← c.pattern_count-p-end.ensures) (omega arith)
+    let t : l.p < pattern_count r = rw c.pattern_count-p-end.ensures at c.loop-p-test.true in omega (arith, l.invariant.bounded, c.in-Some.ensures.small)
 
 pub loop-p-preserved : goal.loop-p-preserved
 loop-p-preserved c = let r = c.args.rec.now in let l = c.loop-p in
     let t : l.p < pattern_count r = rw c.pattern_count-p-end.ensures at c.loop-p-test.true in
-    let e : c.state_count-states.result ≡ min (state_count (task_of r).sizes (get_or (patterns_of r) l.p [])) 4097 = c.state_count-states.ensures ∙ ap₂ (λ z q. min (state_count z q) 4097) c.requires.1 (c.pattern_cells.ensures ∙ sym (pattern_at r l.p t)) in
-    let g : c.state_count-states.result ≡ state_count (task_of r).sizes (get_or (patterns_of r) l.p []) = omega (arith, c.if-states-gt4096.false) in
-    rw g (adding_small (task_of r).sizes (patterns_of r) l.needed l.p l.invariant (rw (patterns_length r) t) (omega (arith, c.if-states-gt4096.false)))
+    let q : c.pattern_cells.result.now ≡ get_or (patterns_of r) l.p [] = c.pattern_cells.ensures ∙ sym (pattern_at r l.p t) in
+    let k = rw (c.requires.1, q) at c.in-Some.ensures.small in
+    rw k.0 (adding_small (task_of r).sizes (patterns_of r) l.needed l.p l.invariant (rw (patterns_length r) t) (omega (arith, k)))
+
+pub loop-p-smaller : goal.loop-p-smaller
+loop-p-smaller c = rw (← c.pattern_count-p-end.ensures) (omega arith)
 
 pub returns-then-lent-needed : goal.returns-then-lent-needed
 returns-then-lent-needed c = let r = c.args.rec.now in let l = c.loop-p in

@@ -14,8 +14,8 @@ slice_bounds-judge_room-end c =
     let pre = c.requires in
     let args = c.args in
     let variable-count = c.variable_count in
-    let wide = c.wide-end in
-    let r = args.rec.now in let n = sound_length r pre in let f = variables_few r pre in let w = wide.ensures.0 ∙ variable-count.ensures in omega arith
+    let from = c.from-end in
+    let r = args.rec.now in let n = sound_length r pre in let f = variables_few r pre in let w = from.ensures ∙ variable-count.ensures in omega arith
 
 pub judge_room-requires : goal.judge_room-requires
 unfolding task_of
@@ -23,7 +23,7 @@ judge_room-requires c =
     let pre = c.requires in
     let args = c.args in
     let variable-count = c.variable_count in
-    let wide = c.wide-end in
-    let r = args.rec.now in let w = wide.ensures.0 ∙ variable-count.ensures in
-    let e : at_sizes + wide.result - at_sizes ≡ variable_count r = omega arith in
+    let from = c.from-end in
+    let r = args.rec.now in let w = from.ensures ∙ variable-count.ensures in
+    let e : at_sizes + from.result - at_sizes ≡ variable_count r = omega arith in
     (pre, rw e)

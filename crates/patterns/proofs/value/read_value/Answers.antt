@@ -21,17 +21,17 @@ slice_bounds-sum_entries-end c =
     let pre = c.requires in
     let args = c.args in
     let variables = c.variable_count in
-    let wide = c.wide-variables in
-    let r = args.rec.now in let g = checked_good r args.state.now pre.0 in let n = sound_length r g.0 in let f = variables_few r g.0 in let w = wide.ensures.0 ∙ variables.ensures in omega arith
+    let from = c.from-variables in
+    let r = args.rec.now in let g = checked_good r args.state.now pre.0 in let n = sound_length r g.0 in let f = variables_few r g.0 in let w = from.ensures ∙ variables.ensures in omega arith
 
 pub slice_bounds-sum_entries-end-2 : goal.slice_bounds-sum_entries-end-2
 slice_bounds-sum_entries-end-2 c =
     let pre = c.requires in
     let args = c.args in
     let variables = c.variable_count in
-    let wide = c.wide-variables in
+    let from = c.from-variables in
     let r = args.rec.now in let g = checked_good r args.state.now pre.0 in
-    sym (length-take-le _ _ (rw (wide.ensures.0, variables.ensures, g.1.whole) (variables_few r g.0)))
+    sym (length-take-le _ _ (rw (from.ensures, variables.ensures, g.1.whole) (variables_few r g.0)))
 
 pub sum_entries-requires : goal.sum_entries-requires
 unfolding Small task_of
@@ -39,11 +39,11 @@ sum_entries-requires c =
     let pre = c.requires in
     let args = c.args in
     let variables = c.variable_count in
-    let wide = c.wide-variables in
+    let from = c.from-variables in
     let r = args.rec.now in let s = args.state.now in let g = checked_good r s pre.0 in
     let k = ready_means r (length args.tables.now) pre.1 in
-    let w = wide.ensures.0 ∙ variables.ensures in
-    let e : at_sizes + wide.result - at_sizes ≡ variable_count r = omega arith in (
+    let w = from.ensures ∙ variables.ensures in
+    let e : at_sizes + from.result - at_sizes ≡ variable_count r = omega arith in (
       g.0,
       rw e,
       rw w (good_values r g.0 s g.1),
@@ -56,6 +56,6 @@ unfolding read_value values_of
 returns c =
     let args = c.args in
     let variables = c.variable_count in
-    let wide = c.wide-variables in
+    let from = c.from-variables in
     let sum-entries = c.sum_entries in
-    let a = args in sum-entries.ensures ∙ ap (λ v. value_of (value (task_of a.rec.now).sizes (patterns_of a.rec.now) a.tables.now (take v a.state.now))) (wide.ensures.0 ∙ variables.ensures)
+    let a = args in sum-entries.ensures ∙ ap (λ v. value_of (value (task_of a.rec.now).sizes (patterns_of a.rec.now) a.tables.now (take v a.state.now))) (from.ensures ∙ variables.ensures)

@@ -59,12 +59,12 @@ returns-then-e-eq65535 c = let r = c.args.rec.now in let s = c.args.state.now in
     let m : l.p < length (patterns_of r) = rw (patterns_length r) t in
     let q : c.pattern_cells.result.now ≡ get_or (patterns_of r) l.p [] = c.pattern_cells.ensures ∙ sym (pattern_at r l.p t) in
     let i : c.place_of-place.result.index ≡ index (task_of r).sizes (get_or (patterns_of r) l.p []) s = c.place_of-place.ensures.0 ∙ ap₂ (λ z x. index z x s) c.requires.1 q in
-    let e : c.entry-e.result ≡ get_or c.args.tables.now (l.begin + index (task_of r).sizes (get_or (patterns_of r) l.p []) s) 0 = c.entry-e.ensures.0 ∙ ap (λ x. get_or c.args.tables.now (l.begin + x) 0) i in
+    let e : c.from-e.result ≡ get_or c.args.tables.now (l.begin + index (task_of r).sizes (get_or (patterns_of r) l.p []) s) 0 = c.from-e.ensures ∙ ap (λ x. get_or c.args.tables.now (l.begin + x) 0) i in
     sym (ap value_of (summing_infinite (task_of r).sizes (patterns_of r) s c.args.tables.now l.sum l.begin l.p l.invariant m c.requires.2 (sym e ∙ c.if-e-eq65535.true)))
 
 pub overflow_add-sum : goal.overflow_add-sum
 overflow_add-sum c = let r = c.args.rec.now in let l = c.loop-p in let k = patterns_right r c.requires.0 in
-    let t : l.p < pattern_count r = rw c.pattern_count-p-end.ensures at c.loop-p-test.true in omega (arith, l.invariant.bounded, c.entry-e.ensures.1)
+    let t : l.p < pattern_count r = rw c.pattern_count-p-end.ensures at c.loop-p-test.true in omega (arith, l.invariant.bounded, c.from-e.ensures, c.type_inv.tables (l.begin + c.place_of-place.result.index))
 
 pub overflow_add-begin : goal.overflow_add-begin
 overflow_add-begin c = let r = c.args.rec.now in let s = c.args.state.now in let l = c.loop-p in
@@ -84,9 +84,9 @@ loop-p-preserved c = let r = c.args.rec.now in let s = c.args.state.now in let l
     let q : c.pattern_cells.result.now ≡ get_or (patterns_of r) l.p [] = c.pattern_cells.ensures ∙ sym (pattern_at r l.p t) in
     let i : c.place_of-place.result.index ≡ index (task_of r).sizes (get_or (patterns_of r) l.p []) s = c.place_of-place.ensures.0 ∙ ap₂ (λ z x. index z x s) c.requires.1 q in
     let j : c.place_of-place.result.states ≡ state_count (task_of r).sizes (get_or (patterns_of r) l.p []) = c.place_of-place.ensures.1 ∙ ap₂ state_count c.requires.1 q in
-    let e : c.entry-e.result ≡ get_or c.args.tables.now (l.begin + index (task_of r).sizes (get_or (patterns_of r) l.p []) s) 0 = c.entry-e.ensures.0 ∙ ap (λ x. get_or c.args.tables.now (l.begin + x) 0) i in
-    let g = ne_eqb c.entry-e.result 65535 c.if-e-eq65535.false in
-    rw (j, e) (summing_finite (task_of r).sizes (patterns_of r) s c.args.tables.now l.sum l.begin l.p l.invariant m c.requires.2 (omega (arith, c.if-e-eq65535.false, c.entry-e.ensures.1)) (rw e at g))
+    let e : c.from-e.result ≡ get_or c.args.tables.now (l.begin + index (task_of r).sizes (get_or (patterns_of r) l.p []) s) 0 = c.from-e.ensures ∙ ap (λ x. get_or c.args.tables.now (l.begin + x) 0) i in
+    let g = ne_eqb c.from-e.result 65535 c.if-e-eq65535.false in
+    rw (j, e) (summing_finite (task_of r).sizes (patterns_of r) s c.args.tables.now l.sum l.begin l.p l.invariant m c.requires.2 (rw e at (let b = c.type_inv.tables (l.begin + c.place_of-place.result.index) in let f : c.from-e.result ≤ 65534 = omega (arith, c.if-e-eq65535.false, c.from-e.ensures) in f)) (rw e at g))
 
 pub returns : goal.returns
 unfolding value_of

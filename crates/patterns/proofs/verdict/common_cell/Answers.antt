@@ -1,24 +1,9 @@
 -- `common_cell`: the cells passed are at least what they have in common. Assumes nothing.
-use Prim.Native.Nat.{ℕ, ◌+◌, ◌*◌}
-use native.Mathlib.Omega.{arith}
+use Rattle.std.proofs.Common.{ℕ, ◌+◌, ◌*◌, get_or}
 use lib.Bits.{bit_and, and_le_l, and_le_r}
-use lib.ListN.{get_or}
 use Rattle.task_record.proofs.ColumnLaws.{lowered}
 use Rattle.patterns.proofs.verdict.common_cell.Goals as goal
 
-pub loop-k-init : goal.loop-k-init
-loop-k-init c = (omega arith, λ k g l. absurd (omega arith))
-
 pub loop-k-preserved : goal.loop-k-preserved
-loop-k-preserved c =
-    let args = c.args in
-    let loop = c.loop-k in
-    let s = args in let x = get_or s.rec.now (s.at + 16 * loop.k) 0 in
-    (omega arith, lowered (λ (i : ℕ). get_or s.rec.now (s.at + 16 * i) 0) 0 loop.k loop.low (bit_and loop.low x) (and_le_l loop.low x) (and_le_r loop.low x) loop.invariant.1)
-
-pub returns : goal.returns
-returns c =
-    let loop = c.loop-k in
-    let loop-test = c.loop-k-test in
-    let t = loop-test.false in
-    λ k g l. loop.invariant.1 k g (omega arith)
+loop-k-preserved c = let l = c.loop-k in let r = c.args.rec.now in let x = get_or r (c.args.at + 16 * l.k) 0 in
+    lowered (λ (i : ℕ). get_or r (c.args.at + 16 * i) 0) 0 l.k l.low (bit_and l.low x) (and_le_l l.low x) (and_le_r l.low x) l.invariant

@@ -20,11 +20,9 @@ loop-m-init c = (omega arith, λ k l. absurd (omega arith))
 
 pub touched_set-requires : goal.touched_set-requires
 touched_set-requires c =
-    let pre = c.requires in
-    let member-sets = c.member_sets-members in
     let action-count = c.action_count-m-end in
     let loop-test = c.loop-m-test in
-    (pre, member-sets.ensures, omega (arith, loop-test.true, action-count.ensures))
+    rw c.of-members.ensures (omega (arith, loop-test.true, action-count.ensures))
 
 pub returns-then-not-is_lone : goal.returns-then-not-is_lone
 returns-then-not-is_lone c = λ t. let z : ◌≡◌ {A = ℕ} 0 1 = cc in absurd (omega arith)
@@ -40,7 +38,7 @@ loop-m-preserved c =
     let if2 = c.if-not-is_lone in
     let r = args.rec.now in let m = loop.m in
     let l : m < action_count r = omega (arith, loop-test.true, action-count.ensures) in
-    (omega arith, below_next (Alone r) m (alone r m touched-set.result l touched-set.ensures (is-lone.ensures if2.false)) loop.invariant.1)
+    (omega arith, below_next (Alone r) m (alone r m touched-set.result l (rw c.of-members.ensures at touched-set.ensures) (is-lone.ensures if2.false)) loop.invariant.1)
 
 pub returns : goal.returns
 returns c =

@@ -14,57 +14,54 @@ use Rattle.patterns.proofs.verdict.scan.Goals.{else-loop-p-test, then-loop-p-tes
 use Rattle.patterns.proofs.verdict.scan.Goals as goal
 
 pub affected_set-left-requires : goal.affected_set-left-requires
-affected_set-left-requires c = (c.requires, c.member_sets-members.ensures, rw c.scan.invariant.3 at c.scan-test.true)
+affected_set-left-requires c = rw c.of-members.ensures (rw c.loop-m.invariant.2 at c.loop-m-test.true)
 
-pub scan-init : goal.scan-init
-scan-init c = let r = c.args.rec.now in (verdict-at_start (task_of r) (patterns_of r), refl, omega arith, c.action_count-actions.ensures, c.pattern_count-patterns.ensures)
+pub loop-m-init : goal.loop-m-init
+loop-m-init c = let r = c.args.rec.now in (verdict-at_start (task_of r) (patterns_of r), omega arith, c.action_count-actions.ensures, c.pattern_count-patterns.ensures)
 
 pub loop-p-init : goal.loop-p-init
-loop-p-init c = (refl, c.scan.invariant.1, omega arith, rw sub-zero c.affected_set-left.ensures)
+loop-p-init c = (refl, omega arith, rw sub-zero (rw c.of-members.ensures at c.affected_set-left.ensures))
 
 pub loop-q-init : goal.loop-q-init
-loop-q-init c = let r = c.args.rec.now in let s = c.scan in let l = c.loop-p in
-    let t = rw s.invariant.4 at c.loop-p-test.true in (
-      l.invariant.0 ∙ pattern_affected r s.m l.p t (set_odd (affects_at r s.m) l.p (pattern_count r) t (rw l.invariant.3 at c.if-left-eq1.true)),
-      l.invariant.1,
+loop-q-init c = let r = c.args.rec.now in let s = c.loop-m in let l = c.loop-p in
+    let t = rw s.invariant.3 at c.loop-p-test.true in (
+      l.invariant.0 ∙ pattern_affected r s.m l.p t (set_odd (affects_at r s.m) l.p (pattern_count r) t (rw l.invariant.2 at c.if-left-eq1.true)),
       omega arith,
-      rw l.invariant.3 (set_half (affects_at r s.m) l.p (pattern_count r) t),
+      rw l.invariant.2 (set_half (affects_at r s.m) l.p (pattern_count r) t),
     )
 
 pub loop-q-preserved : goal.loop-q-preserved
-loop-q-preserved c = let r = c.args.rec.now in let s = c.scan in let l = c.loop-q in
-    let t = rw s.invariant.4 at c.loop-q-test.true in (
-      l.invariant.0 ∙ ap (λ x. c.loop-p.p ∷ x) (pattern_spared r s.m l.q t (set_even (affects_at r s.m) l.q (pattern_count r) t (rw l.invariant.3 at c.if-left-eq1-2.false))),
-      l.invariant.1,
+loop-q-preserved c = let r = c.args.rec.now in let s = c.loop-m in let l = c.loop-q in
+    let t = rw s.invariant.3 at c.loop-q-test.true in (
+      l.invariant.0 ∙ ap (λ x. c.loop-p.p ∷ x) (pattern_spared r s.m l.q t (set_even (affects_at r s.m) l.q (pattern_count r) t (rw l.invariant.2 at c.if-left-eq1-2.false))),
       omega arith,
-      rw l.invariant.3 (set_half (affects_at r s.m) l.q (pattern_count r) t),
+      rw l.invariant.2 (set_half (affects_at r s.m) l.q (pattern_count r) t),
     )
 
 pub loop-p-preserved : goal.loop-p-preserved
-loop-p-preserved c = let r = c.args.rec.now in let s = c.scan in let l = c.loop-p in
-    let t = rw s.invariant.4 at c.loop-p-test.true in (
-      l.invariant.0 ∙ pattern_spared r s.m l.p t (set_even (affects_at r s.m) l.p (pattern_count r) t (rw l.invariant.3 at c.if-left-eq1.false)),
-      l.invariant.1,
+loop-p-preserved c = let r = c.args.rec.now in let s = c.loop-m in let l = c.loop-p in
+    let t = rw s.invariant.3 at c.loop-p-test.true in (
+      l.invariant.0 ∙ pattern_spared r s.m l.p t (set_even (affects_at r s.m) l.p (pattern_count r) t (rw l.invariant.2 at c.if-left-eq1.false)),
       omega arith,
-      rw l.invariant.3 (set_half (affects_at r s.m) l.p (pattern_count r) t),
+      rw l.invariant.2 (set_half (affects_at r s.m) l.p (pattern_count r) t),
     )
 
-pub scan-preserved : goal.scan-preserved
-scan-preserved c = let r = c.args.rec.now in let s = c.scan in let l = c.loop-p in
-    let t = rw s.invariant.3 at c.scan-test.true in
+pub loop-m-preserved : goal.loop-m-preserved
+loop-m-preserved c = let r = c.args.rec.now in let s = c.loop-m in let l = c.loop-p in
+    let t = rw s.invariant.2 at c.loop-m-test.true in
     elim c.loop-p-test.branch [
-      | else-loop-p-test w ↦ (s.invariant.0 ∙ no_pattern r s.m t (l.invariant.0 ∙ patterns_passed r s.m l.p (rw s.invariant.4 at w.loop-p-test.false)), w.answer-is ∙ l.invariant.1, omega arith, s.invariant.3, s.invariant.4)
+      | else-loop-p-test w ↦ (s.invariant.0 ∙ no_pattern r s.m t (l.invariant.0 ∙ patterns_passed r s.m l.p (rw s.invariant.3 at w.loop-p-test.false)), omega arith, s.invariant.2, s.invariant.3)
       | then-loop-p-test+then-left-eq1+else-loop-q-test w ↦ let k = w.loop-q in
-          (s.invariant.0 ∙ one_pattern r s.m t l.p (k.invariant.0 ∙ ap (λ x. l.p ∷ x) (patterns_passed r s.m k.q (rw s.invariant.4 at w.loop-q-test.false))), w.answer-is ∙ k.invariant.1, omega arith, s.invariant.3, s.invariant.4)
+          (s.invariant.0 ∙ one_pattern r s.m t l.p (k.invariant.0 ∙ ap (λ x. l.p ∷ x) (patterns_passed r s.m k.q (rw s.invariant.3 at w.loop-q-test.false))), omega arith, s.invariant.2, s.invariant.3)
     ]
 
-pub returns-after-scan : goal.returns-after-scan
+pub returns : goal.returns
 unfolding additivity_of
-returns-after-scan c = let u = c.scan in u.invariant.1 ∙ sym (ap additivity_of (u.invariant.0 ∙ actions_passed c.args.rec.now u.m (rw u.invariant.3 at c.scan-test.false)))
+returns c = let u = c.loop-m in sym (ap additivity_of (u.invariant.0 ∙ actions_passed c.args.rec.now u.m (rw u.invariant.2 at c.loop-m-test.false)))
 
 pub returns-then-left-eq1-2 : goal.returns-then-left-eq1-2
 unfolding additivity_of
-returns-then-left-eq1-2 c = let r = c.args.rec.now in let s = c.scan in let l = c.loop-p in let k = c.loop-q in
-    let t = rw s.invariant.4 at c.loop-q-test.true in
-    sym (ap additivity_of (s.invariant.0 ∙ two_patterns r s.m (rw s.invariant.3 at c.scan-test.true) l.p k.q (affected_from r s.m (k.q + 1))
-    (k.invariant.0 ∙ ap (λ x. l.p ∷ x) (pattern_affected r s.m k.q t (set_odd (affects_at r s.m) k.q (pattern_count r) t (rw k.invariant.3 at c.if-left-eq1-2.true))))))
+returns-then-left-eq1-2 c = let r = c.args.rec.now in let s = c.loop-m in let l = c.loop-p in let k = c.loop-q in
+    let t = rw s.invariant.3 at c.loop-q-test.true in
+    rw (c.from.ensures, c.from-then-left-eq1-2.ensures, c.from-then-left-eq1-2-2.ensures) (sym (ap additivity_of (s.invariant.0 ∙ two_patterns r s.m (rw s.invariant.2 at c.loop-m-test.true) l.p k.q (affected_from r s.m (k.q + 1))
+    (k.invariant.0 ∙ ap (λ x. l.p ∷ x) (pattern_affected r s.m k.q t (set_odd (affects_at r s.m) k.q (pattern_count r) t (rw k.invariant.2 at c.if-left-eq1-2.true)))))))

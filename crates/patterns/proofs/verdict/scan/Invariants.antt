@@ -6,24 +6,23 @@ use Rattle.planning.specs.Pattern.{verdict}
 use Rattle.task_record.specs.Numbers.{action_count, pattern_count}
 use Rattle.task_record.specs.TaskOf.{task_of, patterns_of}
 use Rattle.patterns.specs.Sets.{set_from}
-use Rattle.patterns.specs.declared.verdict.Additivity.TheVariants.{Additive}
 use Rattle.patterns.proofs.Reading.{affects_at, affected_from, verdict_from}
 use Rattle.patterns.proofs.verdict.scan.Given as goal
 
 abbrev pub invariant-loop-q : goal.invariant-loop-q
-invariant-loop-q l = (affected_from l.rec l.m 0 ≡ l.p ∷ affected_from l.rec l.m l.q) × (l.answer ≡ Additive) × (l.q ≤ l.patterns) × (l.left / 2 ≡ set_from (affects_at l.rec l.m) l.q (pattern_count l.rec - l.q))
+invariant-loop-q l = (affected_from l.rec l.m 0 ≡ l.p ∷ affected_from l.rec l.m l.q) × (l.q ≤ l.patterns) × (l.left / 2 ≡ set_from (affects_at l.rec l.m) l.q (pattern_count l.rec - l.q))
 
 abbrev pub decreases-loop-q : goal.decreases-loop-q
 decreases-loop-q l = l.patterns - l.q
 
 abbrev pub invariant-loop-p : goal.invariant-loop-p
-invariant-loop-p l = (affected_from l.rec l.m 0 ≡ affected_from l.rec l.m l.p) × (l.answer ≡ Additive) × (l.p ≤ l.patterns) × (l.left ≡ set_from (affects_at l.rec l.m) l.p (pattern_count l.rec - l.p))
+invariant-loop-p l = (affected_from l.rec l.m 0 ≡ affected_from l.rec l.m l.p) × (l.p ≤ l.patterns) × (l.left ≡ set_from (affects_at l.rec l.m) l.p (pattern_count l.rec - l.p))
 
 abbrev pub decreases-loop-p : goal.decreases-loop-p
 decreases-loop-p l = l.patterns - l.p
 
-abbrev pub invariant-scan : goal.invariant-scan
-invariant-scan l = (verdict (task_of l.rec) (patterns_of l.rec) ≡ verdict_from l.rec l.m) × (l.answer ≡ Additive) × (l.m ≤ l.actions) × (l.actions ≡ action_count l.rec) × (l.patterns ≡ pattern_count l.rec)
+abbrev pub invariant-loop-m : goal.invariant-loop-m
+invariant-loop-m l = (verdict (task_of l.rec) (patterns_of l.rec) ≡ verdict_from l.rec l.m) × (l.m ≤ l.actions) × (l.actions ≡ action_count l.rec) × (l.patterns ≡ pattern_count l.rec)
 
-abbrev pub decreases-scan : goal.decreases-scan
-decreases-scan l = l.actions - l.m
+abbrev pub decreases-loop-m : goal.decreases-loop-m
+decreases-loop-m l = l.actions - l.m

@@ -1,87 +1,98 @@
 -- `check_bytes`: between two bytes the rest of the plan is checked as planning checks it, for the state and for what the frames await.
 -- Assumes nothing.
-use mathlib.Core.Path.{◌≡◌, refl, sym, ap, ◌∙◌}
-use native.Mathlib.Omega.{arith}
-use lib.ListN.{length}
+use Rattle.std.proofs.Common.{◌≡◌, nat_cmp, eqb, ltb, ◌∷◌, List, [], ℕ, max, length, drop, slice_get, sym, ap, ◌∙◌, arith, refl, Some, None, Err}
+use Rattle.std.specs.Ordering.{ord_max}
+use Rattle.std.proofs.lemmas.Result.{err_from_is_err_and}
+use borrow.Author.Tests.{ltb-true, ltb-false}
+use Rattle.planning.proofs.Test.{by_test}
 use Rattle.planning.specs.PlanCheck.{refused, check_plan, most_moves}
 use Rattle.task_record.proofs.Soundness.{sound_length}
+use Rattle.plan_check.specs.declared.frames.Frame.{Frame}
 use Rattle.plan_check.specs.Tower.{tower, values_of}
-use Rattle.plan_check.specs.Check.{answer_of}
-use Rattle.plan_check.specs.Stack.{frame_at}
+use Rattle.plan_check.specs.Check.{answer_of, refusal_of}
 use Rattle.plan_check.proofs.Tower.{tower_actions}
 use Rattle.plan_check.proofs.Reading.{Taken, reading_begins, reading_ends_early, reading_refused, reading_ends, reading_arrives, reading_acts, taken_last, taken_first}
-use Rattle.plan_check.proofs.check.check_bytes.Goals.{Joined-b-actions, then-b-actions, else-b-actions+else-waiting-eq0}
+use Rattle.plan_check.proofs.check.check_bytes.Goals.{Joined-has_action, then-has_action, else-has_action+in-Some, then-frame-ne1, else-frame-ne1}
 use Rattle.plan_check.proofs.check.check_bytes.Goals as goal
 
+-- A stack that is not empty is its topmost frame on the others.
+topmost_on_others : (frames : List Frame) (f : Frame) → slice_get frames 0 ≡ Some f → frames ≡ f ∷ drop 1 frames
+topmost_on_others [] f e = let z : ◌≡◌ {A = ℕ} 0 1 = cc in absurd (omega arith)
+topmost_on_others (g ∷ frames) f e = let same : g ≡ f = cc in ap (λ h. h ∷ frames) same
+
+none_topmost : (frames : List Frame) → slice_get frames 0 ≡ None → frames ≡ []
+none_topmost [] e = refl
+none_topmost (g ∷ frames) e = let z : ◌≡◌ {A = ℕ} 0 1 = cc in absurd (omega arith)
+
+max_is : (a b : ℕ) → ord_max nat_cmp a b ≡ max a b
+max_is a b = by_test (ltb b a)
+    (λ e. let l = ltb-true b a e in rw e (omega arith))
+    (λ e. let l = ltb-false b a e in by_test (eqb b a) (λ q. rw (e, q) (omega arith)) (λ q. rw (e, q) (omega arith)))
+
 -- Where the two kinds of bytes meet: what holds of the frame that comes.
-taken : (c : Joined-b-actions) → Taken c.args.rec.now c.args.plan.now (check_plan (tower c.args.rec.now) most_moves (values_of c.args.rec.now c.args.start) c.args.plan.now)
-    c.loop-at.frames c.if-b-actions.waiting c.if-b-actions.frame c.if-b-actions.worst c.loop-at.at
-unfolding frame_at
-taken c = let good = sym c.refusal-number.ensures ∙ c.if-number-ne0.false in
-    elim c.if-b-actions.branch [
-      | then-b-actions w ↦ rw (w.frame-is, w.worst-is, w.waiting-is, w.begun-frame.ensures)
-          (reading_acts _ _ c.requires _ _ _ _ _ _ _ c.loop-at.invariant.1 c.loop-at-test.true good (rw (tower_actions, ← c.action_count-actions.ensures) w.if-b-actions.true)).1
-      | else-b-actions+else-waiting-eq0 w ↦ rw (w.frame-is, w.worst-is, w.waiting-is, w.larger-worst.ensures)
-          (reading_arrives _ _ c.requires _ _ _ _ _ _ _ c.loop-at.invariant.1 c.loop-at-test.true good (rw (tower_actions, ← c.action_count-actions.ensures) w.if-b-actions.false) w.if-waiting-eq0.false)
+taken : (c : Joined-has_action) → Taken c.args.rec.now c.args.plan.now (check_plan (tower c.args.rec.now) most_moves (values_of c.args.rec.now c.args.start) c.args.plan.now)
+    c.if-has_action.stack c.if-has_action.frame c.if-has_action.worst c.loop-at.at
+taken c =
+    let read = rw c.of-task.ensures at c.judge_byte.ensures in
+    let kind = rw c.of-task.ensures at c.has_action.ensures in
+    let good = sym read ∙ c.in_ok-judge_byte.was in
+    elim c.if-has_action.branch [
+      | then-has_action w ↦ rw (w.frame-is, w.worst-is, w.stack-is, w.begun-frame.ensures, c.of-task.ensures)
+          (reading_acts _ _ c.requires _ _ _ _ _ _ c.loop-at.invariant c.loop-at-test.true good (ltb-true _ _ (sym kind ∙ w.if-has_action.true))).1
+      | else-has_action+in-Some w ↦
+          let l = ltb-false _ _ (sym kind ∙ w.if-has_action.false) in
+          let split = topmost_on_others _ _ (sym w.pop.ensures.topmost ∙ w.in-Some.is) in
+          rw (w.frame-is, w.worst-is, w.stack-is, w.max-worst.ensures, max_is, w.pop.ensures.rest)
+          (reading_arrives _ _ c.requires _ _ _ _ _ _ c.loop-at.invariant c.loop-at-test.true good _ _ l split)
     ]
 
-pub cells_at-goal-requires : goal.cells_at-goal-requires
-cells_at-goal-requires c = let long = sound_length _ c.requires in omega arith
-
 pub loop-at-init : goal.loop-at-init
-loop-at-init c = (omega arith, reading_begins _ _ c.requires _ _ refl)
+loop-at-init c = rw c.new-stack.ensures (reading_begins _ _ c.requires c.args.start)
 
-pub refusal-number-requires : goal.refusal-number-requires
-refusal-number-requires c = (c.requires, c.action_count-actions.ensures, c.cells_at-goal.ensures)
-
-pub returns-then-number-ne0 : goal.returns-then-number-ne0
-unfolding answer_of
-returns-then-number-ne0 c = sym (ap answer_of (reading_refused _ _ c.requires _ _ _ _ _ _ _ c.loop-at.invariant.1 c.loop-at-test.true _ c.refusal-number.ensures c.if-number-ne0.true))
+pub returns-in_err-judge_byte : goal.returns-in_err-judge_byte
+returns-in_err-judge_byte c =
+    let q = err_from_is_err_and c.from_residual.result c.from_residual.ensures.1 in
+    let read = rw c.of-task.ensures at c.judge_byte.ensures in
+    q.1 ∙ ap Err q.2 ∙ sym (reading_refused _ _ c.requires _ _ _ _ _ _ c.loop-at.invariant c.loop-at-test.true _ (sym read ∙ c.in_err-judge_byte.was))
 
 pub begun-frame-requires : goal.begun-frame-requires
-begun-frame-requires c = let good = sym c.refusal-number.ensures ∙ c.if-number-ne0.false in
-    let l = rw c.action_count-actions.ensures at c.if-b-actions.true in
-    (c.requires, l, (reading_acts _ _ c.requires _ _ _ _ _ _ _ c.loop-at.invariant.1 c.loop-at-test.true good (rw tower_actions l)).0)
+begun-frame-requires c =
+    let read = rw c.of-task.ensures at c.judge_byte.ensures in
+    let kind = rw c.of-task.ensures at c.has_action.ensures in
+    let l = ltb-true _ _ (sym kind ∙ c.if-has_action.true) in
+    rw c.of-task.ensures (rw tower_actions at l, (reading_acts _ _ c.requires _ _ _ _ _ _ c.loop-at.invariant c.loop-at-test.true (sym read ∙ c.in_ok-judge_byte.was) l).0)
 
-pub returns-then-waiting-eq0 : goal.returns-then-waiting-eq0
-returns-then-waiting-eq0 c = let good = sym c.refusal-number.ensures ∙ c.if-number-ne0.false in
-    c.ended.ensures ∙ ap answer_of (rw c.larger-worst.ensures
-    (sym (reading_ends _ _ c.requires _ _ _ _ _ _ _ c.loop-at.invariant.1 c.loop-at-test.true good (rw (tower_actions, ← c.action_count-actions.ensures) c.if-b-actions.false) c.if-waiting-eq0.true)))
+pub returns-in-None : goal.returns-in-None
+returns-in-None c =
+    let read = rw c.of-task.ensures at c.judge_byte.ensures in
+    let kind = rw c.of-task.ensures at c.has_action.ensures in
+    let l = ltb-false _ _ (sym kind ∙ c.if-has_action.false) in
+    let empty = none_topmost _ (sym c.pop.ensures.topmost ∙ c.in-None.is) in
+    let ends = reading_ends _ _ c.requires _ _ _ _ _ _ c.loop-at.invariant c.loop-at-test.true (sym read ∙ c.in_ok-judge_byte.was) l empty in
+    c.ended.ensures ∙ ap answer_of (rw (c.max-worst.ensures, max_is) (sym ends))
 
-pub bounds-frames-waiting : goal.bounds-frames-waiting
-bounds-frames-waiting c = let v = c.loop-at.invariant.1 in omega (arith, v.below, v.shallow, c.if-waiting-eq0.false)
-
-pub next_state-next-requires : goal.next_state-next-requires
-next_state-next-requires c = let w = (taken c).frame in
+pub next_state-state-requires : goal.next_state-state-requires
+next_state-state-requires c =
+    let w = (taken (goal.at.next_state-state-requires c).Joined-has_action).frame in
     let long = sound_length _ c.requires in
     omega (arith, w.some, w.inside)
 
-pub rest_of-rest-requires : goal.rest_of-rest-requires
-rest_of-rest-requires c = let w = (taken (goal.at.rest_of-rest-requires c).Joined-b-actions).frame in (omega (arith, w.inside), w.some)
+pub rest-requires : goal.rest-requires
+rest-requires c = let w = (taken (goal.at.rest-requires c).Joined-has_action).frame in (omega (arith, w.inside), w.some)
 
-pub offset_bounds-frames-waiting-then-frame-ne1 : goal.offset_bounds-frames-waiting-then-frame-ne1
-offset_bounds-frames-waiting-then-frame-ne1 c = let w = (taken (goal.at.offset_bounds-frames-waiting-then-frame-ne1 c).Joined-b-actions).frame in omega (arith, w.deep, w.shallow)
-
-pub bounds-frames-waiting-then-frame-ne1 : goal.bounds-frames-waiting-then-frame-ne1
-bounds-frames-waiting-then-frame-ne1 c = let w = (taken (goal.at.bounds-frames-waiting-then-frame-ne1 c).Joined-b-actions).frame in omega (arith, w.deep, w.shallow)
-
-pub overflow_add-waiting : goal.overflow_add-waiting
-overflow_add-waiting c = let w = (taken (goal.at.overflow_add-waiting c).Joined-b-actions).frame in omega (arith, w.deep, w.shallow)
-
-pub loop-at-preserved-then-frame-ne1 : goal.loop-at-preserved-then-frame-ne1
-loop-at-preserved-then-frame-ne1 c = (
-  omega (arith, c.loop-at-test.true),
-  rw (c.rest_of-rest.ensures, c.next_state-next.ensures) (taken_first _ _ c.requires _ _ _ _ _ _ (taken (goal.at.loop-at-preserved-then-frame-ne1 c).Joined-b-actions) c.if-frame-ne1.true),
-)
+pub push-requires : goal.push-requires
+push-requires c = let w = (taken (goal.at.push-requires c).Joined-has_action).frame in omega (arith, w.deep, w.shallow)
 
 pub loop-at-preserved : goal.loop-at-preserved
-loop-at-preserved c = (
-  omega (arith, c.loop-at-test.true),
-  rw c.next_state-next.ensures (taken_last _ _ c.requires _ _ _ _ _ _ (taken (goal.at.loop-at-preserved c).Joined-b-actions) c.if-frame-ne1.false),
-)
+loop-at-preserved c =
+    let t = taken (goal.at.loop-at-preserved c).Joined-has_action in
+    elim c.if-frame-ne1.branch [
+      | then-frame-ne1 w ↦ rw (w.stack-is, w.push.ensures, w.rest.ensures, c.next_state-state.ensures) (taken_first _ _ c.requires _ _ _ _ _ t w.if-frame-ne1.true)
+      | else-frame-ne1 w ↦ rw (w.stack-is, c.next_state-state.ensures) (taken_last _ _ c.requires _ _ _ _ _ t w.if-frame-ne1.false)
+    ]
 
 pub returns : goal.returns
-unfolding answer_of
-returns c = let v = c.loop-at.invariant in
-    let e : c.loop-at.at ≡ length c.args.plan.now = omega (arith, v.0, c.loop-at-test.false) in
-    sym (ap answer_of (reading_ends_early _ _ c.requires _ _ _ _ _ _ _ v.1 c.loop-at-test.false ∙ ap (refused 12) e))
+unfolding answer_of refusal_of
+returns c =
+    let e : c.loop-at.at ≡ length c.args.plan.now = omega (arith, c.loop-at-test.false) in
+    sym (ap answer_of (reading_ends_early _ _ c.requires _ _ _ _ _ _ c.loop-at.invariant c.loop-at-test.false ∙ ap (refused 12) e))

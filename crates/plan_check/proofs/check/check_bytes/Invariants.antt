@@ -1,14 +1,9 @@
 -- `check_bytes`: between two bytes the rest of the plan is checked as planning checks it, for the state and for what the frames await.
 -- Assumes nothing.
-use Prim.Native.Nat.{◌-◌, ◌≤◌}
 use Rattle.planning.specs.PlanCheck.{check_plan, most_moves}
 use Rattle.plan_check.specs.Tower.{tower, values_of}
 use Rattle.plan_check.proofs.Reading.{Reading}
 use Rattle.plan_check.proofs.check.check_bytes.Given as goal
 
 abbrev pub invariant-loop-at : goal.invariant-loop-at
-invariant-loop-at l =
-    (l.at ≤ l.at-end) × Reading l.rec l.plan (check_plan (tower l.rec) most_moves (values_of l.rec l.initial.state) l.plan) l.frames l.waiting l.state l.depth l.worst l.at
-
-abbrev pub decreases-loop-at : goal.decreases-loop-at
-decreases-loop-at l = l.at-end - l.at
+invariant-loop-at l = Reading l.rec l.plan (check_plan (tower l.rec) most_moves (values_of l.rec l.fn.start) l.plan) l.stack l.state l.depth l.worst l.at

@@ -1,24 +1,13 @@
 -- `reader::grammar::number_line` meets its contract: the key, then what the value after it says. Assumes nothing.
-use lib.ListN.{length}
-use mathlib.Core.Path.{◌∙◌, ap, sym}
+use Rattle.std.proofs.lemmas.Result.{err_from_is_err_and}
 use Rattle.reader.specs.Grammar.{number_line}
-use Rattle.reader.specs.Text.{number_of}
-use Rattle.reader.proofs.Keys.{key_length}
-use Rattle.task_record.proofs.Rest.{part_rest}
 use Rattle.reader.proofs.grammar.number_line.Goals as goal
 
-pub slice_bounds-number-count : goal.slice_bounds-number-count
-slice_bounds-number-count c = key_length c.args.key.now c.args.line.now (sym c.has_key.ensures ∙ c.if-has_key.true)
-
-pub slice_bounds-number-start : goal.slice_bounds-number-start
-slice_bounds-number-start c = key_length c.args.key.now c.args.line.now (sym c.has_key.ensures ∙ c.if-has_key.true)
-
-pub returns-then-has_key : goal.returns-then-has_key
+pub returns-in_err-value : goal.returns-in_err-value
 unfolding number_line
-returns-then-has_key c =
-    rw (number_line, sym c.has_key.ensures ∙ c.if-has_key.true, ← (c.number-d.ensures ∙ ap number_of (part_rest c.args.line.now (length c.args.key.now))))
-    c.take_number.ensures
+returns-in_err-value c = let q = err_from_is_err_and c.from_residual.result c.from_residual.ensures.1 in
+    rw (number_line, c.in_err-value.ensures.0, q.1, q.2, c.in_err-value.ensures.1)
 
 pub returns : goal.returns
 unfolding number_line
-returns c = rw (number_line, sym c.has_key.ensures ∙ c.if-has_key.false)
+returns c = rw (number_line, c.in_ok-value.ensures.0, ← c.in_ok-value.ensures.1, ← c.number.ensures) c.take_number.ensures

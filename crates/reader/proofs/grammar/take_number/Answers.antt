@@ -1,26 +1,31 @@
 -- `reader::grammar::take_number` meets its contract: form, then range, then the store. Assumes nothing.
-use Prim.Native.Nat.{ℕ}
 use borrow.Author.Tests.{le-leb, lt-leb}
 use mathlib.Core.List.{List}
 use mathlib.Core.Path.{◌∙◌, ap, sym}
-use Rattle.reader.specs.Grammar.{go_on, take_number}
+use Prim.Native.Nat.{ℕ}
+use Rattle.reader.specs.Grammar.{go_on, take_number, taken}
+use Rattle.reader.specs.declared.order.Due.{Due}
 use Rattle.reader.proofs.grammar.take_number.Goals as goal
 
-pub returns-then-n-lo : goal.returns-then-n-lo
+pub returns-then-n-from : goal.returns-then-n-from
 unfolding take_number
-returns-then-n-lo c = ap (take_number c.args.rec.now c.args.due c.args.lo c.args.hi c.args.at) c.in-Value.is ∙ simp (lt-leb _ _ c.if-n-lo.true)
+returns-then-n-from c = let a = c.args in
+    ap (take_number a.rec.now a.due a.field.low a.field.high a.field.at) c.in-Some.is ∙ simp (lt-leb _ _ (rw c.from.ensures at c.if-n-from.true))
 
-pub returns-then-hi-n : goal.returns-then-hi-n
+pub returns-then-from-n : goal.returns-then-from-n
 unfolding take_number
-returns-then-hi-n c = ap (take_number c.args.rec.now c.args.due c.args.lo c.args.hi c.args.at) c.in-Value.is ∙ simp (le-leb _ _ c.if-n-lo.false, lt-leb _ _ c.if-hi-n.true)
+returns-then-from-n c = let a = c.args in
+    ap (take_number a.rec.now a.due a.field.low a.field.high a.field.at) c.in-Some.is
+    ∙ simp (le-leb _ _ (rw c.from.ensures at c.if-n-from.false), lt-leb _ _ (rw c.from-2.ensures at c.if-from-n.true))
 
-pub returns-in-Malformed : goal.returns-in-Malformed
+pub returns-in_default : goal.returns-in_default
 unfolding take_number
-returns-in-Malformed c = ap (take_number c.args.rec.now c.args.due c.args.lo c.args.hi c.args.at) c.in-Malformed.is
+returns-in_default c = let a = c.args in ap (take_number a.rec.now a.due a.field.low a.field.high a.field.at) c.in_default.is
 
-pub returns-else-hi-n : goal.returns-else-hi-n
+pub returns : goal.returns
 unfolding take_number
-returns-else-hi-n c = ap (take_number c.args.rec.now c.args.due c.args.lo c.args.hi c.args.at) c.in-Value.is
-    ∙ (simp (le-leb _ _ c.if-n-lo.false, le-leb _ _ c.if-hi-n.false))
-    ∙ ap (λ (x : List ℕ). go_on c.args.due x) (sym c.put.ensures)
-    ∙ c.go_on.ensures
+returns c = let a = c.args in
+    ap (take_number a.rec.now a.due a.field.low a.field.high a.field.at) c.in-Some.is
+    ∙ (simp (le-leb _ _ (rw c.from.ensures at c.if-n-from.false), le-leb _ _ (rw c.from-2.ensures at c.if-from-n.false)))
+    ∙ ap (λ (x : List ℕ). go_on a.due x) (sym c.put.ensures)
+    ∙ ap (λ (d : Due). taken d c.put.new.r) (sym c.next_due.ensures)

@@ -8,10 +8,10 @@ pub returns-then-k-n : goal.returns-then-k-n
 unfolding next_due
 returns-then-k-n c =
     let n = rw c.at_action.ensures at c.cell_at-n.ensures.0 in
-    rw c.wide-k.ensures.0 (simp (← n, lt-ltb _ _ (rw c.wide-k.ensures.0 at c.if-k-n.true)))
+    rw c.from-k.ensures (simp (← n, lt-ltb _ _ (rw c.from-k.ensures at c.if-k-n.true)))
 
 pub returns : goal.returns
 unfolding next_due
 returns c =
     let n = rw c.at_action.ensures at c.cell_at-n.ensures.0 in
-    c.action_from.ensures ∙ rw c.wide.ensures.0 (simp (← n, le-ltb _ _ (rw c.wide-k.ensures.0 at c.if-k-n.false)))
+    c.action_from.ensures ∙ rw c.from.ensures (simp (← n, le-ltb _ _ (rw c.from-k.ensures at c.if-k-n.false)))

@@ -5,8 +5,8 @@ use Rattle.reader.proofs.order.after_size.Goals as goal
 
 pub returns-then-k-n : goal.returns-then-k-n
 unfolding next_due
-returns-then-k-n c = rw c.wide-k.ensures.0 (simp (← c.cell_at-n.ensures.0, lt-ltb _ _ (rw c.wide-k.ensures.0 at c.if-k-n.true)))
+returns-then-k-n c = rw c.from-k.ensures (simp (← c.cell_at-n.ensures.0, lt-ltb _ _ (rw c.from-k.ensures at c.if-k-n.true)))
 
 pub returns-else-k-n : goal.returns-else-k-n
 unfolding next_due
-returns-else-k-n c = simp (← c.cell_at-n.ensures.0, le-ltb _ _ (rw c.wide-k.ensures.0 at c.if-k-n.false))
+returns-else-k-n c = simp (← c.cell_at-n.ensures.0, le-ltb _ _ (rw c.from-k.ensures at c.if-k-n.false))

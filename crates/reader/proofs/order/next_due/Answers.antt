@@ -41,7 +41,7 @@ returns-in-Patterns c = c.pattern_from.ensures ∙ (sym (ap (next_due c.args.r.n
 
 pub returns-in-Pattern : goal.returns-in-Pattern
 unfolding next_due
-returns-in-Pattern c = c.pattern_from-in-Pattern.ensures ∙ rw c.wide.ensures.0 (sym (ap (next_due c.args.r.now) c.in-Pattern.is))
+returns-in-Pattern c = c.pattern_from-in-Pattern.ensures ∙ rw c.from.ensures (sym (ap (next_due c.args.r.now) c.in-Pattern.is))
 
 pub returns-in-Limit : goal.returns-in-Limit
 unfolding next_due

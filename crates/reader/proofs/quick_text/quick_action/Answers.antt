@@ -58,7 +58,7 @@ returns-then-b-eq0 c = record { upper_bound = search rules; rec_after = λ h. ab
 pub quick_outcomes-requires : goal.quick_outcomes-requires
 quick_outcomes-requires c = let b = before-outcomes (goal.at.quick_outcomes-requires c).Else-b-eq0 in
     let q = c.quick_number_line-b in
-    let w = c.wide-count.ensures.0 ∙ ap (λ (k : ℕ). get_or q.new.rec k 0) c.at_action-2.ensures in
+    let w = c.from-count.ensures ∙ ap (λ (k : ℕ). get_or q.new.rec k 0) c.at_action-2.ensures in
     (q.ensures.upper_bound, search rules, sym b.0, c.requires.3, c.requires.4, w, omega (arith, w, b.2), omega (arith, w, b.2))
 
 pub returns : goal.returns

@@ -32,8 +32,8 @@ loop-rec-preserved c = let a = c.args in
       c.quick_action-k.ensures.upper_bound,
       q.0,
       z,
-      leads_on a.text.now (action_from a.rec.now 0) (Need l.m) (cond (ltb (l.m + 1) a.count) (Need (l.m + 1)) Goal) a.rec.now l.rec r a.at l.k c.quick_action-k.result (rw (lt-ltb l.m a.count (rw c.wide.ensures.0 at c.loop-rec-test.true)) at l.invariant.5) (rw z at q.2),
+      leads_on a.text.now (action_from a.rec.now 0) (Need l.m) (cond (ltb (l.m + 1) a.count) (Need (l.m + 1)) Goal) a.rec.now l.rec r a.at l.k c.quick_action-k.result (rw (lt-ltb l.m a.count (rw c.from.ensures at c.loop-rec-test.true)) at l.invariant.5) (rw z at q.2),
     )
 
 pub returns : goal.returns
-returns c = record { upper_bound = c.loop-rec.invariant.2; rec_after = λ h. (c.loop-rec.invariant.3, rw (le-ltb c.loop-rec.m c.args.count (rw c.wide.ensures.0 at c.loop-rec-test.false)) at c.loop-rec.invariant.5) }
+returns c = record { upper_bound = c.loop-rec.invariant.2; rec_after = λ h. (c.loop-rec.invariant.3, rw (le-ltb c.loop-rec.m c.args.count (rw c.from.ensures at c.loop-rec-test.false)) at c.loop-rec.invariant.5) }

@@ -9,10 +9,10 @@ use Rattle.reader.proofs.quick_text.quick_budget.Goals as goal
 pub returns-then-n-gt1000000 : goal.returns-then-n-gt1000000
 returns-then-n-gt1000000 c = λ e. absurd (false≢true e)
 
-pub returns-in-Malformed : goal.returns-in-Malformed
-returns-in-Malformed c = λ e. absurd (false≢true e)
+pub returns-in-None : goal.returns-in-None
+returns-in-None c = λ e. absurd (false≢true e)
 
 pub returns-else-n-gt1000000 : goal.returns-else-n-gt1000000
 unfolding take_budget
-returns-else-n-gt1000000 c = λ e. ap (take_budget c.args.rec.now Budget) (sym c.number.ensures ∙ c.in-Value.is)
+returns-else-n-gt1000000 c = λ e. ap (take_budget c.args.rec.now Budget) (sym c.number.ensures ∙ c.in-Some.is)
     ∙ simp (le-leb _ _ c.if-n-gt1000000.false) (ap (go_on Budget) (sym c.put_budget.ensures))

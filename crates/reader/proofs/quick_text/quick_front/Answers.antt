@@ -34,7 +34,7 @@ before-actions : (c : Else-c-eq0)
     let p = c.quick_number_line-a in
     let r = c.quick_number_line-c.new.rec in
     (1 ≤ get_or p.new.rec 0 0) × (get_or p.new.rec 0 0 ≤ 16) × Leads a.text.now Vars a.rec.now 0 (Size 0) p.new.rec p.result →
-    (get_or r 0 0 ≡ c.wide-n.result) × (c.wide-n.result ≤ 16) × (get_or r 1 0 ≤ 64)
+    (get_or r 0 0 ≡ c.from-n.result) × (c.from-n.result ≤ 16) × (get_or r 1 0 ≤ 64)
     × Leads a.text.now Vars a.rec.now 0 (action_from r 0) r c.quick_number_line-c.result
 unfolding bytes
 before-actions c e =
@@ -44,7 +44,7 @@ before-actions c e =
     let q = c.quick_number_line-c in
     let f = s.ensures.rec_after (omega arith) in
     let g = q.ensures.text_value (omega arith) in
-    let w = c.wide-n.ensures.0 in
+    let w = c.from-n.ensures in
     let n = e.1 in (
       number_kept a.text.now (s.result + 6) q.result 0 64 s.new.rec 1 q.new.rec g.1 0 (λ z. omega arith) ∙ f.0,
       omega (arith, w, n),
@@ -58,7 +58,7 @@ returns-then-a-eq0 c = record { upper_bound = search rules; rec_bound = λ h. ab
 
 pub quick_sizes-b-requires : goal.quick_sizes-b-requires
 quick_sizes-b-requires c = let e = before-sizes (goal.at.quick_sizes-b-requires c).Else-a-eq0 in
-    let w = c.wide-n.ensures.0 in
+    let w = c.from-n.ensures in
     let l = e.0 in
     let n = e.1 in
     (c.quick_number_line-a.ensures.upper_bound, search rules, w, omega (arith, w, l), omega (arith, w, n))
@@ -74,7 +74,7 @@ returns-then-c-eq0 c = record { upper_bound = search rules; rec_bound = λ h. ab
 
 pub quick_actions-requires : goal.quick_actions-requires
 quick_actions-requires c = let e = before-actions (goal.at.quick_actions-requires c).Else-c-eq0 (before-sizes (goal.at.quick_actions-requires c).Else-a-eq0) in
-    let w = c.wide-count.ensures.0 in
+    let w = c.from-count.ensures in
     let n = e.2 in
     (c.quick_number_line-c.ensures.upper_bound, search rules, sym e.0, e.1, w, omega (arith, w, n))
 

@@ -12,7 +12,7 @@ returns-then-a-eq0 c = record { upper_bound = search rules; leads = λ h. absurd
 pub quick_states-b-requires : goal.quick_states-b-requires
 quick_states-b-requires c = let f = c.quick_front-a.ensures.rec_bound (omega arith) in
     let n = f.0 in
-    let w = c.wide-n.ensures.0 in
+    let w = c.from-n.ensures in
     (c.quick_front-a.ensures.upper_bound, search rules, w, omega (arith, w, n))
 
 pub returns-then-b-eq0 : goal.returns-then-b-eq0
@@ -21,7 +21,7 @@ returns-then-b-eq0 c = record { upper_bound = search rules; leads = λ h. absurd
 pub quick_tail-requires : goal.quick_tail-requires
 quick_tail-requires c = let f = c.quick_front-a.ensures.rec_bound (omega arith) in
     let n = f.0 in
-    let w = c.wide-n.ensures.0 in
+    let w = c.from-n.ensures in
     (c.quick_states-b.ensures.upper_bound, search rules, sym (c.quick_states-b.ensures.rec_after (omega arith)).0, omega (arith, w, n))
 
 pub returns : goal.returns

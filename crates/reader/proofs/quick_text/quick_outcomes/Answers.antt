@@ -38,8 +38,8 @@ loop-a-preserved c = let a = c.args in
     let r = s.new.rec in
     let kept = list_kept a.text.now (l.k + 4) s.result Pairs l.rec (at_outcome a.m l.o) r q in
     let z = kept (at_action a.m) (omega arith) ∙ l.invariant.5 in
-    let w = eff_on a.text.now (Eff a.m 0) a.rec.now a.at l.k s.result l.rec r a.m l.o (rw (lt-ltb l.o a.count (rw c.wide.ensures.0 at c.loop-a-test.true)) at l.invariant.6) b.1 q in
+    let w = eff_on a.text.now (Eff a.m 0) a.rec.now a.at l.k s.result l.rec r a.m l.o (rw (lt-ltb l.o a.count (rw c.from.ensures at c.loop-a-test.true)) at l.invariant.6) b.1 q in
     (search rules, search rules, s.ensures.upper_bound, kept 0 (omega arith) ∙ l.invariant.3, kept 1 (omega arith) ∙ l.invariant.4, z, rw z at w)
 
 pub returns : goal.returns
-returns c = let l = c.loop-a in record { upper_bound = l.invariant.2; rec_after = λ h. (l.invariant.3, l.invariant.4, rw (le-ltb l.o c.args.count (rw c.wide.ensures.0 at c.loop-a-test.false)) at l.invariant.6) }
+returns c = let l = c.loop-a in record { upper_bound = l.invariant.2; rec_after = λ h. (l.invariant.3, l.invariant.4, rw (le-ltb l.o c.args.count (rw c.from.ensures at c.loop-a-test.false)) at l.invariant.6) }

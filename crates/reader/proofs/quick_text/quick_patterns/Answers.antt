@@ -30,8 +30,8 @@ loop-rec-preserved c = let a = c.args in
     let r = c.quick_list_line-k.new.rec in
     let kept = list_kept a.text.now (l.k + 8) c.quick_list_line-k.result Members l.rec (at_pattern l.p) r q.1 in
     let z = kept 2 (omega arith) ∙ l.invariant.4 in
-    let w = pattern_on a.text.now (pattern_from a.rec.now 0) a.rec.now a.at l.k c.quick_list_line-k.result l.rec r l.p (rw (lt-ltb l.p a.count (rw c.wide.ensures.0 at c.loop-rec-test.true)) at l.invariant.5) q.0 q.1 in
+    let w = pattern_on a.text.now (pattern_from a.rec.now 0) a.rec.now a.at l.k c.quick_list_line-k.result l.rec r l.p (rw (lt-ltb l.p a.count (rw c.from.ensures at c.loop-rec-test.true)) at l.invariant.5) q.0 q.1 in
     (search rules, search rules, c.quick_list_line-k.ensures.upper_bound, kept 0 (omega arith) ∙ l.invariant.3, z, rw z at w)
 
 pub returns : goal.returns
-returns c = record { upper_bound = c.loop-rec.invariant.2; leads = λ h. rw (le-ltb c.loop-rec.p c.args.count (rw c.wide.ensures.0 at c.loop-rec-test.false)) at c.loop-rec.invariant.5 }
+returns c = record { upper_bound = c.loop-rec.invariant.2; leads = λ h. rw (le-ltb c.loop-rec.p c.args.count (rw c.from.ensures at c.loop-rec-test.false)) at c.loop-rec.invariant.5 }

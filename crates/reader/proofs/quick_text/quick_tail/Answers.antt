@@ -34,7 +34,7 @@ returns-then-a-eq0 c = record { upper_bound = search rules; leads = λ h. absurd
 
 pub quick_patterns-b-requires : goal.quick_patterns-b-requires
 quick_patterns-b-requires c = let e = before-patterns (goal.at.quick_patterns-b-requires c).Else-a-eq0 in
-    let w = c.wide-count.ensures.0 in
+    let w = c.from-count.ensures in
     let n = e.1 in
     (c.quick_number_line-a.ensures.upper_bound, search rules, e.0, c.requires.3, w, omega (arith, w, n))
 

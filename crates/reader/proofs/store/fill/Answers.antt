@@ -1,21 +1,17 @@
--- `reader::store::fill` meets its contract: the stores of the whole run are those that are left. Assumes nothing.
-use Prim.Native.Nat.{◌-◌}
-use borrow.Author.Rules.{rules}
-use lib.ListN.{length-set}
-use mathlib.Core.Path.{◌∙◌, ◌≡◌, refl, sym}
-use native.Mathlib.Nat.{add-zero, sub-zero}
-use Rattle.reader.proofs.Stores.{fill_step}
+-- `reader::store::fill` meets its contract: the part that is filled is put back. Assumes nothing.
+use Prim.Native.Nat.{◌-◌, ◌+◌, ℕ}
+use lib.ListN.{drop, length, length-drop, replicate, take}
+use lib.Seq.{length-take-le, sets}
+use mathlib.Core.Path.{◌∙◌, ◌≡◌, ap}
+use native.Mathlib.Omega.{arith}
+use Rattle.reader.proofs.Stores.{part_stored}
 use Rattle.reader.proofs.store.fill.Goals as goal
-
-pub loop-i-init : goal.loop-i-init
-loop-i-init c = (search rules, refl, rw (add-zero, sub-zero))
-
-pub loop-i-preserved : goal.loop-i-preserved
-loop-i-preserved c =
-    let a = c.args in
-    (search rules, simp length-set c.loop-i.invariant.1, c.loop-i.invariant.2 ∙ fill_step c.loop-i.r a.at a.n c.loop-i.i a.x (search rules))
 
 pub returns : goal.returns
 returns c =
-    let e : c.args.n - c.loop-i.i ≡ 0 = search rules in
-    sym (c.loop-i.invariant.2 ∙ rw e)
+    let a = c.args in
+    let r = a.r.now in
+    let n = length-drop a.at r in
+    let e : length (take (a.at + a.n - a.at) (drop a.at r)) ≡ a.n = length-take-le _ _ (omega (arith, n, c.requires)) ∙ omega arith in
+    let f = c.fill.ensures.after (λ y h. h) ∙ ap (λ (k : ℕ). replicate k a.x) e in
+    part_stored r c.fill.new.self a.at a.n (c.fill.ensures.len ∙ e) c.requires ∙ ap (sets r a.at) f

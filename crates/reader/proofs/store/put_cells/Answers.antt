@@ -1,22 +1,23 @@
--- `reader::store::put_cells` meets its contract: the stores of the whole run are those that are left. Assumes nothing.
-use borrow.Author.Rules.{rules}
-use lib.ListN.{length-set}
-use mathlib.Core.Path.{◌∙◌, refl, sym}
-use native.Mathlib.Nat.{add-zero}
+-- `reader::store::put_cells` meets its contract: the part that the cells reach is put back. Assumes nothing.
+use Prim.Native.Nat.{◌-◌, ◌+◌}
+use lib.ListN.{drop, length, length-drop, take}
+use lib.Seq.{length-take-le, sets}
+use mathlib.Core.Path.{◌∙◌, ◌≡◌, ap, sym}
 use native.Mathlib.Omega.{arith}
-use Rattle.reader.proofs.Stores.{sets-done, sets_step}
+use Rattle.reader.proofs.Stores.{part_stored, sets_fit, sets_out}
 use Rattle.reader.proofs.store.put_cells.Goals as goal
 
-pub loop-i-init : goal.loop-i-init
-loop-i-init c = (search rules, refl, rw add-zero)
-
-pub loop-i-preserved : goal.loop-i-preserved
-loop-i-preserved c =
+pub returns-then-at-r : goal.returns-then-at-r
+returns-then-at-r c =
     let a = c.args in
-    (search rules, simp length-set c.loop-i.invariant.1, c.loop-i.invariant.2 ∙ sets_step c.loop-i.r a.cells.now a.at c.loop-i.i (search rules))
+    let r = a.r.now in
+    let n = c.min-n.result in
+    let m = c.min-n.ensures in
+    let d = length-drop a.at r in
+    let e : length (take (a.at + n - a.at) (drop a.at r)) ≡ n = length-take-le _ _ (omega (arith, d, m, c.if-at-r.true)) ∙ omega arith in
+    part_stored r c.copy_from_slice.new.self a.at n (c.copy_from_slice.ensures.len ∙ e) (omega (arith, m, c.if-at-r.true))
+    ∙ ap (sets r a.at) c.copy_from_slice.ensures.after
+    ∙ sets_fit a.cells.now r a.at n (λ l. omega (arith, m))
 
-pub returns : goal.returns
-returns c =
-    let a = c.args in
-    let f = c.fitting-n.ensures in
-    sym (c.loop-i.invariant.2 ∙ sets-done c.loop-i.r a.cells.now a.at c.loop-i.i (λ h. omega (arith, f.2 (omega arith))))
+pub returns-else-at-r : goal.returns-else-at-r
+returns-else-at-r c = sym (sets_out c.args.cells.now c.args.r.now c.args.at c.if-at-r.false)

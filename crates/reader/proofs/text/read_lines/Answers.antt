@@ -7,9 +7,12 @@ use lib.Seq.{length-take-le}
 use mathlib.Core.List.{List, [], ◌∷◌}
 use mathlib.Core.Path.{◌∙◌, ◌≡◌, ap, refl, sym}
 use native.Mathlib.Omega.{arith}
-use Rattle.reader.specs.Grammar.{read_from, take_line, told}
+use Rattle.reader.specs.Grammar.{read_from, refused, take_line, told}
 use Rattle.reader.specs.Text.{index_of, line_break, lines_of}
-use Rattle.reader.specs.declared.grammar.Taken.{Taken}
+use Rattle.std.proofs.Common.{Result}
+use Rattle.task_record.specs.declared.refusal.Refusal.{Refusal}
+use Rattle.reader.specs.declared.grammar.LineFault.{LineFault}
+use Rattle.reader.specs.declared.order.Due.{Due}
 use Rattle.reader.specs.declared.order.Due.TheVariants.{Vars}
 use Rattle.reader.proofs.Lines.{read_complete, read_faulty, read_missing, read_taken}
 use Rattle.task_record.proofs.Rest.{part_rest}
@@ -61,9 +64,10 @@ pub slice_bounds-take_line-end : goal.slice_bounds-take_line-end
 slice_bounds-take_line-end c =
     sym (length-take-le _ _ (rw (part_rest c.args.text.now c.loop-at.at, length-drop) (omega (arith, within (goal.at.slice_bounds-take_line-end c).After-find-k))))
 
-pub returns-in-Faulty : goal.returns-in-Faulty
-returns-in-Faulty c =
-    by-line (goal.at.returns-in-Faulty c).After-find-k ∙ read_faulty c.loop-at.line c.loop-at.due c.loop-at.rec _ _ c.in-Faulty.number (this-line (goal.at.returns-in-Faulty c).After-take_line ∙ ap (λ (t : Taken). told t c.take_line.new.rec) c.in-Faulty.is)
+pub returns-in-Err : goal.returns-in-Err
+returns-in-Err c =
+    by-line (goal.at.returns-in-Err c).After-find-k ∙ read_faulty c.loop-at.line c.loop-at.due c.loop-at.rec _ _ c.in-Err.fault (this-line (goal.at.returns-in-Err c).After-take_line ∙ ap (λ (t : Result Due LineFault). told t c.take_line.new.rec) c.in-Err.is)
+    ∙ ap (λ (e : Refusal). refused e) (sym c.at.ensures)
 
 pub overflow_add-at : goal.overflow_add-at
 overflow_add-at c = omega (arith, within (goal.at.overflow_add-at c).After-find-k)
@@ -79,7 +83,7 @@ loop-at-preserved c = (
   omega (arith, within (goal.at.loop-at-preserved c).After-find-k),
   omega arith,
   search rules,
-  by-line (goal.at.loop-at-preserved c).After-find-k ∙ read_taken c.loop-at.line c.loop-at.due c.loop-at.rec _ _ c.in-Next.next _ (this-line (goal.at.loop-at-preserved c).After-take_line ∙ ap (λ (t : Taken). told t c.take_line.new.rec) c.in-Next.is),
+  by-line (goal.at.loop-at-preserved c).After-find-k ∙ read_taken c.loop-at.line c.loop-at.due c.loop-at.rec _ _ c.in-Ok.next _ (this-line (goal.at.loop-at-preserved c).After-take_line ∙ ap (λ (t : Result Due LineFault). told t c.take_line.new.rec) c.in-Ok.is),
 )
 
 pub returns-then-is_end : goal.returns-then-is_end

@@ -9,9 +9,13 @@ use mathlib.Core.List.{List}
 use mathlib.Core.Path.{◌∙◌, ◌≡◌, ap, refl, sym}
 use Rattle.reader.specs.Grammar.{Whole, answer_of, complete, read_answer, read_from, read_leaves, read_whole, refused}
 use Rattle.task_record.specs.Answers.{short_record}
-use Rattle.task_record.proofs.ByLines.{line-told}
+use Rattle.task_record.specs.Refusals.{refusal_numbers}
+use Rattle.task_record.specs.declared.refusal.Refusal.{Refusal}
+use Rattle.task_record.specs.declared.refusal.Refusal.TheVariants.{ShortRecord}
+use Rattle.planning.specs.Numbers.{Numbers, refused_if}
 use Rattle.reader.specs.Answers.{read_numbers, whole_numbers, text_by_lines}
-use Rattle.reader.specs.declared.text.Reading.{Reading}
+use Rattle.std.proofs.Common.{Result, Err}
+use mathlib.Core.Bool.{Bool, true, false, cond}
 use Rattle.task_record.specs.Layout.{record_size}
 use Rattle.reader.specs.Stores.{all_unnamed}
 use Rattle.reader.specs.Text.{lines_of}
@@ -30,11 +34,17 @@ good-text c = ap (λ (r : List ℕ). read_from 1 Vars r (lines_of c.args.text.no
 whole-told : (x : Whole) → read_numbers (answer_of x) ≡ whole_numbers x
 unfolding read_numbers whole_numbers
 whole-told (complete r) = refl
-whole-told (refused number line) = refl
+whole-told (refused refusal) = refl
 
-told : (text record₀ : List ℕ) → (x : Reading) → {L : Type 0} → (x ≡ read_answer text record₀) × L → ((x ≡ read_answer text record₀) × L) × (read_numbers x ≡ text_by_lines text record₀)
-unfolding read_answer read_numbers text_by_lines short_record
-told text record₀ x e = (e, ap read_numbers e.0 ∙ line-told read_numbers (ltb (length record₀) record_size) _ _ 5 (length record₀) _ refl (whole-told (read_whole text)))
+-- one line: a test with its refusal before what the text says
+line-told : (b : Bool) (e : Refusal) (x : Result Unit Refusal) (judged : Numbers) → read_numbers x ≡ judged → read_numbers (cond b (Err e) x) ≡ cond b (refusal_numbers e) judged
+unfolding read_numbers
+line-told true e x judged p = refl
+line-told false e x judged p = p
+
+told : (text record₀ : List ℕ) → (x : Result Unit Refusal) → {L : Type 0} → (x ≡ read_answer text record₀) × L → ((x ≡ read_answer text record₀) × L) × (read_numbers x ≡ text_by_lines text record₀)
+unfolding read_answer text_by_lines short_record refused_if
+told text record₀ x e = (e, ap read_numbers e.0 ∙ line-told (ltb (length record₀) record_size) (ShortRecord (length record₀)) _ _ (whole-told (read_whole text)))
 
 pub returns-then-record-lt-RECORD_SIZE : goal.returns-then-record-lt-RECORD_SIZE
 unfolding read_answer read_leaves

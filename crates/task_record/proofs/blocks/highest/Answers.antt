@@ -4,14 +4,14 @@ use Rattle.task_record.proofs.Sixteens.{filled_next}
 use Rattle.task_record.proofs.blocks.highest.Goals as goal
 
 pub loop-v-init : goal.loop-v-init
-loop-v-init c = (omega arith, search rules, c.flat-r.ensures.whole, λ k h. absurd (omega arith))
+loop-v-init c = (omega arith, search rules, search rules, λ k h. absurd (omega arith))
 
 pub loop-v-preserved : goal.loop-v-preserved
 loop-v-preserved c = let l = c.loop-v in let s = c.args in let i = l.invariant in (
   omega arith,
   i.1,
   simp length-set i.2,
-  filled_next (λ k. get_or s.sizes k 0 - 1) l.r l.v c.one_less.result (omega arith) c.one_less.ensures i.3,
+  filled_next (λ k. get_or s.sizes k 0 - 1) l.r l.v _ (omega arith) (omega arith) i.3,
 )
 
 pub returns : goal.returns

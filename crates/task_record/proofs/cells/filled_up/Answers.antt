@@ -1,5 +1,5 @@
 -- `filled_up`: the cells passed are right. Assumes nothing.
-use Rattle.std.proofs.Common.{◌-◌, get_or, arith, length-set, rules}
+use Rattle.std.proofs.Common.{get_or, arith, length-set, rules}
 use Rattle.task_record.proofs.Sixteens.{filled_next}
 use Rattle.task_record.proofs.Cellwise.{state_cells_lem}
 use Rattle.task_record.proofs.cells.filled_up.Goals as goal

@@ -13,10 +13,8 @@ pub loop-j-preserved : goal.loop-j-preserved
 loop-j-preserved c =
     let args = c.args in
     let loop = c.loop-j in
-    let wrapping-add-u8 = c.wrapping_add_u8 in
-    let higher = c.higher-high in
-    let s = args in let e = wrapping-add-u8.ensures.value in
-    (omega arith, raised (λ (k : ℕ). (get_or s.c.now (s.a + 16 * k) 0 + 1) % 256) 0 loop.j loop.high higher.result higher.ensures.0 (omega (arith, higher.ensures.1)) loop.invariant.1)
+    let s = args in
+    (omega arith, raised (λ (k : ℕ). (get_or s.c.now (s.a + 16 * k) 0 + 1) % 256) 0 loop.j loop.high _ (omega arith) (omega arith) loop.invariant.1)
 
 pub loop-j-2-init : goal.loop-j-2-init
 loop-j-2-init c =
@@ -39,11 +37,9 @@ returns c =
     let loop-test = c.loop-j-test in
     let loop2 = c.loop-j-2 in
     let loop2-test = c.loop-j-2-test in
-    let over = c.over in
-    let over2 = c.over-2 in
-    let s = args in let i = loop.invariant in let n = loop2.invariant in let e = over.ensures in let f = over2.ensures in let t = loop-test.false in let u = loop2-test.false in
+    let s = args in let i = loop.invariant in let n = loop2.invariant in let t = loop-test.false in let u = loop2-test.false in
     λ h.
-    let z = or_zero_left over.result over2.result h in let y = or_zero_right over.result over2.result h in
+    let z = or_zero_left c.saturating_sub.result (255 - loop2.low) h in let y = or_zero_right c.saturating_sub.result (255 - loop2.low) h in
     record {
       named = λ j l. let b = i.1 j (omega arith) (omega arith) in le-leb ((get_or s.c.now (s.a + 16 * j) 0 + 1) % 256) s.size (omega arith);
       unnamed = λ j g l. let b = n.2 j g (omega arith) in omega arith;

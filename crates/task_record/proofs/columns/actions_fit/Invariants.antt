@@ -6,13 +6,13 @@ use Rattle.task_record.specs.Record.{cell_ok}
 use Rattle.task_record.proofs.columns.actions_fit.Given as goal
 
 abbrev pub invariant-loop-m : goal.invariant-loop-m
-invariant-loop-m l = (l.m ≤ l.used) × (first_from (cell_ok l.rec) (at_action 0) (action_size * l.m) ≡ at_action l.m)
+invariant-loop-m l = (l.m ≤ l.used) × (first_from (cell_ok l.record.rec.now) (at_action 0) (action_size * l.m) ≡ at_action l.m)
 
 abbrev pub decreases-loop-m : goal.decreases-loop-m
 decreases-loop-m l = l.used - l.m
 
 abbrev pub invariant-loop-m-2 : goal.invariant-loop-m-2
-invariant-loop-m-2 l = (l.used ≤ l.m) × (l.m ≤ 64) × (first_from (cell_ok l.rec) (at_action 0) (action_size * l.m) ≡ at_action l.m)
+invariant-loop-m-2 l = (l.used ≤ l.m) × (l.m ≤ 64) × (first_from (cell_ok l.record.rec.now) (at_action 0) (action_size * l.m) ≡ at_action l.m)
 
 abbrev pub decreases-loop-m-2 : goal.decreases-loop-m-2
 decreases-loop-m-2 l = 64 - l.m

@@ -1,23 +1,23 @@
 -- `eight_fit`: no fault was gathered only if the columns passed are right. Assumes nothing.
-use Rattle.std.proofs.Common.{ℕ, ◌+◌, ◌-◌, get_or, arith, rules, eqb-true}
+use Rattle.std.proofs.Common.{ℕ, ◌+◌, get_or, arith, rules, eqb-true}
 use Rattle.task_record.specs.Layout.{at_pattern}
 use Rattle.task_record.specs.Columns.{MemberColumn}
 use Rattle.task_record.proofs.ColumnLaws.{faults_next}
 use Rattle.task_record.proofs.columns.eight_fit.Goals as goal
 
 pub loop-v-init : goal.loop-v-init
-loop-v-init c = (omega arith, search rules, λ h k l. absurd (omega arith))
+loop-v-init g c = (omega arith, search rules, λ h k l. absurd (omega arith))
 
 pub loop-v-preserved : goal.loop-v-preserved
-loop-v-preserved c =
+loop-v-preserved g c =
     let args = c.args in
     let loop = c.loop-v in
     let member-fault = c.member_fault-bad in
     let s = args in
-    (omega arith, loop.invariant.1, faults_next (λ (k : ℕ). MemberColumn s.c.now (get_or s.sizes k 0) (at_pattern 0 + k) s.used) loop.v loop.bad member-fault.result member-fault.ensures loop.invariant.2)
+    (omega arith, loop.invariant.1, faults_next (λ (k : ℕ). MemberColumn s.c.now (get_or s.sizes.now k 0) (at_pattern 0 + k) g.row.USED) loop.v loop.bad member-fault.result member-fault.ensures loop.invariant.2)
 
 pub returns : goal.returns
-returns c =
+returns g c =
     let loop = c.loop-v in
     let loop-test = c.loop-v-test in
     let t = loop-test.false in

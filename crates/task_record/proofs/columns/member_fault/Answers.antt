@@ -1,5 +1,5 @@
 -- `member_fault`: the cells passed are at most what was gathered of them. Assumes nothing.
-use Rattle.std.proofs.Common.{ℕ, ◌+◌, ◌-◌, ◌*◌, get_or, arith}
+use Rattle.std.proofs.Common.{ℕ, ◌+◌, ◌*◌, get_or, arith}
 use lib.Bits.{bit_or}
 use Rattle.task_record.proofs.ColumnLaws.{raised, or_zero_left, or_zero_right, or_ge_left, or_ge_right}
 use Rattle.task_record.proofs.columns.member_fault.Goals as goal
@@ -30,15 +30,11 @@ loop-j-2-preserved c =
 pub returns : goal.returns
 returns c =
     let loop = c.loop-j in
-    let loop-test = c.loop-j-test in
     let loop2 = c.loop-j-2 in
-    let loop2-test = c.loop-j-2-test in
-    let over = c.over in
-    let over2 = c.over-2 in
-    let over3 = c.over-3 in
-    let i = loop.invariant in let n = loop2.invariant in let e = over.ensures in let f = over2.ensures in let g = over3.ensures in let t = loop-test.false in let u = loop2-test.false in
+    let i = loop.invariant in let n = loop2.invariant in let t = c.loop-j-test.false in let u = c.loop-j-2-test.false in
+    let o = c.saturating_sub-3.result in
     λ h.
-    let z = or_zero_left over3.result loop2.rest h in let y = or_zero_right over3.result loop2.rest h in
+    let z = or_zero_left o loop2.rest h in let y = or_zero_right o loop2.rest h in
     record {
       used_cell = λ j l. let b = i.1 j (omega arith) (omega arith) in omega arith;
       unused_cell = λ j g l. let b = n.2 j g (omega arith) in omega arith;

@@ -4,7 +4,7 @@ use Rattle.task_record.specs.Columns.{ActionColumn}
 use Rattle.task_record.proofs.columns.nine_fit.Given as goal
 
 abbrev pub invariant-loop-v : goal.invariant-loop-v
-invariant-loop-v l = (l.v ≤ 16) × (length l.sizes ≡ 16) × (l.bad ≡ 0 → (k : ℕ) → k < l.v → ActionColumn l.c (get_or l.sizes k 0) (l.a + k) l.used)
+invariant-loop-v g l = (l.v ≤ 16) × (length l.sizes ≡ 16) × (l.bad ≡ 0 → (k : ℕ) → k < l.v → ActionColumn l.c (get_or l.sizes k 0) (l.a + k) g.row.USED)
 
 abbrev pub decreases-loop-v : goal.decreases-loop-v
-decreases-loop-v l = 16 - l.v
+decreases-loop-v g l = 16 - l.v

@@ -1,5 +1,5 @@
 -- `nine_unnamed`: no fault was gathered only if the columns passed are right. Assumes nothing.
-use Rattle.std.proofs.Common.{ℕ, ◌+◌, ◌-◌, ◌*◌, ◌<◌, ◌≤◌, get_or, arith, eqb-true}
+use Rattle.std.proofs.Common.{ℕ, ◌+◌, ◌*◌, ◌<◌, ◌≤◌, get_or, arith, eqb-true}
 use Rattle.task_record.proofs.ColumnLaws.{faults_next}
 use Rattle.task_record.proofs.columns.nine_unnamed.Goals as goal
 

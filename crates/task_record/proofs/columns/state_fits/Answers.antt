@@ -13,7 +13,7 @@ loop-v-preserved c =
     let loop = c.loop-v in
     let value-fault = c.value_fault-bad in
     let s = args in
-    (omega arith, loop.invariant.1, faults_next (λ (k : ℕ). fits (get_or s.c.now k 0) (1 - get_or s.sizes k 0) (get_or s.sizes k 0 - 1) ≡ true) loop.v loop.bad value-fault.result (λ z. sym value-fault.ensures ∙ eq-eqb _ _ z) loop.invariant.2)
+    (omega arith, loop.invariant.1, faults_next (λ (k : ℕ). fits (get_or s.c.now k 0) (1 - get_or s.sizes.now k 0) (get_or s.sizes.now k 0 - 1) ≡ true) loop.v loop.bad value-fault.result (λ z. sym value-fault.ensures ∙ eq-eqb _ _ z) loop.invariant.2)
 
 pub returns : goal.returns
 returns c =

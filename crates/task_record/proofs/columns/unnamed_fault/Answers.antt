@@ -1,5 +1,5 @@
 -- `unnamed_fault`: the cells passed are at least what they have in common. Assumes nothing.
-use Rattle.std.proofs.Common.{ℕ, ◌+◌, ◌-◌, ◌*◌, get_or, arith}
+use Rattle.std.proofs.Common.{ℕ, ◌+◌, ◌*◌, get_or, arith}
 use lib.Bits.{bit_and, and_le_l, and_le_r}
 use Rattle.task_record.proofs.ColumnLaws.{lowered}
 use Rattle.task_record.proofs.columns.unnamed_fault.Goals as goal
@@ -18,6 +18,5 @@ pub returns : goal.returns
 returns c =
     let loop = c.loop-j in
     let loop-test = c.loop-j-test in
-    let over = c.over in
-    let t = loop-test.false in let e = over.ensures in
+    let t = loop-test.false in
     λ h j l. let b = loop.invariant.1 j (omega arith) (omega arith) in omega arith

@@ -1,10 +1,5 @@
--- `value_fault`: the window of a value. Assumes nothing.
-
+-- `value_fault`: the two bounds as their differences. Assumes nothing.
 use Rattle.task_record.proofs.columns.value_fault.Goals as goal
 
 pub returns : goal.returns
-returns c =
-    let over = c.over in
-    let over2 = c.over-2 in
-    let misfit = c.misfit in
-    rw (over.ensures, over2.ensures) at misfit.ensures
+returns c = rw (← c.saturating_sub.ensures, ← c.saturating_sub-2.ensures) c.misfit.ensures

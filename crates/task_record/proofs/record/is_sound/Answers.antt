@@ -1,38 +1,25 @@
 -- `is_sound`: head, front, patterns and actions passed in a row. Assumes nothing.
-use Rattle.std.proofs.Common.{◌≡◌, ℕ, ◌≤◌, arith}
+use Rattle.std.proofs.Common.{◌≡◌, ℕ, sym, ◌∙◌, arith}
 use borrow.Author.Tests.{not-false}
 use Rattle.task_record.specs.Layout.{at_sizes}
-use Rattle.task_record.specs.Scan.{first_from}
 use Rattle.task_record.specs.Record.{cell_ok}
 use Rattle.task_record.proofs.Parts.{head_actions, head_variables}
+use Rattle.task_record.proofs.Scanning.{scan_passed, first_le, no_fault}
 use Rattle.task_record.proofs.Soundness.{parts_sound}
 use Rattle.task_record.proofs.record.is_sound.Goals as goal
-
-pub returns-then-head_bad-ne-AT_SIZES : goal.returns-then-head_bad-ne-AT_SIZES
-returns-then-head_bad-ne-AT_SIZES c = λ t. let z : ◌≡◌ {A = ℕ} 0 1 = cc in absurd (omega arith)
 
 pub front_fits-requires : goal.front_fits-requires
 front_fits-requires c =
     let pre = c.requires in
     let args = c.args in
     let shared-slice-known = c.shared_slice_known-1 in
-    let head-bad = c.head_bad in
-    let if1 = c.if-head_bad-ne-AT_SIZES in
     let sizes-of = c.sizes_of-sizes in
     let r = args.rec.now in
-    let h : at_sizes ≤ first_from (cell_ok r) 0 at_sizes = omega (arith, head-bad.ensures, if1.false) in
+    let h = scan_passed (cell_ok r) 0 at_sizes (sym c.scan_head.ensures ∙ no_fault c.scan_head.result (sym c.is_err.ensures.value ∙ c.if-is_err.false)) in
     (pre, sizes-of.ensures, head_variables r (λ k. omega (arith, shared-slice-known.given k)) h)
 
 pub returns-then-not-front_fits : goal.returns-then-not-front_fits
 returns-then-not-front_fits c = λ t. let z : ◌≡◌ {A = ℕ} 0 1 = cc in absurd (omega arith)
-
-pub patterns_fit-requires : goal.patterns_fit-requires
-patterns_fit-requires c =
-    let pre = c.requires in
-    let sizes-of = c.sizes_of-sizes in
-    let front_fits = c.front_fits in
-    let if2 = c.if-not-front_fits in
-    record { long = pre; right = (front_fits.ensures (not-false _ if2.false-raw)).sizes; read = sizes-of.ensures }
 
 pub returns-then-not-patterns_fit : goal.returns-then-not-patterns_fit
 returns-then-not-patterns_fit c = λ t. let z : ◌≡◌ {A = ℕ} 0 1 = cc in absurd (omega arith)
@@ -42,24 +29,20 @@ actions_fit-requires c =
     let pre = c.requires in
     let args = c.args in
     let shared-slice-known = c.shared_slice_known-1 in
-    let head-bad = c.head_bad in
-    let if1 = c.if-head_bad-ne-AT_SIZES in
     let sizes-of = c.sizes_of-sizes in
     let front_fits = c.front_fits in
     let if2 = c.if-not-front_fits in
     let r = args.rec.now in
-    let h : at_sizes ≤ first_from (cell_ok r) 0 at_sizes = omega (arith, head-bad.ensures, if1.false) in
-    (record { long = pre; right = (front_fits.ensures (not-false _ if2.false-raw)).sizes; read = sizes-of.ensures }, head_actions r (λ k. omega (arith, shared-slice-known.given k)) h)
+    let h = scan_passed (cell_ok r) 0 at_sizes (sym c.scan_head.ensures ∙ no_fault c.scan_head.result (sym c.is_err.ensures.value ∙ c.if-is_err.false)) in
+    head_actions r (λ k. omega (arith, shared-slice-known.given k)) h
 
 pub returns : goal.returns
 returns c =
     let pre = c.requires in
     let args = c.args in
-    let head-bad = c.head_bad in
-    let if1 = c.if-head_bad-ne-AT_SIZES in
     let front_fits = c.front_fits in
     let if2 = c.if-not-front_fits in
     let patterns-fit = c.patterns_fit in
     let if3 = c.if-not-patterns_fit in
     let actions_fit_lem = c.actions_fit in
-    λ t. parts_sound args.rec.now pre (omega (arith, head-bad.ensures, if1.false)) (front_fits.ensures (not-false _ if2.false-raw)) (patterns-fit.ensures (not-false _ if3.false-raw)) (actions_fit_lem.ensures t)
+    λ t. let h = scan_passed (cell_ok args.rec.now) 0 at_sizes (sym c.scan_head.ensures ∙ no_fault c.scan_head.result (sym c.is_err.ensures.value ∙ c.if-is_err.false)) in let l = first_le (cell_ok args.rec.now) 0 at_sizes in parts_sound args.rec.now pre (omega arith) (front_fits.ensures (not-false _ if2.false-raw)) (patterns-fit.ensures (not-false _ if3.false-raw)) (actions_fit_lem.ensures t)

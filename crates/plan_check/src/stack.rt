@@ -1,0 +1,61 @@
+// The stack of the check: the actions under way that wait for an outcome's plan.
+ghost use Rattle.std.specs.Prelude.{◌≡◌, ◌<◌, [], ◌∷◌, drop, length, slice_get};
+
+use crate::frames::Frame;
+use std::marker::Model;
+
+// Each frame has taken a move, and a path has at most 32. Clauses see the frames in use, the topmost first.
+#[derive(Drop)]
+pub(crate) struct Stack {
+    frames: [Frame; 32],
+    used: usize,
+}
+
+impl Model for Stack {
+    ghost use Rattle.std.specs.Prelude.{◌≤◌, List};
+    ghost use Rattle.plan_check.specs.declared.frames.Frame.{Frame};
+    ghost use Rattle.plan_check.specs.Stack.{topmost_first};
+
+    ghost Value = { List Frame };
+
+    ghost view = { λ s. topmost_first s.frames s.used };
+
+    ghost invariant = { λ s. s.used ≤ 32 };
+}
+
+impl Stack {
+    #[tactic(auto, unfolding(crate::specs::Stack::topmost_first))]
+    pub(crate) fn new() -> Stack
+        ensures { result ≡ [] }
+    {
+        let unused = Frame {
+            state: [0; 16],
+            next: 0,
+            depth: 0,
+            left: 0,
+        };
+        Stack {
+            frames: [unused; 32],
+            used: 0,
+        }
+    }
+
+    pub(crate) fn push(&mut self, frame: Frame)
+        requires { length self.old < 32 }
+        ensures { self.new ≡ frame ∷ self.old }
+    {
+        self.frames[self.used] = frame;
+        self.used += 1;
+    }
+
+    pub(crate) fn pop(&mut self) -> Option<Frame>
+        ensures topmost { result ≡ slice_get self.old 0 }
+        ensures rest { self.new ≡ drop 1 self.old }
+    {
+        if self.used == 0 {
+            return None;
+        }
+        self.used -= 1;
+        Some(self.frames[self.used])
+    }
+}
