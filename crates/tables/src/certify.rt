@@ -101,8 +101,16 @@ struct Trial<'a> {
     ghost long: { length entries.now ≡ space.now.count },
 }
 
-// What action m says of entry e: 0 if it says less, 1 if e itself, else 2.
-fn judge(t: &Trial<'_>, m: usize, i: usize, s: u64, e: u16) -> u8
+// What an action says of an entry: less, the entry itself, or more.
+#[derive(Clone, Copy, PartialEq, Eq)]
+pub(crate) enum Verdict {
+    Less,
+    Same,
+    More,
+}
+
+// What action m says of entry e.
+fn judge(t: &Trial<'_>, m: usize, i: usize, s: u64, e: u16) -> Verdict
     requires { m < t.now.space.now.actions }
     ensures { Judged (offer t.now.space.now.task.now t.now.space.now.mask t.now.space.now.weights.now t.now.entries.now m s) e result }
 {
@@ -110,16 +118,16 @@ fn judge(t: &Trial<'_>, m: usize, i: usize, s: u64, e: u16) -> u8
     let guess = |o: usize| steps[o % 8].guess(i, s);
     let v = worst_entry(t.space, t.entries, m, s, e, guess);
     if v >= e {
-        return 2;
+        return Verdict::More;
     }
     let said = raise(t.space.task[20 * m + 3], v);
     if said < e {
-        return 0;
+        return Verdict::Less;
     }
     if said == e {
-        return 1;
+        return Verdict::Same;
     }
-    2
+    Verdict::More
 }
 
 // Whether entry e of state i, no goal, is what the actions of a set say of it. What is at most 1 is the least that an action can say.
@@ -131,15 +139,15 @@ fn is_said(t: &Trial<'_>, set: u64, i: usize, s: u64, e: u16) -> bool
     let mut attained = e == 65535;
     while rest != 0 {
         let m = u64::trailing_zeros(rest) as usize;
-        let verdict = judge(t, m, i, s, e);
-        if verdict == 0 {
-            return false;
-        }
-        if verdict == 1 {
-            if e <= 1 {
-                return true;
+        match judge(t, m, i, s, e) {
+            Verdict::Less => return false,
+            Verdict::Same => {
+                if e <= 1 {
+                    return true;
+                }
+                attained = true;
             }
-            attained = true;
+            Verdict::More => {}
         }
         rest = rest & (rest - 1);
     }
