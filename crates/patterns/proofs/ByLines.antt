@@ -1,21 +1,18 @@
 -- What a call says in numbers after room and patterns were judged: the lines 7 and 8, or 7, 8 and 9, of "Where a call can say no", and below
 -- them what it judges; and what each call of this crate says, line by line. Assumes nothing.
-use Rattle.std.proofs.Common.{◌≡◌, ℕ, ltb, List, length, refl, ap, ◌∙◌, Result, Ok}
-use Rattle.planning.specs.Extended.{ℕ∞, fin, inf}
+use Rattle.std.proofs.Common.{◌≡◌, ℕ, ltb, List, length, refl, sym, ap, ◌∙◌, Result, Ok}
 use Rattle.planning.specs.Numbers.{Numbers, answered, refused_if}
 use Rattle.planning.specs.Pattern.{Verdict, additive, conflict, verdict}
-use Rattle.task_record.specs.Answers.{short_record, bad_cell, bad_state}
+use Rattle.task_record.specs.Answers.{short_record, bad_cell}
 use Rattle.task_record.specs.Refusals.{answer_numbers, after}
-use Rattle.task_record.specs.State.{judge_state}
 use Rattle.task_record.specs.TaskOf.{task_of, patterns_of}
 use Rattle.task_record.specs.declared.refusal.Refusal.{Refusal}
 use Rattle.task_record.specs.declared.refusal.Refusal.TheVariants.{LargePattern, ShortTables}
-use Rattle.task_record.proofs.ByLines.{line-told, after_record_lem, after_state_lem, after_after, told_alone}
+use Rattle.task_record.proofs.ByLines.{line-told, after_record_lem, after_after, told_alone}
 use Rattle.patterns.specs.Space.{first_large, judge_tables, table_check}
 use Rattle.patterns.specs.Additivity.{additivity_of, additivity}
 use Rattle.patterns.specs.Estimate.{after_verdict, judge_estimate, estimate_check}
-use Rattle.patterns.specs.Value.{value_of, read_value, state_value}
-use Rattle.patterns.specs.Answers.{large_pattern, table_entries, short_tables, unless_conflict, not_additive, table_numbers, conflict_numbers, additivity_numbers, estimate_numbers, finite_numbers, value_numbers, tables_by_lines, estimate_by_lines, verdict_numbers, additivity_by_lines, sum_numbers, value_by_lines}
+use Rattle.patterns.specs.Answers.{large_pattern, table_entries, short_tables, unless_conflict, not_additive, table_numbers, conflict_numbers, additivity_numbers, estimate_numbers, tables_by_lines, estimate_by_lines, verdict_numbers, additivity_by_lines}
 
 -- Lines 7 and 8.
 pub after_tables_lem : {B : Type 0} → (f : B → Numbers) → (r : List ℕ) → (lent : ℕ) → (next : ℕ → Result B Refusal)
@@ -41,36 +38,25 @@ after_estimate_lem f r lent next = let v = verdict (task_of r) (patterns_of r) i
     ∙ after_tables_lem f r lent (λ n. after (after_verdict (additivity_of v)) next)
     ∙ ap (λ t. large_pattern r (short_tables r lent t)) (verdict-told f next v)
 
-pub tables_told : (r : List ℕ) (lent : ℕ) → table_numbers (table_check r lent) ≡ tables_by_lines r lent
+-- What each call says, line by line.
+pub tables_told : (r : List ℕ) (lent : ℕ) → tables_by_lines r lent ≡ table_numbers (table_check r lent)
 unfolding tables_by_lines
-tables_told r lent = let f = (λ (n : ℕ). answered 0 n 0 0) in
-    after_record_lem f r (λ u. judge_tables (task_of r).sizes (patterns_of r) lent)
-    ∙ ap (λ t. short_record r (bad_cell r t)) (told_alone f (judge_tables (task_of r).sizes (patterns_of r) lent) ∙ after_tables_lem f r lent (λ n. Ok n))
+tables_told r lent = let f = (λ (n : ℕ). answered 0 n 0 0) in sym
+    (after_record_lem f r (λ u. judge_tables (task_of r).sizes (patterns_of r) lent)
+    ∙ ap (λ t. short_record r (bad_cell r t)) (told_alone f (judge_tables (task_of r).sizes (patterns_of r) lent) ∙ after_tables_lem f r lent (λ n. Ok n)))
 
-pub estimate_told : (r : List ℕ) (lent : ℕ) → estimate_numbers (estimate_check r lent) ≡ estimate_by_lines r lent
+pub estimate_told : (r : List ℕ) (lent : ℕ) → estimate_by_lines r lent ≡ estimate_numbers (estimate_check r lent)
 unfolding estimate_by_lines
-estimate_told r lent = let f = (λ (u : Unit {0}). answered 0 0 0 0) in
-    after_record_lem f r (λ u. judge_estimate r lent)
-    ∙ ap (λ t. short_record r (bad_cell r t)) (told_alone f (judge_estimate r lent) ∙ after_estimate_lem f r lent (λ u. Ok u))
+estimate_told r lent = let f = (λ (u : Unit {0}). answered 0 0 0 0) in sym
+    (after_record_lem f r (λ u. judge_estimate r lent)
+    ∙ ap (λ t. short_record r (bad_cell r t)) (told_alone f (judge_estimate r lent) ∙ after_estimate_lem f r lent (λ u. Ok u)))
 
 conflict_told : (v : Verdict) → conflict_numbers (additivity_of v) ≡ verdict_numbers v
 unfolding additivity_of verdict_numbers
 conflict_told additive = refl
 conflict_told (conflict m p q) = refl
 
-pub additivity_told : (r : List ℕ) → additivity_numbers (additivity r) ≡ additivity_by_lines r
+pub additivity_told : (r : List ℕ) → additivity_by_lines r ≡ additivity_numbers (additivity r)
 unfolding additivity_by_lines
-additivity_told r = let v = verdict (task_of r) (patterns_of r) in
-    after_record_lem conflict_numbers r (λ u. Ok (additivity_of v)) ∙ ap (λ t. short_record r (bad_cell r t)) (conflict_told v)
-
-sum_told : (n : ℕ∞) → finite_numbers (value_of n) ≡ sum_numbers n
-unfolding value_of sum_numbers
-sum_told (fin n) = refl
-sum_told inf = refl
-
-pub value_told : (r s tabs : List ℕ) → value_numbers (state_value r s tabs) ≡ value_by_lines r s tabs
-unfolding value_by_lines
-value_told r s tabs = let f = finite_numbers in let v = value_of (read_value r s tabs) in
-    after_record_lem f r (λ u. after (judge_estimate r (length tabs)) (λ u. after (judge_state r s) (λ u. Ok v)))
-    ∙ ap (λ t. short_record r (bad_cell r t)) (after_estimate_lem f r (length tabs) (λ u. after (judge_state r s) (λ u. Ok v)))
-    ∙ ap (λ t. short_record r (bad_cell r (large_pattern r (short_tables r (length tabs) (not_additive r t))))) (after_state_lem f r s (λ u. Ok v) ∙ ap (bad_state r s) (sum_told (read_value r s tabs)))
+additivity_told r = let v = verdict (task_of r) (patterns_of r) in sym
+    (after_record_lem conflict_numbers r (λ u. Ok (additivity_of v)) ∙ ap (λ t. short_record r (bad_cell r t)) (conflict_told v))

@@ -22,7 +22,7 @@ pub(crate) fn judge_estimate(rec: &[u8], lent: usize) -> Result<(), Refusal>
 }
 
 // Whether the patterns are additive and tables of `lent` entries can hold their tables. No entry of the product: the search asks it.
-#[tactic(auto, unfolding(task_record::specs::Record::Sound))]
+#[tactic(auto, using(crate::proofs::ByLines::estimate_told), unfolding(task_record::specs::Record::Sound))]
 pub fn check_estimate(rec: &[u8], lent: usize) -> Result<(), Refusal>
     ensures value { result ≡ estimate_check rec.now lent }
     ensures numbers { estimate_numbers result ≡ estimate_by_lines rec.now lent }

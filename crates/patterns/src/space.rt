@@ -49,7 +49,7 @@ pub(crate) fn judge_tables(rec: &[u8], lent: usize) -> Result<u64, Refusal>
 }
 
 // How many entries the tables of the task need, where tables of `lent` entries can hold them. No entry of the product: the build asks it.
-#[tactic(auto, unfolding(task_record::specs::Record::Sound))]
+#[tactic(auto, using(crate::proofs::ByLines::tables_told), unfolding(task_record::specs::Record::Sound))]
 pub fn check_tables(rec: &[u8], lent: usize) -> Result<u64, Refusal>
     ensures value { result ≡ table_check rec.now lent }
     ensures numbers { table_numbers result ≡ tables_by_lines rec.now lent }

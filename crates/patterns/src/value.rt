@@ -71,7 +71,6 @@ fn refuse_value(rec: &[u8], lent: usize, refused: Refusal) -> Result<Option<u64>
 
 // The value that the tables say of the state, none where it is infinite. The check of the state tests the record on its way, so that it is
 // read once.
-#[tactic(auto, using(crate::proofs::Refusals::value_of_good))]
 pub fn state_value(rec: &[u8], state: &[u8], tables: &[u16]) -> Result<Option<u64>, Refusal>
     ensures value { result ≡ state_value rec.now state.now tables.now }
     ensures numbers { value_numbers result ≡ value_by_lines rec.now state.now tables.now }

@@ -187,7 +187,7 @@ pub(crate) fn decide(rec: &[u8]) -> Option<Conflict>
 }
 
 // The first conflict of the task's patterns, or none where they are additive.
-#[tactic(auto, unfolding(task_record::specs::Record::Sound))]
+#[tactic(auto, using(crate::proofs::ByLines::additivity_told), unfolding(task_record::specs::Record::Sound))]
 pub fn additive(rec: &[u8]) -> Result<Option<Conflict>, Refusal>
     ensures value { result ≡ additivity rec.now }
     ensures numbers { additivity_numbers result ≡ additivity_by_lines rec.now }

@@ -7,7 +7,8 @@ use native.Mathlib.Omega.{arith}
 use native.Mathlib.Numerals.{add-one}
 use lib.ListN.{length, take, drop, get_or, set, length-append}
 use lib.Seq.{sets, take-suc, take_all, drop-nil}
-use Rattle.report.specs.Writing.{Written, overwritten}
+use Rattle.report.specs.declared.lines.Lines.{Lines}
+use Rattle.report.specs.Writing.{Written, Puts, overwritten}
 
 -- stores of u, then of w after them, are the stores of both
 sets_append : (u w l : List ℕ) (i : ℕ) → sets l i (u ++ w) ≡ sets (sets l i u) (i + length u) w
@@ -18,25 +19,12 @@ sets_append (a ∷ u) w l i =
 pub written_nothing : (at : ℕ) (old : List ℕ) → Written [] at old old at
 written_nothing at old = record { ends = sym (add-zero at); holds = refl }
 
--- a byte that was stored
-pub written_byte : {b at : ℕ} {old new : List ℕ} → new ≡ set old at b → Written (b ∷ []) at old new (at + 1)
-written_byte e = record { ends = refl; holds = e }
-
 -- One after the other.
 pub written_then : {u w old mid new : List ℕ} {at m end : ℕ} → Written u at old mid m → Written w m mid new end → Written (u ++ w) at old new end
 written_then {u} {w} {old} {mid} {new} {at} {m} {end} a b = record {
   ends = omega (arith, a.ends, b.ends, length-append u w);
   holds = b.holds ∙ ap (λ (l : List ℕ). sets l m w) a.holds ∙ ap (λ (k : ℕ). sets (sets old at u) k w) a.ends ∙ sym (sets_append u w old at);
 }
-
--- One byte more of a word.
-pub written-more : (w : List ℕ) (i : ℕ) {old mid new : List ℕ} {at : ℕ} → i < length w → Written (take i w) at old mid (at + i) → new ≡ set mid (at + i) (get_or w i 0) → Written (take (i + 1) w) at old new (at + (i + 1))
-written-more w i {old} {mid} {new} {at} l a e =
-    rw (add-one i, take-suc w i 0 l, add-suc at i, ← add-one (at + i)) (written_then a (written_byte e))
-
--- the whole word
-pub written_whole : (w : List ℕ) (i : ℕ) {old new : List ℕ} {at : ℕ} → length w ≤ i → Written (take i w) at old new (at + i) → Written w at old new (at + i)
-written_whole w i l a = rw (take_all i w l) at a
 
 -- What was written from the start on: the first bytes, as far as the buffer reaches, and the rest as found.
 sets_nothing : (w : List ℕ) (i : ℕ) → sets [] i w ≡ []
@@ -55,3 +43,16 @@ sets_from_start (a ∷ w) (x ∷ l) = sets-after_first w l a 0 ∙ ap (λ (t : L
 pub written_all : {w old new : List ℕ} {end : ℕ} → Written w 0 old new end → (end ≡ length w) × (new ≡ overwritten w old)
 unfolding overwritten
 written_all {w} {old} h = (h.ends ∙ zero-add (length w), h.holds ∙ sets_from_start w old)
+
+-- Lines that go on: nothing, one piece after the other, and one byte more of a word.
+pub puts_nothing : (s : Lines) → Puts [] s s
+puts_nothing s = record { same = refl; written = written_nothing s.at s.out.now }
+
+pub puts_then : {u w : List ℕ} {a b c : Lines} → Puts u a b → Puts w b c → Puts (u ++ w) a c
+puts_then p q = record { same = q.same ∙ p.same; written = written_then p.written q.written }
+
+pub puts_more : (w : List ℕ) (i : ℕ) {a b c : Lines} → i < length w → Puts (take i w) a b → Puts (get_or w i 0 ∷ []) b c → Puts (take (i + 1) w) a c
+puts_more w i l p q = rw (add-one i, take-suc w i 0 l) (puts_then p q)
+
+pub puts_whole : (w : List ℕ) (i : ℕ) {a b : Lines} → length w ≤ i → Puts (take i w) a b → Puts w a b
+puts_whole w i l p = rw (take_all i w l) at p

@@ -2,8 +2,6 @@
 #![tactic(auto)]
 
 mod answers;
-mod decimal;
+pub mod input;
 mod lines;
-mod list;
 pub mod text;
-mod writing;

@@ -3,45 +3,55 @@ ghost use Rattle.std.specs.Prelude.{◌≡◌, ◌+◌, ◌*◌, ◌≤◌, leng
 ghost use Rattle.tables.specs.RecordTables.{tables_prepared};
 ghost use Rattle.search.specs.Entry.{plan_after};
 ghost use Rattle.report.specs.Report.{record_lines, printed, tables_left, plan_left};
-ghost use Rattle.report.specs.Writing.{Written, overwritten};
+ghost use Rattle.report.specs.Writing.{Puts, overwritten};
 
 use crate::answers::{put_found, put_none, put_over, put_refusal, put_spent, put_start_value};
+use crate::lines::Lines;
 use reader::text::{Reading, read_text};
 use search::entry::{SearchAnswer, search};
 use task_record::layout::RECORD_SIZE;
 
-fn place(n: u64) -> usize
-    ensures { result ≡ n }
-{
-    n as usize
-}
-
 // The lines of a record.
-fn report_record(rec: &[u8], tables: &mut [u16], plan: &mut [u8], out: &mut [u8]) -> usize
-    ensures { (Written (record_lines (length tables.old) (length plan.old) rec.now) 0 out.old out.new result)
-        × (tables.new ≡ tables_prepared rec.now tables.old)
-        × (plan.new ≡ plan_after rec.now (length tables.old) plan.old)
-        × (result ≤ 4 * length plan.old + 256) }
+fn report_record(rec: &[u8], tables: &mut [u16], plan: &mut [u8], lines: &mut Lines<'_>)
+    requires { lines.old.at ≡ 0 }
+    ensures written { Puts (record_lines (length tables.old) (length plan.old) rec.now) lines.old lines.new }
+    ensures tables { tables.new ≡ tables_prepared rec.now tables.old }
+    ensures plan { plan.new ≡ plan_after rec.now (length tables.old) plan.old }
+    ensures short { lines.new.at ≤ 4 * length plan.old + 256 }
 {
     match search(rec, tables, plan) {
-        SearchAnswer::Refused(number, second) => put_refusal(out, number, second),
+        SearchAnswer::Refused(number, second) => put_refusal(lines, number, second),
         SearchAnswer::Found(cost, count, bytes) => {
-            let at = put_start_value(out, rec, tables);
-            let end = place(bytes);
-            put_found(out, at, cost, count, &plan[..end])
+            put_start_value(lines, rec, tables);
+            put_found(lines, cost, count, &plan[..bytes as usize])
         }
         SearchAnswer::Over(count) => {
-            let at = put_start_value(out, rec, tables);
-            put_over(out, at, count)
+            put_start_value(lines, rec, tables);
+            put_over(lines, count)
         }
         SearchAnswer::Spent(round, count) => {
-            let at = put_start_value(out, rec, tables);
-            put_spent(out, at, round, count)
+            put_start_value(lines, rec, tables);
+            put_spent(lines, round, count)
         }
         SearchAnswer::None(count) => {
-            let at = put_start_value(out, rec, tables);
-            put_none(out, at, count)
+            put_start_value(lines, rec, tables);
+            put_none(lines, count)
         }
+    }
+}
+
+// The lines of a text.
+fn report_lines(text: &[u8], tables: &mut [u16], plan: &mut [u8], lines: &mut Lines<'_>)
+    requires { lines.old.at ≡ 0 }
+    ensures written { Puts (printed (length tables.old) (length plan.old) text.now) lines.old lines.new }
+    ensures tables { tables.new ≡ tables_left text.now tables.old }
+    ensures plan { plan.new ≡ plan_left text.now (length tables.old) plan.old }
+    ensures short { lines.new.at ≤ 4 * length plan.old + 256 }
+{
+    let mut rec = [0u8; RECORD_SIZE];
+    match read_text(text, &mut rec) {
+        Reading::Refused(number, line) => put_refusal(lines, number, line),
+        Reading::Read => report_record(&rec, tables, plan, lines),
     }
 }
 
@@ -54,9 +64,7 @@ pub fn report_text(text: &[u8], tables: &mut [u16], plan: &mut [u8], out: &mut [
         × (plan.new ≡ plan_left text.now (length tables.old) plan.old)
         × (result ≤ 4 * length plan.old + 256) }
 {
-    let mut rec = [0u8; RECORD_SIZE];
-    match read_text(text, &mut rec) {
-        Reading::Refused(number, line) => put_refusal(out, number, line),
-        Reading::Read => report_record(&rec, tables, plan, out),
-    }
+    let mut lines = Lines::new(out);
+    report_lines(text, tables, plan, &mut lines);
+    lines.len()
 }

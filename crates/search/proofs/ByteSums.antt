@@ -1,6 +1,6 @@
 -- The index by bytes is the index: bytes that the pattern does not have add nothing, and each of the others adds what its two digits do.
 -- Assumes nothing.
-use Rattle.std.proofs.Common.{◌≡◌, ℕ, zero, suc, ◌+◌, ◌-◌, ◌*◌, ◌/◌, ◌%◌, ◌^◌, ◌<◌, ◌≤◌, List, get_or, sym, refl, ap, ◌∙◌, ⊎_elim, zero-add, div-one, arith, pow-add, le-ltb, lt-ltb}
+use Rattle.std.proofs.Common.{◌≡◌, ℕ, zero, suc, ◌+◌, ◌-◌, ◌*◌, ◌/◌, ◌%◌, ◌^◌, ◌<◌, ◌≤◌, List, get_or, sym, refl, ap, ◌∙◌, zero-add, div-one, arith, pow-add, le-ltb, lt-ltb}
 use native.Mathlib.Nat.{pow-succ', div-div-eq-div-mul}
 use Rattle.tables.proofs.ApplyingSets.{upper_digit}
 use Rattle.search.specs.Value.{row_entry, packed_index}
@@ -53,27 +53,27 @@ unfolding block_sum
 blocks_whole places at j n i s whole l q = let m : n - j ≡ zero = omega arith in let r : whole ≡ i + 0 = rw m at q in omega arith
 
 -- The blocks of a span give the index.
-module _ (rows : List ℕ) (p variables : ℕ) (places : List ℕ) (shift count at : ℕ) (g : SpanAt rows variables p places shift count at) where
-  span_sum : (j n s : ℕ) → j + n ≡ count → digit_sum (digit_adds rows variables p) (2 * (g.first + j)) (16 - 2 * (g.first + j)) s ≡ block_sum places (at + 256 * j) n s
+module _ (rows : List ℕ) (p variables : ℕ) (places : List ℕ) (first count at : ℕ) (g : SpanAt rows variables p places first count at) where
+  span_sum : (j n s : ℕ) → j + n ≡ count → digit_sum (digit_adds rows variables p) (2 * (first + j)) (16 - 2 * (first + j)) s ≡ block_sum places (at + 256 * j) n s
   unfolding digit_sum byte_adds block_sum
-  span_sum j zero s e = sum_zero (digit_adds rows variables p) (2 * (g.first + j)) (16 - 2 * (g.first + j)) s (λ u x m. g.above u x (omega arith))
+  span_sum j zero s e = sum_zero (digit_adds rows variables p) (2 * (first + j)) (16 - 2 * (first + j)) s (λ u x m. g.above u x (omega arith))
   span_sum j (suc n) s e = let w = g.within in
-      let m : 16 - 2 * (g.first + j) ≡ suc (suc (16 - (2 * (g.first + j) + 1 + 1))) = omega arith in let v : 2 * (g.first + (j + 1)) ≡ 2 * (g.first + j) + 1 + 1 = omega arith in
+      let m : 16 - 2 * (first + j) ≡ suc (suc (16 - (2 * (first + j) + 1 + 1))) = omega arith in let v : 2 * (first + (j + 1)) ≡ 2 * (first + j) + 1 + 1 = omega arith in
       let q : s / 256 ≡ s / 16 / 16 = omega arith in let d : s % 256 % 16 ≡ s % 16 = omega arith in let a : at + 256 * j + 256 ≡ at + 256 * (j + 1) = omega arith in
       let i = rw (v, q) at (span_sum (j + 1) n (s / 256) (omega arith)) in
       rw (m, a, (g.blocks j (omega arith)).block (s % 256) (omega arith), d, upper_digit s, q, ← i) (omega arith)
 
-  pub span_index : (s : ℕ) → variables ≤ 16 → block_sum places at count (s / 2 ^ shift) ≡ packed_index rows p 0 variables s
-  span_index s few = let w = g.within in let e : 2 * g.first + (16 - 2 * g.first) ≡ 16 = omega arith in let a : g.first + 0 ≡ g.first = omega arith in
-      let b : at + 256 * 0 ≡ at = omega arith in let z : 0 + 2 * g.first ≡ 2 * g.first = omega arith in
-      let skipped = rw (e, z) at (sum_skips (digit_adds rows variables p) 0 (2 * g.first) (16 - 2 * g.first) s (λ u x l. g.below u x (omega arith))) in
-      let summed = rw (a, b) at (span_sum 0 count (s / 16 ^ (2 * g.first)) (omega arith)) in
-      rw (g.shifted, shift_bytes g.first) (sym (index_sum rows p variables s few ∙ skipped ∙ summed))
+  pub span_index : (s : ℕ) → variables ≤ 16 → block_sum places at count (s / 2 ^ (8 * first)) ≡ packed_index rows p 0 variables s
+  span_index s few = let w = g.within in let e : 2 * first + (16 - 2 * first) ≡ 16 = omega arith in let a : first + 0 ≡ first = omega arith in
+      let b : at + 256 * 0 ≡ at = omega arith in let z : 0 + 2 * first ≡ 2 * first = omega arith in
+      let skipped = rw (e, z) at (sum_skips (digit_adds rows variables p) 0 (2 * first) (16 - 2 * first) s (λ u x l. g.below u x (omega arith))) in
+      let summed = rw (a, b) at (span_sum 0 count (s / 16 ^ (2 * first)) (omega arith)) in
+      rw (shift_bytes first) (sym (index_sum rows p variables s few ∙ skipped ∙ summed))
 
 -- What is read of a pattern that has blocks, and its index.
 module _ (rows : List ℕ) (patterns variables : ℕ) (places : List ℕ) (b : BytesOf rows patterns variables places) (p : ℕ) (l : p < patterns) (some : get_or places (4097 + 3 * p) 0 ≡ 0 → ⊥) where
   pub span_here : SpanAt rows variables p places (get_or places (4096 + 3 * p) 0) (get_or places (4097 + 3 * p) 0) (get_or places (4098 + 3 * p) 0)
-  span_here = ⊎_elim (λ z. absurd (some z)) (λ g. g) (b.span p l)
+  span_here = b.span p l some
 
 pub blocks_start : (places : List ℕ) (at n s : ℕ) → block_sum places at n s ≡ 0 + block_sum places (at + 256 * 0) (n - 0) s
 blocks_start places at n s = let a : at + 256 * 0 ≡ at = omega arith in let m : n - 0 ≡ n = omega arith in rw (a, m) (omega arith)

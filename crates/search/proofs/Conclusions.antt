@@ -1,5 +1,5 @@
 -- Laws of rounds: one round more, how a round ends them, and the answer and the buffer for each end. Assumes nothing.
-use Rattle.std.proofs.Common.{◌≡◌, ℕ, zero, suc, ◌+◌, ◌-◌, ◌<◌, ◌≤◌, cond, ltb, List, [], ◌++◌, length, get_or, take, replicate, sym, refl, ap, ◌∙◌, zero-add, add-one, arith, length-append, length-take, take_all, get_or-take, get_or-append-add, ext_get_or, le-ltb, lt-ltb, le-leb}
+use Rattle.std.proofs.Common.{◌≡◌, ℕ, zero, suc, ◌+◌, ◌-◌, ◌<◌, ◌≤◌, cond, ltb, List, Option, Some, None, Ok, Err, [], ◌++◌, length, get_or, take, replicate, sym, refl, ap, ◌∙◌, zero-add, add-one, arith, length-append, length-take, take_all, get_or-take, get_or-append-add, ext_get_or, le-ltb, lt-ltb, le-leb}
 use native.Mathlib.Decide.{dec_lt}
 use borrow.Author.Tests.{lt-leb}
 use lib.ListN.{length-replicate, get_or-replicate, get_or-append}
@@ -12,15 +12,13 @@ use Rattle.planning.specs.Search as planning
 use Rattle.planning.proofs.Finite.{length-tabulate, get_or_tabulate}
 use Rattle.planning.proofs.Shift.{succeeded_anywhere}
 use Rattle.tables.specs.Packed.{packed_system}
-use Rattle.search.specs.declared.estimate.Value.{Value}
-use Rattle.search.specs.declared.rounds.Answer.{Answer}
-use Rattle.search.specs.declared.rounds.Reply.{Reply}
+use Rattle.search.specs.declared.instance.Instance.{Instance}
+use Rattle.search.specs.declared.entry.SearchAnswer.TheVariants as outcome
 use Rattle.search.specs.Buffer.{Holds, filled}
 use Rattle.search.specs.Value.{value_of}
-use Rattle.search.specs.Guide.{actions_in, budget_in, limit_in}
 use Rattle.search.specs.Packed.{guided_examination, guided_value}
 use Rattle.search.specs.Examination.{plan_size, plan_head}
-use Rattle.search.specs.Answer.{guided_rounds, answer_of, buffer_of, Replied, FoundBy, Replies}
+use Rattle.search.specs.Answer.{guided_rounds, answer_of, buffer_of, Replied, FoundBy, Left}
 use Rattle.search.proofs.Bytes.{holds_nothing}
 use Rattle.search.proofs.Endings.{Success}
 
@@ -49,13 +47,13 @@ module _ (Y : System ℕ) (h : ℕ → ℕ∞) (budget limit s d c : ℕ) (x : p
     round_fails q = rounds_step l ∙ rw q
 
 -- A round that finds a plan: it has no more bytes than the budget has examinations, and is found again from the count 0.
-pub round_found : (task rows guide tables : List ℕ) (s d c : ℕ) (x : planning.Answer) → x ≡ guided_rounds task rows guide tables s d c → d ≤ limit_in guide → budget_in guide ≤ 1000000 →
-    (e n b : ℕ) → Success plan_size plan_head (guided_examination task rows guide tables d s c) c (budget_in guide) e n b → FoundBy task rows guide tables s x d e n
-round_found task rows guide tables s d c x w l m e n b q = let z : e ≡ c + (e - c) = omega (arith, q.counted) in record {
+pub round_found : (instance : Instance) (s d c : ℕ) (x : planning.Answer) → x ≡ guided_rounds instance s d c → d ≤ instance.guide.limit → instance.guide.budget ≤ 1000000 →
+    (e n b : ℕ) → Success plan_size plan_head (guided_examination instance d s c) c instance.guide.budget e n b → FoundBy instance s x d e n
+round_found instance s d c x w l m e n b q = let z : e ≡ c + (e - c) = omega (arith, q.counted) in record {
   plan = q.found;
-  is = round_finds (packed_system task (actions_in guide)) (guided_value rows guide tables) (budget_in guide) (limit_in guide) s d c x w l e q.found q.is;
+  is = round_finds (packed_system instance.task.now instance.guide.actions) (guided_value instance) instance.guide.budget instance.guide.limit s d c x w l e q.found q.is;
   made = 0 + (e - c);
-  again = succeeded_anywhere (packed_system task (actions_in guide)) (guided_value rows guide tables) (budget_in guide) d s q.found c (e - c) 0 (q.is ∙ ap (succeeded q.found) z) (omega (arith, q.budgeted));
+  again = succeeded_anywhere (packed_system instance.task.now instance.guide.actions) (guided_value instance) instance.guide.budget d s q.found c (e - c) 0 (q.is ∙ ap (succeeded q.found) z) (omega (arith, q.budgeted));
   sized = q.sized;
   short = omega (arith, q.short, q.budgeted, m);
   within = l;
@@ -65,37 +63,37 @@ pub rounds_begin : (Y : System ℕ) (h : ℕ → ℕ∞) (budget limit s from : 
 rounds_begin Y h budget limit s from l = let z : suc (limit - from) ≡ limit + 1 - from = omega arith in ap (λ (n : ℕ). rounds Y h budget limit s n from 0) z
 
 -- What the code's word for a value says.
-pub value_is : (x : ℕ∞) (v : ℕ) → Value.Finite v ≡ value_of x → x ≡ fin v
+pub value_is : (x : ℕ∞) (v : ℕ) → Some v ≡ value_of x → x ≡ fin v
 unfolding value_of
 value_is (fin w) v e = let a : w ≡ v = cc in ap fin a
 value_is inf v e = let z : ◌≡◌ {A = ℕ} 0 1 = cc in absurd (omega arith)
 
 -- The search from the value of the start.
 module _ (Y : System ℕ) (h : ℕ → ℕ∞) (budget limit s : ℕ) where
-  from_infinite : (x : ℕ∞) → Value.Infinite ≡ value_of x → search_from Y h budget limit s x ≡ none 0
+  from_infinite : (x : ℕ∞) → None ≡ value_of x → search_from Y h budget limit s x ≡ none 0
   unfolding search_from value_of
   from_infinite (fin v) e = let z : ◌≡◌ {A = ℕ} 0 1 = cc in absurd (omega arith)
   from_infinite inf e = refl
 
-  from_high : (x : ℕ∞) (v : ℕ) → Value.Finite v ≡ value_of x → limit < v → search_from Y h budget limit s x ≡ over 0
+  from_high : (x : ℕ∞) (v : ℕ) → Some v ≡ value_of x → limit < v → search_from Y h budget limit s x ≡ over 0
   unfolding search_from value_of choose
   from_high (fin w) v e l = let a : w ≡ v = cc in rw (lt-leb w limit (omega arith))
   from_high inf v e l = let z : ◌≡◌ {A = ℕ} 0 1 = cc in absurd (omega arith)
 
-  from_within : (x : ℕ∞) (v : ℕ) → Value.Finite v ≡ value_of x → v ≤ limit → search_from Y h budget limit s x ≡ rounds Y h budget limit s (suc (limit - v)) v 0
+  from_within : (x : ℕ∞) (v : ℕ) → Some v ≡ value_of x → v ≤ limit → search_from Y h budget limit s x ≡ rounds Y h budget limit s (suc (limit - v)) v 0
   unfolding search_from value_of choose
   from_within (fin w) v e l = let a : w ≡ v = cc in rw (le-leb w limit (omega arith), a)
   from_within inf v e l = let z : ◌≡◌ {A = ℕ} 0 1 = cc in absurd (omega arith)
 
-  pub search_none : Value.Infinite ≡ value_of (h s) → search Y h budget limit s ≡ none 0
+  pub search_none : None ≡ value_of (h s) → search Y h budget limit s ≡ none 0
   unfolding search
   search_none e = from_infinite (h s) e
 
-  pub search-over : (v : ℕ) → Value.Finite v ≡ value_of (h s) → limit < v → search Y h budget limit s ≡ over 0
+  pub search-over : (v : ℕ) → Some v ≡ value_of (h s) → limit < v → search Y h budget limit s ≡ over 0
   unfolding search
   search-over v e l = from_high (h s) v e l
 
-  pub search-rounds : (v : ℕ) → Value.Finite v ≡ value_of (h s) → v ≤ limit → search Y h budget limit s ≡ rounds Y h budget limit s (limit + 1 - v) v 0
+  pub search-rounds : (v : ℕ) → Some v ≡ value_of (h s) → v ≤ limit → search Y h budget limit s ≡ rounds Y h budget limit s (limit + 1 - v) v 0
   unfolding search
   search-rounds v e l = from_within (h s) v e l ∙ rounds_begin Y h budget limit s v l
 
@@ -127,31 +125,29 @@ module _ (n : ℕ) (mid new : List ℕ) (l : length mid ≡ n) (x : planning.Ans
   nothing_left e = e ∙ rw (← l) (filled-after [] mid (holds_nothing 0 mid))
 
   module _ (e : new ≡ filled 0 255 mid) where
-    pub ends_over : (c : ℕ) → x ≡ over c → Replied n x new (Answer.Over c)
+    pub ends_over : (c : ℕ) → x ≡ over c → Replied n x new (Ok (outcome.Over c))
     unfolding answer_of buffer_of plan_buffer plan_bytes
     ends_over c w = rw w (record { answer = refl; buffer = nothing_left e })
 
-    pub ends_spent : (d c : ℕ) → x ≡ spent d c → Replied n x new (Answer.Spent d c)
+    pub ends_spent : (d c : ℕ) → x ≡ spent d c → Replied n x new (Ok (outcome.Spent d c))
     unfolding answer_of buffer_of plan_buffer plan_bytes
     ends_spent d c w = rw w (record { answer = refl; buffer = nothing_left e })
 
-    pub ends_none : (c : ℕ) → x ≡ none c → Replied n x new (Answer.None c)
+    pub ends_none : (c : ℕ) → x ≡ none c → Replied n x new (Ok (outcome.None c))
     unfolding answer_of buffer_of plan_buffer plan_bytes
     ends_none c w = rw w (record { answer = refl; buffer = nothing_left e })
 
-  module _ (task rows guide tables : List ℕ) (s d c k : ℕ) (f : FoundBy task rows guide tables s x d c k) where
-    pub too_long : n < k → new ≡ filled 0 255 mid → Replied n x new (Answer.TooLong c k)
+  module _ (instance : Instance) (s d c k : ℕ) (f : FoundBy instance s x d c k) where
+    pub too_long : n < k → new ≡ filled 0 255 mid → Replied n x new (Err (record { count = c; bytes = k }))
     unfolding answer_of buffer_of
     too_long h e = let g : k ≡ plan_size f.plan = sym f.sized in let t = lt-leb (plan_size f.plan) n (omega (arith, h, g)) in
         rw f.is (record { answer = rw (t, g); buffer = rw t (e ∙ rw (← l) (filled_whole mid)) })
 
-    pub fits : k ≤ n → Holds (encode f.plan) 0 mid → new ≡ filled k 255 mid → Replied n x new (Answer.Found d c k)
+    pub fits : k ≤ n → Holds (encode f.plan) 0 mid → new ≡ filled k 255 mid → Replied n x new (Ok (outcome.Found d c k))
     unfolding answer_of buffer_of plan_buffer plan_bytes
     fits h b e = let g : k ≡ plan_size f.plan = sym f.sized in let t = le-leb (plan_size f.plan) n (omega (arith, h, g)) in
         rw f.is (record { answer = rw (t, g); buffer = rw t (e ∙ rw (g, ← l) (filled-after (encode f.plan) mid b)) })
 
 -- Rounds that may make as many examinations as any budget has are finished.
-pub always_ends : (task rows guide tables : List ℕ) (s : ℕ) (x : planning.Answer) (n : ℕ) (new : List ℕ) (d c : ℕ) {C : Type 0} → budget_in guide ≤ 1000000 →
-    Replies task rows guide tables s x 1000000 n new (Reply.Unfinished d c) → C
-unfolding Replies
-always_ends task rows guide tables s x n new d c b h = absurd (omega (arith, b, h.counted, h.many))
+pub always_ends : {instance : Instance} {s d c : ℕ} {x : planning.Answer} {C : Type 0} → instance.guide.budget ≤ 1000000 → Left instance s x 1000000 d c → C
+always_ends b h = absurd (omega (arith, b, h.counted, h.many))

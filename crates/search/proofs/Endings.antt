@@ -13,6 +13,7 @@ use Rattle.search.specs.Examination.{plan_size, plan_head, plans_size, visit_cou
 use Rattle.search.specs.Memory.{Remembers}
 use Rattle.search.specs.Cycle.{Examines}
 use Rattle.search.proofs.Openings.{successors_step, successors_end}
+use Rattle.search.specs.declared.memory.Slot.{Slot}
 
 -- What each ending says of the result: the result itself, and the range of its numbers.
 pub record Success {A : Type 0} (size head : A → ℕ) (x : Result A) (c budget e n b : ℕ) : Type 0 where
@@ -24,7 +25,7 @@ pub record Success {A : Type 0} (size head : A → ℕ) (x : Result A) (c budget
   pub budgeted : e ≤ budget
   pub short : n ≤ e - c
 
-module _ {A : Type 0} {size head : A → ℕ} {r : ℕ → ℕ → ℕ → Result Plan} {budget c : ℕ} {memory : List ℕ} where
+module _ {A : Type 0} {size head : A → ℕ} {r : ℕ → ℕ → ℕ → Result Plan} {budget c : ℕ} {memory : List Slot} where
   pub told_success : (x : Result A) (e n b : ℕ) → Examines size head r budget x c memory (Succeeded e n b) → Success size head x c budget e n b
   unfolding ending_of visit_count size_by
   told_success (succeeded a i) e n b h =
@@ -49,7 +50,7 @@ module _ {A : Type 0} {size head : A → ℕ} {r : ℕ → ℕ → ℕ → Resul
   told_stop (stopped i) e h = let q = h.ending in let u : i ≡ e = cc in (ap stopped u, omega (arith, h.counted), omega (arith, h.budgeted))
 
 -- The other way.
-module _ {A : Type 0} (size head : A → ℕ) {r : ℕ → ℕ → ℕ → Result Plan} {budget c e : ℕ} {memory : List ℕ} {x : Result A} (m : Remembers r budget memory) (l : c ≤ e) (k : e ≤ budget) where
+module _ {A : Type 0} (size head : A → ℕ) {r : ℕ → ℕ → ℕ → Result Plan} {budget c e : ℕ} {memory : List Slot} {x : Result A} (m : Remembers r budget memory) (l : c ≤ e) (k : e ≤ budget) where
   pub ends_success : (a : A) (n b : ℕ) → x ≡ succeeded a e → size a ≡ n → head a ≡ b → n ≤ e - c → Examines size head r budget x c memory (Succeeded e n b)
   unfolding ending_of visit_count size_by
   ends_success a n b q s h t = rw (q, ← s, ← h) (record { ending = refl; counted = l; budgeted = k; short = omega arith; remembers = m })

@@ -6,7 +6,6 @@ pub mod RowsFilled
 pub mod RowValues
 pub mod Owning
 pub mod Openings
-pub mod Guiding
 pub mod RecordSearch
 pub mod Prepared
 pub mod ByLines

@@ -148,32 +148,30 @@ module _ {rows old new : List ℕ} {variables p first count at j : ℕ} (s : Spa
   spanning_ends l = record { blocks = λ e k h. s.blocks k (omega arith); kept = s.kept }
 
 -- The three numbers of pattern p are written into a list of 4,120, and nothing else.
-pub record Numbered (old new : List ℕ) (p shift count at : ℕ) : Type 0 where
-  pub shift_is : get_or new (4096 + 3 * p) 0 ≡ shift
+pub record Numbered (old new : List ℕ) (p first count at : ℕ) : Type 0 where
+  pub first_is : get_or new (4096 + 3 * p) 0 ≡ first
   pub count_is : get_or new (4097 + 3 * p) 0 ≡ count
   pub at_is : get_or new (4098 + 3 * p) 0 ≡ at
   pub others : (i : ℕ) → (i < 4096 + 3 * p) → get_or new i 0 ≡ get_or old i 0
 
-pub numbers_put : (old new : List ℕ) (p shift count at : ℕ) → length old ≡ 4120 → p < 8 → new ≡ set (set (set old (4096 + 3 * p) shift) (4097 + 3 * p) count) (4098 + 3 * p) at → Numbered old new p shift count at
-numbers_put old new p shift count at l h e =
-    let a = set old (4096 + 3 * p) shift in let b = set a (4097 + 3 * p) count in
-    let m : length a ≡ 4120 = length-set old (4096 + 3 * p) shift ∙ l in let n : length b ≡ 4120 = length-set a (4097 + 3 * p) count ∙ m in rw e (record {
-      shift_is = get_or-set_other b (4098 + 3 * p) (4096 + 3 * p) at 0 (λ z. absurd (omega arith)) ∙ get_or-set_other a (4097 + 3 * p) (4096 + 3 * p) count 0 (λ z. absurd (omega arith)) ∙ get_or-set_same old (4096 + 3 * p) shift 0 (omega arith);
+pub numbers_put : (old new : List ℕ) (p first count at : ℕ) → length old ≡ 4120 → p < 8 → new ≡ set (set (set old (4096 + 3 * p) first) (4097 + 3 * p) count) (4098 + 3 * p) at → Numbered old new p first count at
+numbers_put old new p first count at l h e =
+    let a = set old (4096 + 3 * p) first in let b = set a (4097 + 3 * p) count in
+    let m : length a ≡ 4120 = length-set old (4096 + 3 * p) first ∙ l in let n : length b ≡ 4120 = length-set a (4097 + 3 * p) count ∙ m in rw e (record {
+      first_is = get_or-set_other b (4098 + 3 * p) (4096 + 3 * p) at 0 (λ z. absurd (omega arith)) ∙ get_or-set_other a (4097 + 3 * p) (4096 + 3 * p) count 0 (λ z. absurd (omega arith)) ∙ get_or-set_same old (4096 + 3 * p) first 0 (omega arith);
       count_is = get_or-set_other b (4098 + 3 * p) (4097 + 3 * p) at 0 (λ z. absurd (omega arith)) ∙ get_or-set_same a (4097 + 3 * p) count 0 (omega arith);
       at_is = get_or-set_same b (4098 + 3 * p) at 0 (omega arith);
-      others = λ i k. get_or-set_other b (4098 + 3 * p) i at 0 (λ z. absurd (omega arith)) ∙ get_or-set_other a (4097 + 3 * p) i count 0 (λ z. absurd (omega arith)) ∙ get_or-set_other old (4096 + 3 * p) i shift 0 (λ z. absurd (omega arith));
+      others = λ i k. get_or-set_other b (4098 + 3 * p) i at 0 (λ z. absurd (omega arith)) ∙ get_or-set_other a (4097 + 3 * p) i count 0 (λ z. absurd (omega arith)) ∙ get_or-set_other old (4096 + 3 * p) i first 0 (λ z. absurd (omega arith));
     })
 
 -- A pattern whose blocks were written.
 module _ {rows old mid new : List ℕ} {variables p at first count : ℕ} where
-  pub placed : ((v x : ℕ) → v < variables → x < 16 → row_entry rows v x p ≡ x * row_entry rows v 1 p) → SpanFilled rows variables p first count old mid at true → Numbered mid new p (8 * first) count at →
+  pub placed : ((v x : ℕ) → v < variables → x < 16 → row_entry rows v x p ≡ x * row_entry rows v 1 p) → SpanFilled rows variables p first count old mid at true → Numbered mid new p first count at →
       first + count ≤ 8 → at + 256 * count ≤ 4096 → ((v : ℕ) → v < 2 * first → v < variables → row_entry rows v 1 p ≡ 0) → ((v : ℕ) → 2 * (first + count) ≤ v → v < variables → row_entry rows v 1 p ≡ 0) →
       PatternPlaced rows variables p old new at (at + 256 * count)
   placed linear f g w r below above = record {
-    span = inr (rw (g.shift_is, g.count_is, g.at_is) (
+    span = λ n. rw (g.first_is, g.count_is, g.at_is) (
       record {
-        first = first;
-        shifted = refl;
         within = w;
         room = r;
         below = λ v x l h. adds_none rows variables p linear v x (below v l) h;
@@ -181,30 +179,30 @@ module _ {rows old mid new : List ℕ} {variables p at first count : ℕ} where
         blocks = λ j l. record { block = λ x h. g.others (at + 256 * j + x) (omega arith) ∙ (f.blocks refl j l).block x h };
       },
       omega arith,
-    ));
+    );
     kept = λ i o. ⊎_elim (λ q. g.others i (omega arith) ∙ f.kept i (inl q)) (λ q. g.others i q.1 ∙ f.kept i (inr (omega (arith, q.0)))) o;
     grows = omega arith;
     room = r;
   }
 
 -- A pattern without blocks.
-pub not_placed : {rows old mid new : List ℕ} {variables p at shift : ℕ} → ((i : ℕ) → (i < at) ⊎ (4096 ≤ i) → get_or mid i 0 ≡ get_or old i 0) → Numbered mid new p shift 0 at → at ≤ 4096 →
+pub not_placed : {rows old mid new : List ℕ} {variables p at first : ℕ} → ((i : ℕ) → (i < at) ⊎ (4096 ≤ i) → get_or mid i 0 ≡ get_or old i 0) → Numbered mid new p first 0 at → at ≤ 4096 →
     PatternPlaced rows variables p old new at at
 not_placed k g l = record {
-  span = inl g.count_is;
+  span = λ n. absurd (n g.count_is);
   kept = λ i o. ⊎_elim (λ q. g.others i (omega arith) ∙ k i (inl q)) (λ q. g.others i q.1 ∙ k i (inr q.0)) o;
   grows = omega arith;
   room = l;
 }
 
 -- A pattern whose blocks were begun and given up.
-pub given_up : {rows old mid new : List ℕ} {variables p at first count shift : ℕ} {r : Bool} → SpanFilled rows variables p first count old mid at r → Numbered mid new p shift 0 at →
+pub given_up : {rows old mid new : List ℕ} {variables p at first count begin : ℕ} {r : Bool} → SpanFilled rows variables p first count old mid at r → Numbered mid new p begin 0 at →
     at + 256 * count ≤ 4096 → PatternPlaced rows variables p old new at at
 given_up f g l = not_placed (λ i o. f.kept i (⊎_elim (λ q. inl q) (λ q. inr (omega arith)) o)) g (omega arith)
 
 -- Patterns below p have their numbers and blocks, all below `at`.
 pub record Placing (rows : List ℕ) (variables : ℕ) (new : List ℕ) (at p : ℕ) : Type 0 where
-  pub spans : (q : ℕ) → q < p → (get_or new (4097 + 3 * q) 0 ≡ 0) ⊎
+  pub spans : (q : ℕ) → q < p → (get_or new (4097 + 3 * q) 0 ≡ 0 → ⊥) →
       (SpanAt rows variables q new (get_or new (4096 + 3 * q) 0) (get_or new (4097 + 3 * q) 0) (get_or new (4098 + 3 * q) 0) ×
       (get_or new (4098 + 3 * q) 0 + 256 * get_or new (4097 + 3 * q) 0 ≤ at))
   pub room : at ≤ 4096
@@ -213,11 +211,9 @@ pub placing_starts : (rows : List ℕ) (variables : ℕ) (new : List ℕ) → Pl
 placing_starts rows variables new = record { spans = λ q h. absurd (omega arith); room = omega arith }
 
 -- Blocks that are kept stay the blocks of their pattern.
-span_stays : {rows old new : List ℕ} {variables q shift count at : ℕ} (end : ℕ) → SpanAt rows variables q old shift count at → at + 256 * count ≤ end → ((i : ℕ) → i < end → get_or new i 0 ≡ get_or old i 0) →
-    SpanAt rows variables q new shift count at
+span_stays : {rows old new : List ℕ} {variables q first count at : ℕ} (end : ℕ) → SpanAt rows variables q old first count at → at + 256 * count ≤ end → ((i : ℕ) → i < end → get_or new i 0 ≡ get_or old i 0) →
+    SpanAt rows variables q new first count at
 span_stays end s l k = record {
-  first = s.first;
-  shifted = s.shifted;
   within = s.within;
   room = s.room;
   below = s.below;
@@ -226,17 +222,16 @@ span_stays end s l k = record {
 }
 
 module _ {rows old new : List ℕ} {variables at end p : ℕ} (f : Placing rows variables old at p) (g : PatternPlaced rows variables p old new at end) where
-  spans_after : (q : ℕ) → Dec (q ≡ p) → q < p + 1 → (get_or new (4097 + 3 * q) 0 ≡ 0) ⊎
+  spans_after : (q : ℕ) → Dec (q ≡ p) → q < p + 1 → (get_or new (4097 + 3 * q) 0 ≡ 0 → ⊥) →
       (SpanAt rows variables q new (get_or new (4096 + 3 * q) 0) (get_or new (4097 + 3 * q) 0) (get_or new (4098 + 3 * q) 0) ×
       (get_or new (4098 + 3 * q) 0 + 256 * get_or new (4097 + 3 * q) 0 ≤ end))
-  spans_after q (yes e) h = rw e g.span
-  spans_after q (no n) h = let l : q < p = omega arith in let m = g.grows in
+  spans_after q (yes e) h some = rw e (g.span (rw e at some))
+  spans_after q (no n) h some = let l : q < p = omega arith in let m = g.grows in
       let a = g.kept (4096 + 3 * q) (inr (omega arith, omega arith)) in let b = g.kept (4097 + 3 * q) (inr (omega arith, omega arith)) in let c = g.kept (4098 + 3 * q) (inr (omega arith, omega arith)) in
-      ⊎_elim (λ z. inl (b ∙ z)) (λ (z : SpanAt rows variables q old (get_or old (4096 + 3 * q) 0) (get_or old (4097 + 3 * q) 0) (get_or old (4098 + 3 * q) 0) × (get_or old (4098 + 3 * q) 0 + 256 * get_or old (4097 + 3 * q) 0 ≤ at)).
-      inr (rw (a, b, c) (span_stays at z.0 z.1 (λ i k. g.kept i (inl k)), omega (arith, z.1)))) (f.spans q l)
+      let z = f.spans q l (λ e. some (b ∙ e)) in rw (a, b, c) (span_stays at z.0 z.1 (λ i k. g.kept i (inl k)), omega (arith, z.1))
 
   pub placing_goes_on : Placing rows variables new end (p + 1)
   placing_goes_on = record { spans = λ q. spans_after q (ℕ_discrete q p); room = g.room }
 
 pub placing_ends : {rows new : List ℕ} {variables at p : ℕ} (patterns : ℕ) → Placing rows variables new at p → patterns ≤ p → BytesOf rows patterns variables new
-placing_ends patterns f l = record { span = λ q h. ⊎_elim (λ z. inl z) (λ z. inr z.0) (f.spans q (omega arith)) }
+placing_ends patterns f l = record { span = λ q h n. (f.spans q (omega arith) n).0 }

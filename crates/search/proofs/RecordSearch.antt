@@ -1,6 +1,6 @@
 -- The search of a sound record's compiled task with built tables is the search of the task itself, and what the code asks of the record
 -- holds. Assumes nothing.
-use Rattle.std.proofs.Common.{◌≡◌, ℕ, ◌+◌, ◌*◌, ◌/◌, ◌≤◌, leb, List, length, refl, ap, ◌∙◌, arith, leb-true}
+use Rattle.std.proofs.Common.{◌≡◌, ℕ, ◌+◌, ◌*◌, ◌/◌, ◌≤◌, leb, List, Result, Ok, Err, length, refl, ap, ◌∙◌, arith, leb-true}
 use Rattle.planning.specs.Plan.{encode}
 use Rattle.planning.specs.Search.{found, over, spent, none, search, answer}
 use Rattle.planning.specs.Search as planning
@@ -28,7 +28,11 @@ use Rattle.search.specs.Value.{packed_value}
 use Rattle.search.specs.Rows.{RowsOf}
 use Rattle.search.specs.Examination.{Ready, Applying}
 use Rattle.search.specs.Answer.{answer_of, packed_search}
-use Rattle.search.specs.Entry.{HoldsTables, answer_within, widened, search_of}
+use Rattle.search.specs.Entry.{HoldsTables, answer_within, search_of}
+use Rattle.search.specs.declared.entry.SearchAnswer.{SearchAnswer}
+use Rattle.search.specs.declared.entry.SearchAnswer.TheVariants as outcome
+use Rattle.search.specs.declared.rounds.TooLong.{TooLong}
+use Rattle.task_record.specs.declared.refusal.Refusal.TheVariants.{ShortPlan}
 use Rattle.search.proofs.RowsFilled.{sizes_number}
 use Rattle.search.proofs.RowValues.{packed_value_lem}
 
@@ -102,9 +106,20 @@ module _ (r : List ℕ) (sound : Sound r) where
     searched {given = given} e a p v b l s = rw (e, a, p, v, b, l, s) (packed_search_lem given)
 
 -- The rounds' answer, as the search gives it.
-pub search_of_lem : (n : ℕ) (a : planning.Answer) → search_of n a ≡ widened (answer_of n a)
-unfolding search_of answer_of widened
-search_of_lem n (found p d c) = by_test (leb (length (encode p)) n) (λ e. rw e) (λ e. rw e)
-search_of_lem n (over c) = refl
-search_of_lem n (spent d c) = refl
-search_of_lem n (none c) = refl
+pub answered_so : (n : ℕ) (a : planning.Answer) {x : SearchAnswer} → answer_of n a ≡ Ok x → search_of n a ≡ Ok x
+unfolding search_of answer_of
+answered_so n (found p d c) {x} h = by_test (leb (length (encode p)) n)
+    (λ e. let g : ◌≡◌ {A = Result SearchAnswer TooLong} (Ok (outcome.Found d c (length (encode p)))) (Ok x) = rw e at h in let k : outcome.Found d c (length (encode p)) ≡ x = cc in rw (e, k))
+    (λ e. let g = rw e at h in let z : ◌≡◌ {A = ℕ} 0 1 = cc in absurd (omega arith))
+answered_so n (over c) {x} h = let k : outcome.Over c ≡ x = cc in ap (λ (y : SearchAnswer). Ok y) k
+answered_so n (spent d c) {x} h = let k : outcome.Spent d c ≡ x = cc in ap (λ (y : SearchAnswer). Ok y) k
+answered_so n (none c) {x} h = let k : outcome.None c ≡ x = cc in ap (λ (y : SearchAnswer). Ok y) k
+
+pub refused_so : (n : ℕ) (a : planning.Answer) {e : TooLong} → answer_of n a ≡ Err e → search_of n a ≡ Err (ShortPlan e.bytes)
+unfolding search_of answer_of
+refused_so n (found p d c) {e} h = by_test (leb (length (encode p)) n)
+    (λ t. let g = rw t at h in let z : ◌≡◌ {A = ℕ} 0 1 = cc in absurd (omega arith))
+    (λ t. let g : ◌≡◌ {A = Result SearchAnswer TooLong} (Err (record { count = c; bytes = length (encode p) })) (Err e) = rw t at h in let k : record { count = c; bytes = length (encode p) } ≡ e = cc in rw (t, ← k))
+refused_so n (over c) h = let z : ◌≡◌ {A = ℕ} 0 1 = cc in absurd (omega arith)
+refused_so n (spent d c) h = let z : ◌≡◌ {A = ℕ} 0 1 = cc in absurd (omega arith)
+refused_so n (none c) h = let z : ◌≡◌ {A = ℕ} 0 1 = cc in absurd (omega arith)

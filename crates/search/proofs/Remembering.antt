@@ -2,24 +2,33 @@
 -- every count. Assumes nothing.
 use Rattle.std.proofs.Common.{◌≡◌, ℕ, ◌+◌, ◌-◌, ◌*◌, ◌/◌, ◌%◌, ◌<◌, ◌≤◌, ◌⊎◌, List, length, get_or, set, replicate, sym, ap, ◌∙◌, inl, inr, ⊎_elim, arith, length-set, get_or-set_other, get_or-set_same}
 use native.Mathlib.Decide.{ℕ_discrete}
-use lib.ListN.{length-replicate}
+use lib.Bits.{bit_and, and_le_r}
+use lib.ListN.{length-replicate, get_or-replicate}
 use Rattle.planning.specs.Extended.{ℕ∞}
 use Rattle.planning.specs.Plan.{Plan}
 use Rattle.planning.specs.System.{System}
 use Rattle.planning.specs.Search.{Result, succeeded, failed, examination}
 use Rattle.planning.proofs.Shift.{failed_anywhere, succeeded_anywhere}
-use Rattle.task_record.proofs.Sixteens.{zeros}
 use Rattle.search.specs.Examination.{plan_size, plan_head}
-use Rattle.search.specs.Memory.{Said, said, said_by, result_word, Says, Shown, Remembers, Noted}
+use Rattle.search.specs.declared.memory.Slot.{Slot}
+use Rattle.search.specs.Memory.{Said, said, empty, said_by, result_word, Says, Shown, Remembers, Noted}
 
--- Words that are 0 say nothing.
-pub nothing_remembered : (r : ℕ → ℕ → ℕ → Result Plan) (budget n : ℕ) → 2 ≤ n → Remembers r budget (replicate n 0)
+-- What is cut out of a word by a slot's mask names a slot.
+pub and_below : (x n : ℕ) → 1 ≤ n → bit_and x (n - 1) < n
+and_below x n l = let h = and_le_r x (n - 1) in omega (arith, h)
+
+-- Empty slots say nothing.
+pub nothing_said : (n : ℕ) (w : Said) → Says (replicate n empty) w → ⊥
 unfolding said_by
-nothing_remembered r budget n l = record { long = omega (arith, length-replicate {A = ℕ} n 0); shown = λ w h. absurd (omega (arith, h.some, ap (λ (v : Said). v.made) h.says, zeros n (2 * h.slot + 1))) }
+nothing_said n w h = let k : h.slot < n = omega (arith, h.inside, length-replicate {A = Slot} n empty) in
+    let q : 0 ≡ w.made = rw (get_or-replicate {A = Slot} n h.slot empty empty k) at (ap (λ (v : Said). v.made) h.says) in omega (arith, h.some, q)
+
+pub nothing_remembered : (r : ℕ → ℕ → ℕ → Result Plan) (budget n : ℕ) → 1 ≤ n → Remembers r budget (replicate n empty)
+nothing_remembered r budget n l = record { long = omega (arith, length-replicate {A = Slot} n empty); shown = λ w h. absurd (nothing_said n w h) }
 
 -- The word of a slot, taken apart.
 module _ (s d k n b : ℕ) (l : d < 256) (m : k < 1048576) (t : n < 1048576) (f : b < 256) where
-  word_said : said_by s (result_word d k n b) ≡ said s d k n b
+  word_said : said_by (record { state = s; word = result_word d k n b }) ≡ said s d k n b
   unfolding said_by result_word
   word_said = let w = d + 256 * k + 268435456 * n + 281474976710656 * b in
       let p : w % 256 ≡ d = omega arith in
@@ -31,41 +40,25 @@ module _ (s d k n b : ℕ) (l : d < 256) (m : k < 1048576) (t : n < 1048576) (f 
       let z : b % 256 ≡ b = omega arith in
       rw (p, q, u, v, x, y, z)
 
--- Slot j is given a state and a word.
-module _ (old : List ℕ) (j s w : ℕ) (i : 2 * j + 1 < length old) where
-  abbrev after : List ℕ
-  after = set (set old (2 * j) s) (2 * j + 1) w
+-- Slot j is given what x says.
+module _ (old : List Slot) (j : ℕ) (x : Slot) (i : j < length old) where
+  said_before : (v : Said) (h : Says (set old j x) v) → Dec (h.slot ≡ j) → Says old v ⊎ (v ≡ said_by x)
+  said_before v h (yes e) = inr (sym h.says ∙ ap said_by (ap (λ (k : ℕ). get_or (set old j x) k empty) e ∙ get_or-set_same old j x empty i))
+  said_before v h (no e) = inl (record { slot = h.slot; inside = omega (arith, h.inside, length-set old j x); says = ap said_by (sym (get_or-set_other old j h.slot x empty (λ q. e (omega arith)))) ∙ h.says; some = h.some })
 
-  long_after : length after ≡ length old
-  long_after = simp length-set
-
-  said_here : said_by (get_or after (2 * j) 0) (get_or after (2 * j + 1) 0) ≡ said_by s w
-  said_here = let a = get_or-set_other (set old (2 * j) s) (2 * j + 1) (2 * j) w 0 (λ e. omega arith) ∙ get_or-set_same old (2 * j) s 0 (omega arith) in
-      let b = get_or-set_same (set old (2 * j) s) (2 * j + 1) w 0 (omega (arith, length-set old (2 * j) s)) in
-      rw (a, b)
-
-  said_elsewhere : (k : ℕ) → (k ≡ j → ⊥) → said_by (get_or after (2 * k) 0) (get_or after (2 * k + 1) 0) ≡ said_by (get_or old (2 * k) 0) (get_or old (2 * k + 1) 0)
-  said_elsewhere k n = let a = get_or-set_other (set old (2 * j) s) (2 * j + 1) (2 * k) w 0 (λ e. omega arith) ∙ get_or-set_other old (2 * j) (2 * k) s 0 (λ e. n (omega arith)) in
-      let b = get_or-set_other (set old (2 * j) s) (2 * j + 1) (2 * k + 1) w 0 (λ e. n (omega arith)) ∙ get_or-set_other old (2 * j) (2 * k + 1) s 0 (λ e. omega arith) in
-      rw (a, b)
-
-  said_before : (v : Said) (h : Says after v) → Dec (h.slot ≡ j) → Says old v ⊎ (v ≡ said_by s w)
-  said_before v h (yes e) = inr (sym h.says ∙ ap (λ (k : ℕ). said_by (get_or after (2 * k) 0) (get_or after (2 * k + 1) 0)) e ∙ said_here)
-  said_before v h (no e) = inl (record { slot = h.slot; inside = omega (arith, h.inside, long_after); says = sym (said_elsewhere h.slot e) ∙ h.says; some = h.some })
-
-pub slot_noted : (old : List ℕ) (j s d k n b word : ℕ) → 2 * j + 1 < length old → d < 256 → k < 1048576 → n < 1048576 → b < 256 → word ≡ result_word d k n b →
-    Noted old (set (set old (2 * j) s) (2 * j + 1) word) (said s d k n b)
+pub slot_noted : (old : List Slot) (j s d k n b word : ℕ) → j < length old → d < 256 → k < 1048576 → n < 1048576 → b < 256 → word ≡ result_word d k n b →
+    Noted old (set old j (record { state = s; word = word })) (said s d k n b)
 slot_noted old j s d k n b word l p q t f e = record {
-  long = long_after old j s word l;
-  besides = λ v h. rw (e, word_said s d k n b p q t f) at (said_before old j s word l v h (ℕ_discrete h.slot j));
+  long = length-set old j _;
+  besides = λ v h. rw (e, word_said s d k n b p q t f) at (said_before old j (record { state = s; word = word }) l v h (ℕ_discrete h.slot j));
 }
 
 -- A memory stays true that was made to say something that is so.
-pub noted_remembers : (r : ℕ → ℕ → ℕ → Result Plan) (budget : ℕ) (old new : List ℕ) (w : Said) → Remembers r budget old → Noted old new w → Shown r budget w → Remembers r budget new
+pub noted_remembers : (r : ℕ → ℕ → ℕ → Result Plan) (budget : ℕ) (old new : List Slot) (w : Said) → Remembers r budget old → Noted old new w → Shown r budget w → Remembers r budget new
 noted_remembers r budget old new w m n h = record { long = omega (arith, n.long, m.long); shown = λ v t. ⊎_elim (λ a. m.shown v a) (λ e. rw e h) (n.besides v t) }
 
 -- An examination that ended at one count ends so at every count, after as many examinations.
-module _ (Y : System ℕ) (h : ℕ → ℕ∞) (budget d s count c : ℕ) (old new : List ℕ) (m : Remembers (examination Y h budget) budget old) (g : count ≤ c) where
+module _ (Y : System ℕ) (h : ℕ → ℕ∞) (budget d s count c : ℕ) (old new : List Slot) (m : Remembers (examination Y h budget) budget old) (g : count ≤ c) where
   pub failure_remembered : Noted old new (said s d (c - count) 0 0) → examination Y h budget d s count ≡ failed c → Remembers (examination Y h budget) budget new
   failure_remembered n e = let z : c ≡ count + (c - count) = omega arith in
       noted_remembers (examination Y h budget) budget old new _ m n (record { fails = λ q c' b. failed_anywhere Y h budget d s count (c - count) c' (e ∙ ap failed z) b; wins = λ q. absurd (omega arith) })

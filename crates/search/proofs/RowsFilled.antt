@@ -139,14 +139,14 @@ needed_after zs (q ∷ ps) (suc p) h = let k = needed_after zs ps p (omega arith
 -- Patterns below p have their rows and offsets, and the next table begins at `begin`.
 pub record FillingRows (zs : List ℕ) (ps : List (List ℕ)) (rows offsets : List ℕ) (begin p : ℕ) : Type 0 where
   pub passed : p ≤ length ps
-  pub long : length offsets ≡ 80
+  pub long : length offsets ≡ 8
   pub begun : begin ≡ entries_needed zs (take p ps)
   pub bounded : begin ≤ 4096 * p
   pub entry : (q v x : ℕ) → q < p → v < length zs → x < 16 → row_entry rows v x q ≡ x * weight_at zs (get_or ps q []) v
   pub offset : (q : ℕ) → q < p → get_or offsets q 0 ≡ entries_needed zs (take q ps)
 
 module _ (zs : List ℕ) (ps : List (List ℕ)) where
-  pub rows_begin : (rows offsets : List ℕ) → length offsets ≡ 80 → FillingRows zs ps rows offsets 0 0
+  pub rows_begin : (rows offsets : List ℕ) → length offsets ≡ 8 → FillingRows zs ps rows offsets 0 0
   unfolding entries_needed
   rows_begin rows offsets l = record {
     passed = omega arith;

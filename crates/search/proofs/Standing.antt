@@ -1,54 +1,41 @@
 -- Laws of plans that stand in the buffer: none do at first, bytes written behind them leave them, one may be noted, and a copy of one is that plan
 -- written. Assumes nothing.
-use Rattle.std.proofs.Common.{◌≡◌, ℕ, ◌+◌, ◌*◌, ◌<◌, ◌≤◌, List, length, get_or, set, replicate, refl, ap, ◌∙◌, ⊎_elim, arith, length-set, get_or-set_other, get_or-set_same}
+use Rattle.std.proofs.Common.{◌≡◌, ℕ, ◌+◌, ◌-◌, ◌*◌, ◌<◌, ◌≤◌, List, length, get_or, set, replicate, refl, ap, ◌∙◌, ⊎_elim, arith, length-set, get_or-set_other, get_or-set_same}
 use native.Mathlib.Decide.{ℕ_discrete}
 use lib.ListN.{length-replicate}
 use Rattle.planning.specs.Plan.{Plan, encode}
 use Rattle.planning.specs.Search.{Result, succeeded}
-use Rattle.task_record.proofs.Sixteens.{zeros}
 use Rattle.search.specs.Buffer.{Keeps, Holds}
 use Rattle.search.specs.Examination.{plan_size}
-use Rattle.search.specs.Memory.{Said, said, said_by, Says, Noted, Remembers}
+use Rattle.search.specs.Memory.{said, empty, Says, Noted, Remembers}
+use Rattle.search.proofs.Remembering.{nothing_said}
 use Rattle.search.specs.Written.{Stands, Copied, Written}
 use Rattle.search.proofs.Bytes.{keeps_stored}
+use Rattle.search.specs.declared.memory.Slot.{Slot}
 
 pub same_plan : {x : Result Plan} {p q : Plan} {i j : ℕ} → x ≡ succeeded p i → x ≡ succeeded q j → p ≡ q
 same_plan a b = cc
 
-pub copying_begins : (from to : ℕ) (a : List ℕ) → Copied from to 0 a a
+-- Bytes that were copied, as the library says it.
+pub copied_within : (old new : List ℕ) (from to n : ℕ) → ((k d : ℕ) → to ≤ k → k < to + (from + n - from) → get_or new k d ≡ get_or old (from + (k - to)) d) →
+    ((k d : ℕ) → k < to → get_or new k d ≡ get_or old k d) → Copied from to n old new
 unfolding Keeps
-copying_begins from to a = record { keeps = λ i h. refl; copies = λ i h. absurd (omega arith) }
-
-module _ {from to i : ℕ} {old new : List ℕ} (v : Copied from to i old new) where
-  pub copying_goes_on : from + i < to → to + i < length new → Copied from to (i + 1) old (set new (to + i) (get_or new (from + i) 0))
-  unfolding Keeps
-  copying_goes_on l h = record {
-    keeps = λ j u. get_or-set_other new (to + i) j _ 0 (λ e. omega arith) ∙ v.keeps j u;
-    copies = λ j u. byte_at j (ℕ_discrete j i) u;
-  }
-    where
-      byte_at : (j : ℕ) → Dec (j ≡ i) → j < i + 1 → get_or (set new (to + i) (get_or new (from + i) 0)) (to + j) 0 ≡ get_or old (from + j) 0
-      byte_at j (yes e) u = rw e (get_or-set_same new (to + i) _ 0 h ∙ v.keeps (from + i) l)
-      byte_at j (no e) u = get_or-set_other new (to + i) (to + j) _ 0 (λ q. e (omega arith)) ∙ v.copies j (omega arith)
-
-  pub copied_all : (n : ℕ) → n ≤ i → Copied from to n old new
-  copied_all n l = record { keeps = v.keeps; copies = λ j u. v.copies j (omega arith) }
-
-nothing_said : (n : ℕ) (w : Said) → Says (replicate n 0) w → ⊥
-unfolding said_by
-nothing_said n w h = omega (arith, h.some, ap (λ (v : Said). v.made) h.says, zeros n (2 * h.slot + 1))
+copied_within old new from to n e s = record {
+  keeps = λ i h. s i 0 h;
+  copies = λ i h. let z : from + (to + i - to) ≡ from + i = omega arith in e (to + i) 0 (omega arith) (omega arith) ∙ ap (λ (j : ℕ). get_or old j 0) z;
+}
 
 module _ (r : ℕ → ℕ → ℕ → Result Plan) where
-  -- Words that are 0 speak of no plan.
-  pub nothing_stands : (n : ℕ) (plan : List ℕ) → 2 ≤ n → Stands r (replicate n 0) plan 0
+  -- Empty slots speak of no plan.
+  pub nothing_stands : (n : ℕ) (plan : List ℕ) → 1 ≤ n → Stands r (replicate n empty) plan 0
   nothing_stands n plan l = record {
-    long = omega (arith, length-replicate {A = ℕ} n 0);
+    long = omega (arith, length-replicate {A = Slot} n empty);
     before = λ w h. absurd (nothing_said n w h);
     sized = λ w h. absurd (nothing_said n w h);
     holds = λ w h. absurd (nothing_said n w h);
   }
 
-  module _ {written plan : List ℕ} {at : ℕ} (v : Stands r written plan at) where
+  module _ {written : List Slot} {plan : List ℕ} {at : ℕ} (v : Stands r written plan at) where
     -- Bytes written from `at` on leave those before.
     pub still_stands : (new : List ℕ) (end : ℕ) → Keeps at plan new → length new ≡ length plan → at ≤ end → Stands r written new end
     unfolding Keeps Holds
@@ -63,7 +50,7 @@ module _ (r : ℕ → ℕ → ℕ → Result Plan) where
     stands_stored new byte e = rw e (still_stands (set plan at byte) (at + 1) (keeps_stored at byte plan) (length-set plan at byte) (omega arith))
 
     -- The plan p of a state with a depth was written from `from` on, and noted.
-    pub stands_noted : (later : List ℕ) (s d n from b k : ℕ) (p : Plan) → Noted written later (said s d n from b) → r d s 0 ≡ succeeded p k → plan_size p ≡ n → from + n ≤ at → Holds (encode p) from plan → Stands r later plan at
+    pub stands_noted : (later : List Slot) (s d n from b k : ℕ) (p : Plan) → Noted written later (said s d n from b) → r d s 0 ≡ succeeded p k → plan_size p ≡ n → from + n ≤ at → Holds (encode p) from plan → Stands r later plan at
     stands_noted later s d n from b k p t e z l f = record {
       long = omega (arith, t.long, v.long);
       before = λ w h. ⊎_elim (λ a. v.before w a) (λ i. rw i l) (t.besides w h);
@@ -79,7 +66,7 @@ module _ (r : ℕ → ℕ → ℕ → Result Plan) where
       pub stands_sized : plan_size p ≡ n
       stands_sized = v.sized _ h p k e
 
-      pub copy_written : (budget : ℕ) (memory new : List ℕ) → Remembers r budget memory → Copied from at n plan new → length new ≡ length plan → Written r budget p at memory written plan new (at + n)
+      pub copy_written : (budget : ℕ) (memory : List Slot) (new : List ℕ) → Remembers r budget memory → Copied from at n plan new → length new ≡ length plan → Written r budget p at memory written plan new (at + n)
       unfolding Holds
       copy_written budget memory new m t q = let z = stands_sized in let l = stands_before in record {
         after = omega arith;

@@ -1,80 +1,63 @@
 -- Refusal 11, "found plan longer than buffer: bytes needed": a buffer of as many bytes gets the plan, and the one lent holds 255 alone.
 -- Assumes nothing.
-use Rattle.std.proofs.Common.{◌≡◌, ℕ, ◌<◌, ltb, leb, List, length, replicate, refl, ap, ◌∙◌, le_refl, arith, le-leb, leb-false, leb-true}
+use Rattle.std.proofs.Common.{◌≡◌, ℕ, ◌<◌, ltb, leb, List, length, replicate, Ok, Err, refl, ap, ◌∙◌, le_refl, arith, le-leb, leb-false, leb-true}
 use Rattle.planning.specs.Pattern.{Verdict, additive, conflict, verdict}
 use Rattle.planning.specs.Plan.{Plan, encode}
 use Rattle.planning.specs.Search.{found, over, spent, none}
 use Rattle.planning.specs.Search as planning
 use Rattle.planning.proofs.Test.{by_test}
+use mathlib.Core.Logic.{⊎_elim}
+use Rattle.planning.specs.Numbers.{refusal}
 use Rattle.task_record.specs.Record.{record_check}
+use Rattle.task_record.specs.declared.refusal.Refusal.TheVariants.{ShortPlan}
 use Rattle.task_record.specs.TaskOf.{task_of, patterns_of}
-use Rattle.task_record.specs.declared.record.RecordCheck.{RecordCheck}
-use Rattle.task_record.specs.declared.record.RecordCheck.TheVariants as of-record
 use Rattle.patterns.specs.Additivity.{additivity_of}
 use Rattle.patterns.specs.Space.{first_large, entries_needed, judge_tables}
-use Rattle.patterns.specs.Estimate.{after_verdict, after_tables, after_record, judge_estimate, estimate_check}
-use Rattle.patterns.specs.declared.space.TableCheck.{TableCheck}
-use Rattle.patterns.specs.declared.space.TableCheck.TheVariants as of-tables
-use Rattle.patterns.specs.declared.estimate.EstimateCheck.{EstimateCheck}
-use Rattle.patterns.specs.declared.estimate.EstimateCheck.TheVariants as of-estimate
-use Rattle.patterns.proofs.Refusals.{record_number}
+use Rattle.patterns.specs.Estimate.{after_verdict, judge_estimate, estimate_check}
+use Rattle.patterns.proofs.Refusals.{after_err, record_number}
 use Rattle.search.specs.Answer.{buffer_of}
-use Rattle.search.specs.Entry.{task_answer, search_of, after_estimate, search_answer, plan_after}
-use Rattle.search.specs.declared.entry.SearchAnswer.{SearchAnswer}
+use Rattle.search.specs.Entry.{task_answer, search_of, search_answer, plan_after}
 use Rattle.search.specs.declared.entry.SearchAnswer.TheVariants as outcome
 use Rattle.search.proofs.Prepared.{search_ready, plan_ready}
 
--- The refusals before the search have numbers below 10.
-tables-number : (zs : List ℕ) (ps : List (List ℕ)) (lent n x : ℕ) → judge_tables zs ps lent ≡ of-tables.Refused n x → n < 10
+-- The refusals before the search are others.
+tables-refusal : (zs : List ℕ) (ps : List (List ℕ)) (lent k : ℕ) → judge_tables zs ps lent ≡ Err (ShortPlan k) → ⊥
 unfolding judge_tables
-tables-number zs ps lent n x h = by_test (ltb (first_large 0 zs ps) (length ps))
-    (λ e. let g = rw e at h in let k : 7 ≡ n = cc in omega arith)
+tables-refusal zs ps lent k h = by_test (ltb (first_large 0 zs ps) (length ps))
+    (λ e. let g = rw e at h in let z : ◌≡◌ {A = ℕ} 0 1 = cc in absurd (omega arith))
     (λ e. by_test (ltb lent (entries_needed zs ps))
-    (λ f. let g = rw (e, f) at h in let k : 8 ≡ n = cc in omega arith)
+    (λ f. let g = rw (e, f) at h in let z : ◌≡◌ {A = ℕ} 0 1 = cc in absurd (omega arith))
     (λ f. let g = rw (e, f) at h in let z : ◌≡◌ {A = ℕ} 0 1 = cc in absurd (omega arith)))
 
-verdict-number : (v : Verdict) (n x : ℕ) → after_verdict (additivity_of v) ≡ of-estimate.Refused n x → n < 10
-unfolding after_verdict additivity_of
-verdict-number additive n x h = let z : ◌≡◌ {A = ℕ} 0 1 = cc in absurd (omega arith)
-verdict-number (conflict m p q) n x h = let k : 9 ≡ n = cc in omega arith
+verdict-refusal : (v : Verdict) (k : ℕ) → after_verdict (additivity_of v) ≡ Err (ShortPlan k) → ⊥
+unfolding additivity_of
+verdict-refusal additive k h = let z : ◌≡◌ {A = ℕ} 0 1 = cc in absurd (omega arith)
+verdict-refusal (conflict m p q) k h = let z : ◌≡◌ {A = ℕ} 0 1 = cc in absurd (omega arith)
 
-judged_number : (a : TableCheck) (j : EstimateCheck) (n x : ℕ) → (a ≡ of-tables.Refused n x → n < 10) → (j ≡ of-estimate.Refused n x → n < 10) →
-    after_tables a j ≡ of-estimate.Refused n x → n < 10
-unfolding after_tables
-judged_number (of-tables.Fits m) j n x f g h = g h
-judged_number (of-tables.Refused m y) j n x f g h = let k : m ≡ n = cc in let l : y ≡ x = cc in f (rw (k, l))
+record-refusal : (r : List ℕ) (k : ℕ) → record_check r ≡ Err (ShortPlan k) → ⊥
+unfolding refusal
+record-refusal r k h = let n = record_number r (ShortPlan k) h in omega (arith, n)
 
-checked_number : (a : RecordCheck) (j : EstimateCheck) (n x : ℕ) → (a ≡ of-record.Refused n x → n < 10) → (j ≡ of-estimate.Refused n x → n < 10) →
-    after_record a j ≡ of-estimate.Refused n x → n < 10
-unfolding after_record
-checked_number of-record.Sound j n x f g h = g h
-checked_number (of-record.Refused m y) j n x f g h = let k : m ≡ n = cc in let l : y ≡ x = cc in f (rw (k, l))
-
-pub estimate-number : (r : List ℕ) (lent n x : ℕ) → estimate_check r lent ≡ of-estimate.Refused n x → n < 10
-unfolding estimate_check judge_estimate
-estimate-number r lent n x h = checked_number (record_check r) (judge_estimate r lent) n x (record_number r n x)
-    (judged_number (judge_tables (task_of r).sizes (patterns_of r) lent) (after_verdict (additivity_of (verdict (task_of r) (patterns_of r)))) n x
-    (tables-number (task_of r).sizes (patterns_of r) lent n x) (verdict-number (verdict (task_of r) (patterns_of r)) n x)) h
+pub estimate-refusal : (r : List ℕ) (lent k : ℕ) → estimate_check r lent ≡ Err (ShortPlan k) → ⊥
+unfolding judge_estimate
+estimate-refusal r lent k h = ⊎_elim (λ a. record-refusal r k a)
+    (λ a. ⊎_elim (λ b. tables-refusal (task_of r).sizes (patterns_of r) lent k b) (λ b. verdict-refusal (verdict (task_of r) (patterns_of r)) k b.2)
+    (after_err (judge_tables (task_of r).sizes (patterns_of r) lent) (λ n. after_verdict (additivity_of (verdict (task_of r) (patterns_of r)))) (ShortPlan k) a.2))
+    (after_err (record_check r) (λ u. judge_estimate r lent) (ShortPlan k) h)
 
 -- So 11 comes from the search, and planning's search has found.
-passed-estimate : (e : EstimateCheck) (y : Unit {0} → SearchAnswer) (k : ℕ) → ((n x : ℕ) → e ≡ of-estimate.Refused n x → n < 10) →
-    after_estimate e y ≡ outcome.Refused 11 k → (e ≡ of-estimate.Ready) × (y tt ≡ outcome.Refused 11 k)
-unfolding after_estimate
-passed-estimate of-estimate.Ready y k f h = (refl, h)
-passed-estimate (of-estimate.Refused n x) y k f h = let l = f n x refl in let e : n ≡ 11 = cc in absurd (omega arith)
-
-answer_too_long : (n : ℕ) (a : planning.Answer) (k : ℕ) → search_of n a ≡ outcome.Refused 11 k →
+answer_too_long : (n : ℕ) (a : planning.Answer) (k : ℕ) → search_of n a ≡ Err (ShortPlan k) →
     (p : Plan) × ((d : ℕ) × ((c : ℕ) × ((a ≡ found p d c) × (length (encode p) ≡ k) × (n < k))))
 unfolding search_of
 answer_too_long n (found p d c) k h = by_test (leb (length (encode p)) n)
     (λ t. let g = rw t at h in let z : ◌≡◌ {A = ℕ} 0 1 = cc in absurd (omega arith))
-    (λ t. let g : outcome.Refused 11 (length (encode p)) ≡ outcome.Refused 11 k = rw t at h in let e : length (encode p) ≡ k = cc in
+    (λ t. let g = rw t at h in let e : length (encode p) ≡ k = cc in
     let l = leb-false (length (encode p)) n t in (p, (d, (c, (refl, e, omega arith)))))
 answer_too_long n (over c) k h = let z : ◌≡◌ {A = ℕ} 0 1 = cc in absurd (omega arith)
 answer_too_long n (spent d c) k h = let z : ◌≡◌ {A = ℕ} 0 1 = cc in absurd (omega arith)
 answer_too_long n (none b) k h = let z : ◌≡◌ {A = ℕ} 0 1 = cc in absurd (omega arith)
 
-search_with_room : (p : Plan) (d c k : ℕ) → length (encode p) ≡ k → search_of k (found p d c) ≡ outcome.Found d c k
+search_with_room : (p : Plan) (d c k : ℕ) → length (encode p) ≡ k → search_of k (found p d c) ≡ Ok (outcome.Found d c k)
 unfolding search_of
 search_with_room p d c k e = rw (e, le-leb k k (le_refl k))
 
@@ -82,14 +65,14 @@ buffer_too_short : (n : ℕ) (p : Plan) (d c : ℕ) → n < length (encode p) �
 unfolding buffer_of
 buffer_too_short n p d c l = by_test (leb (length (encode p)) n) (λ t. absurd (omega (arith, leb-true (length (encode p)) n t))) (λ t. rw t)
 
-module _ (r tabs buffer : List ℕ) (k : ℕ) (h : search_answer r (length tabs) (length buffer) ≡ outcome.Refused 11 k) where
-  refused_by_search : (estimate_check r (length tabs) ≡ of-estimate.Ready) × (search_of (length buffer) (task_answer r) ≡ outcome.Refused 11 k)
+module _ (r tabs buffer : List ℕ) (k : ℕ) (h : search_answer r (length tabs) (length buffer) ≡ Err (ShortPlan k)) where
+  refused_by_search : (estimate_check r (length tabs) ≡ Ok tt) × (search_of (length buffer) (task_answer r) ≡ Err (ShortPlan k))
   unfolding search_answer
-  refused_by_search = passed-estimate (estimate_check r (length tabs)) (λ u. search_of (length buffer) (task_answer r)) k
-      (estimate-number r (length tabs)) h
+  refused_by_search = ⊎_elim (λ a. absurd (estimate-refusal r (length tabs) k a)) (λ a. (a.1, a.2))
+      (after_err (estimate_check r (length tabs)) (λ u. search_of (length buffer) (task_answer r)) (ShortPlan k) h)
 
   -- "bytes needed": more than were lent, and with as many the same search answers found.
-  pub too_long_needs : (length buffer < k) × ((d : ℕ) × ((c : ℕ) × (search_answer r (length tabs) k ≡ outcome.Found d c k)))
+  pub too_long_needs : (length buffer < k) × ((d : ℕ) × ((c : ℕ) × (search_answer r (length tabs) k ≡ Ok (outcome.Found d c k))))
   too_long_needs = let a = refused_by_search in let b = answer_too_long (length buffer) (task_answer r) k a.1 in (
     b.1.1.1.2,
     (

@@ -14,10 +14,10 @@ use Rattle.planning.proofs.Shift.{succeeded_anywhere}
 use Rattle.tables.specs.Packed.{action_weight, outcome_count, keep_mask, set_value, goal_mask, goal_value, packed_system}
 use Rattle.search.specs.declared.examine.Opening.{Opening}
 use Rattle.search.specs.declared.examine.Ending.{Ending}
+use Rattle.search.specs.declared.instance.Instance.{Instance}
 use Rattle.search.specs.declared.examine.Ending.TheVariants.{Stopped, Failed, Succeeded}
 use Rattle.search.specs.Buffer.{Keeps, Holds}
-use Rattle.search.specs.Examination.{plan_size, plan_head, plans_size, Guided}
-use Rattle.search.specs.Guide.{actions_in, budget_in}
+use Rattle.search.specs.Examination.{plan_size, plan_head, plans_size}
 use Rattle.search.specs.Memory.{said, Says, Noted, Remembers}
 use Rattle.search.specs.Packed.{guided_examination, guided_opening, guided_value}
 use Rattle.search.specs.Value.{Estimated}
@@ -27,8 +27,8 @@ use Rattle.search.proofs.Bytes.{keeps_itself, keeps_trans, keeps_stored, holds_s
 use Rattle.search.proofs.Openings.{packed_invariant, spent_stops, arrived_succeeds, cut_fails, expand_facts, opened_below, packed_goal, arrived_not_spent, expand_tries_all, successors_step, successors_end}
 use Rattle.search.proofs.Endings.{Success, told_success, told_failure, told_stop, arrived_size, arrived_head}
 use Rattle.search.proofs.Trying.{not_zero}
-use Rattle.search.proofs.Examining.{Same}
 use Rattle.search.proofs.Standing.{same_plan, stands_stored, stands_noted}
+use Rattle.search.specs.declared.memory.Slot.{Slot}
 
 stop_no_success : {x : Result Plan} {p : Plan} {i j : ℕ} → x ≡ stopped i → x ≡ succeeded p j → ⊥
 stop_no_success a b = let z : ◌≡◌ {A = ℕ} 0 1 = cc in omega arith
@@ -69,98 +69,98 @@ chosen_acts true false x j m c ps e h = let z : ◌≡◌ {A = ℕ} 0 1 = cc in 
 chosen_acts false b x j m c ps e h = let z : ◌≡◌ {A = ℕ} 0 1 = cc in absurd (omega arith)
 
 -- What a success with action m tells: the action is one of the task's and within the depth, and its outcomes succeed from some count.
-pub record Acts (task rows guide tables : List ℕ) (d s m : ℕ) (p : Plan) : Type 0 where
+pub record Acts (instance : Instance) (d s m : ℕ) (p : Plan) : Type 0 where
   pub rest : Plans
   pub is : p ≡ act m rest
-  pub within : m < actions_in guide
-  pub light : action_weight task m ≤ d
+  pub within : m < instance.guide.actions
+  pub light : action_weight instance.task.now m ≤ d
   pub from : ℕ
   pub to : ℕ
-  pub succeeds : examine_outcomes (guided_examination task rows guide tables (d - action_weight task m)) ((packed_system task (actions_in guide)).successors m s) from ≡ succeeded rest to
-  pub budgeted : to ≤ budget_in guide
+  pub succeeds : examine_outcomes (guided_examination instance (d - action_weight instance.task.now m)) ((packed_system instance.task.now instance.guide.actions).successors m s) from ≡ succeeded rest to
+  pub budgeted : to ≤ instance.guide.budget
 
-acting : {task rows guide tables : List ℕ} {d s : ℕ} (j from m : ℕ) (ps : Plans) (e : ℕ) → e ≤ budget_in guide → j < actions_in guide →
-    (j ≡ m) × (leb (action_weight task j) d ≡ true) × (examine_outcomes (guided_examination task rows guide tables (d - action_weight task j)) ((packed_system task (actions_in guide)).successors j s) from ≡ succeeded ps e) → Acts task rows guide tables d s m (act m ps)
-acting {task} {d = d} j from m ps e l b t = rw (← t.0) (record { rest = ps; is = refl; within = b; light = leb-true (action_weight task j) d t.1; from = from; to = e; succeeds = t.2; budgeted = l })
+acting : {instance : Instance} {d s : ℕ} (j from m : ℕ) (ps : Plans) (e : ℕ) → e ≤ instance.guide.budget → j < instance.guide.actions →
+    (j ≡ m) × (leb (action_weight instance.task.now j) d ≡ true) × (examine_outcomes (guided_examination instance (d - action_weight instance.task.now j)) ((packed_system instance.task.now instance.guide.actions).successors j s) from ≡ succeeded ps e) → Acts instance d s m (act m ps)
+acting {instance} {d = d} j from m ps e l b t = rw (← t.0) (record { rest = ps; is = refl; within = b; light = leb-true (action_weight instance.task.now j) d t.1; from = from; to = e; succeeds = t.2; budgeted = l })
 
-module _ {task sets places rows guide tables memory : List ℕ} {s d : ℕ} (x : Succeeding task sets places rows guide tables memory s d) where
-  opens : (m : ℕ) (ps : Plans) (e : ℕ) (o : Opening) → guided_opening task rows guide tables d s 0 ≡ o → guided_examination task rows guide tables d s 0 ≡ succeeded (act m ps) e → guided_opening task rows guide tables d s 0 ≡ Opening.Expand
-  opens m ps e Opening.Spent o h = let q = sym h ∙ spent_stops _ (packed_invariant task (actions_in guide) x.guided.ready.weights) _ _ _ _ _ o in let z : ◌≡◌ {A = ℕ} 0 1 = cc in absurd (omega arith)
-  opens m ps e Opening.Arrived o h = let q = sym h ∙ arrived_succeeds _ (packed_invariant task (actions_in guide) x.guided.ready.weights) _ _ _ _ _ o in let z : ◌≡◌ {A = ℕ} 0 1 = cc in absurd (omega arith)
-  opens m ps e Opening.Cut o h = let q = sym h ∙ cut_fails _ (packed_invariant task (actions_in guide) x.guided.ready.weights) _ _ _ _ _ o in let z : ◌≡◌ {A = ℕ} 0 1 = cc in absurd (omega arith)
+module _ {instance : Instance} {memory : List Slot} {s d : ℕ} (x : Succeeding instance memory s d) where
+  opens : (m : ℕ) (ps : Plans) (e : ℕ) (o : Opening) → guided_opening instance d s 0 ≡ o → guided_examination instance d s 0 ≡ succeeded (act m ps) e → guided_opening instance d s 0 ≡ Opening.Expand
+  opens m ps e Opening.Spent o h = let q = sym h ∙ spent_stops _ (packed_invariant instance.task.now instance.guide.actions instance.guided.ready.weights) _ _ _ _ _ o in let z : ◌≡◌ {A = ℕ} 0 1 = cc in absurd (omega arith)
+  opens m ps e Opening.Arrived o h = let q = sym h ∙ arrived_succeeds _ (packed_invariant instance.task.now instance.guide.actions instance.guided.ready.weights) _ _ _ _ _ o in let z : ◌≡◌ {A = ℕ} 0 1 = cc in absurd (omega arith)
+  opens m ps e Opening.Cut o h = let q = sym h ∙ cut_fails _ (packed_invariant instance.task.now instance.guide.actions instance.guided.ready.weights) _ _ _ _ _ o in let z : ◌≡◌ {A = ℕ} 0 1 = cc in absurd (omega arith)
   opens m ps e Opening.Expand o h = o
 
-  acts_so : (m : ℕ) (ps : Plans) (e : ℕ) → guided_examination task rows guide tables d s 0 ≡ succeeded (act m ps) e → e ≤ budget_in guide → Acts task rows guide tables d s m (act m ps)
+  acts_so : (m : ℕ) (ps : Plans) (e : ℕ) → guided_examination instance d s 0 ≡ succeeded (act m ps) e → e ≤ instance.guide.budget → Acts instance d s m (act m ps)
   unfolding try_action packed_system
   acts_so m ps e h l =
-      let o = opens m ps e (guided_opening task rows guide tables d s 0) refl h in
-      let w = winner _ _ _ _ _ _ (sym (expand_tries_all task (actions_in guide) _ _ _ _ _ x.guided.ready.weights o) ∙ h) in
+      let o = opens m ps e (guided_opening instance d s 0) refl h in
+      let w = winner _ _ _ _ _ _ (sym (expand_tries_all instance.task.now instance.guide.actions _ _ _ _ _ instance.guided.ready.weights o) ∙ h) in
       acting w.action w.count m ps e l (omega (arith, w.below))
-      (chosen_acts (applies (packed_system task (actions_in guide)) w.action s) (leb (action_weight task w.action) d) (examine_outcomes (guided_examination task rows guide tables (d - action_weight task w.action)) ((packed_system task (actions_in guide)).successors w.action s) w.count) w.action m w.count ps e w.wins)
+      (chosen_acts (applies (packed_system instance.task.now instance.guide.actions) w.action s) (leb (action_weight instance.task.now w.action) d) (examine_outcomes (guided_examination instance (d - action_weight instance.task.now w.action)) ((packed_system instance.task.now instance.guide.actions).successors w.action s) w.count) w.action m w.count ps e w.wins)
 
   -- A goal's plan is one byte.
-  goal_told : (packed_system task (actions_in guide)).goal s ≡ true → (o : Opening) → guided_opening task rows guide tables d s 0 ≡ o → (p : Plan) (k : ℕ) → guided_examination task rows guide tables d s 0 ≡ succeeded p k → (plan_size p ≡ 1) × (plan_head p ≡ 254) × (k ≤ budget_in guide)
-  goal_told g Opening.Spent o p k h = absurd (stop_no_success (spent_stops _ (packed_invariant task (actions_in guide) x.guided.ready.weights) _ _ _ _ _ o) h)
-  goal_told g Opening.Cut o p k h = absurd (failure_no_success (cut_fails _ (packed_invariant task (actions_in guide) x.guided.ready.weights) _ _ _ _ _ o) h)
-  goal_told g Opening.Expand o p k h = let n = (expand_facts _ (packed_invariant task (actions_in guide) x.guided.ready.weights) _ _ _ _ _ o (omega arith)).1 in let z : ◌≡◌ {A = ℕ} 0 1 = cc in absurd (omega arith)
-  goal_told g Opening.Arrived o p k h = let I = packed_invariant task (actions_in guide) x.guided.ready.weights in let q = sym (arrived_succeeds _ I _ _ _ _ _ o) ∙ h in let e : arrived ≡ p = cc in let n : suc 0 ≡ k = cc in
+  goal_told : (packed_system instance.task.now instance.guide.actions).goal s ≡ true → (o : Opening) → guided_opening instance d s 0 ≡ o → (p : Plan) (k : ℕ) → guided_examination instance d s 0 ≡ succeeded p k → (plan_size p ≡ 1) × (plan_head p ≡ 254) × (k ≤ instance.guide.budget)
+  goal_told g Opening.Spent o p k h = absurd (stop_no_success (spent_stops _ (packed_invariant instance.task.now instance.guide.actions instance.guided.ready.weights) _ _ _ _ _ o) h)
+  goal_told g Opening.Cut o p k h = absurd (failure_no_success (cut_fails _ (packed_invariant instance.task.now instance.guide.actions instance.guided.ready.weights) _ _ _ _ _ o) h)
+  goal_told g Opening.Expand o p k h = let n = (expand_facts _ (packed_invariant instance.task.now instance.guide.actions instance.guided.ready.weights) _ _ _ _ _ o (omega arith)).1 in let z : ◌≡◌ {A = ℕ} 0 1 = cc in absurd (omega arith)
+  goal_told g Opening.Arrived o p k h = let I = packed_invariant instance.task.now instance.guide.actions instance.guided.ready.weights in let q = sym (arrived_succeeds _ I _ _ _ _ _ o) ∙ h in let e : arrived ≡ p = cc in let n : suc 0 ≡ k = cc in
       let b = opened_below _ I _ _ _ _ _ o arrived_not_spent (omega arith) in rw (← e) (arrived_size, arrived_head, omega arith)
 
-  pub goal_starts : {b : Bool} → b ≡ eqb (bit_and s (goal_mask task)) (goal_value task) → b ≡ true → Starts (guided_examination task rows guide tables) (budget_in guide) d s memory 1 254
-  goal_starts e t = record { told = λ p k h. goal_told (packed_goal task (actions_in guide) s e ∙ t) (guided_opening task rows guide tables d s 0) refl p k h; remembers = x.remembers }
+  pub goal_starts : {b : Bool} → b ≡ eqb (bit_and s (goal_mask instance.task.now)) (goal_value instance.task.now) → b ≡ true → Starts (guided_examination instance) instance.guide.budget d s memory 1 254
+  goal_starts e t = record { told = λ p k h. goal_told (packed_goal instance.task.now instance.guide.actions s e ∙ t) (guided_opening instance d s 0) refl p k h; remembers = x.remembers }
 
   -- What the slot of the state says of its plan.
-  pub recalled_starts : {k n b : ℕ} → Says memory (said s d k n b) → k ≤ budget_in guide → Starts (guided_examination task rows guide tables) (budget_in guide) d s memory n b
+  pub recalled_starts : {k n b : ℕ} → Says memory (said s d k n b) → k ≤ instance.guide.budget → Starts (guided_examination instance) instance.guide.budget d s memory n b
   recalled_starts {k} {n} {b} h l = record { told = λ p j f. by_size p j f (ℕ_discrete n 0); remembers = x.remembers }
     where
-      by_size : (p : Plan) (j : ℕ) → guided_examination task rows guide tables d s 0 ≡ succeeded p j → Dec (n ≡ 0) → (plan_size p ≡ n) × (plan_head p ≡ b) × (j ≤ budget_in guide)
+      by_size : (p : Plan) (j : ℕ) → guided_examination instance d s 0 ≡ succeeded p j → Dec (n ≡ 0) → (plan_size p ≡ n) × (plan_head p ≡ b) × (j ≤ instance.guide.budget)
       by_size p j f (yes z) = absurd (failure_no_success ((x.remembers.shown _ h).fails z 0 (omega arith)) f)
       by_size p j f (no z) = let w = (x.remembers.shown _ h).wins (not_zero n z) in let q = sym (w.succeeds 0 (omega arith)) ∙ f in let e : w.plan ≡ p = cc in let i : 0 + k ≡ j = cc in
           rw (← e) (w.sized, w.headed, omega arith)
 
   -- It may be examined, with any number that stands for its value.
-  pub again_examinable : {s₁ value₁ d₁ c₁ value : ℕ} → Same s₁ value₁ d₁ c₁ s value d 0 → Estimated (guided_value rows guide tables s) value → Examinable task sets places rows guide tables memory s₁ value₁ d₁ c₁
-  again_examinable q e = rw (q.0, q.1, q.2, q.3) (record { guided = x.guided; remembers = x.remembers; within = omega arith; shallow = x.shallow; valued = e })
+  pub again_examinable : {value : ℕ} → Estimated (guided_value instance s) value → Examinable instance memory s value d 0
+  again_examinable e = record { remembers = x.remembers; within = omega arith; shallow = x.shallow; valued = e }
 
   -- What examining it again answers.
-  module _ {later : List ℕ} {a : Ending} (h : Examines plan_size plan_head (guided_examination task rows guide tables) (budget_in guide) (guided_examination task rows guide tables d s 0) 0 later a) where
+  module _ {later : List Slot} {a : Ending} (h : Examines plan_size plan_head (guided_examination instance) instance.guide.budget (guided_examination instance d s 0) 0 later a) where
     pub never_stops : {e : ℕ} → a ≡ Stopped e → ⊥
-    never_stops {e} f = stop_no_success (told_stop (guided_examination task rows guide tables d s 0) e (rw f at h)).0 x.is
+    never_stops {e} f = stop_no_success (told_stop (guided_examination instance d s 0) e (rw f at h)).0 x.is
 
     pub never_fails : {e : ℕ} → a ≡ Failed e → ⊥
-    never_fails {e} f = failure_no_success (told_failure (guided_examination task rows guide tables d s 0) e (rw f at h)).0 x.is
+    never_fails {e} f = failure_no_success (told_failure (guided_examination instance d s 0) e (rw f at h)).0 x.is
 
-    pub examined_starts : {e n b : ℕ} → a ≡ Succeeded e n b → Starts (guided_examination task rows guide tables) (budget_in guide) d s later n b
-    examined_starts {e} {n} {b} f = record { told = λ p k g. plan_told (told_success (guided_examination task rows guide tables d s 0) e n b (rw f at h)) g; remembers = h.remembers }
+    pub examined_starts : {e n b : ℕ} → a ≡ Succeeded e n b → Starts (guided_examination instance) instance.guide.budget d s later n b
+    examined_starts {e} {n} {b} f = record { told = λ p k g. plan_told (told_success (guided_examination instance d s 0) e n b (rw f at h)) g; remembers = h.remembers }
 
-  acts_by : (p : Plan) (e b m : ℕ) → guided_examination task rows guide tables d s 0 ≡ succeeded p e → e ≤ budget_in guide → plan_head p ≡ b → m ≡ b → (b ≡ 254 → ⊥) → Acts task rows guide tables d s m p
+  acts_by : (p : Plan) (e b m : ℕ) → guided_examination instance d s 0 ≡ succeeded p e → e ≤ instance.guide.budget → plan_head p ≡ b → m ≡ b → (b ≡ 254 → ⊥) → Acts instance d s m p
   unfolding plan_head
   acts_by arrived e b m h l k f n = absurd (n (sym k))
   acts_by (act j ps) e b m h l k f n = rw (f ∙ sym k) (acts_so j ps e h l)
 
-  small_by : (p : Plan) (e b : ℕ) → guided_examination task rows guide tables d s 0 ≡ succeeded p e → e ≤ budget_in guide → plan_head p ≡ b → b < 256
+  small_by : (p : Plan) (e b : ℕ) → guided_examination instance d s 0 ≡ succeeded p e → e ≤ instance.guide.budget → plan_head p ≡ b → b < 256
   unfolding plan_head
   small_by arrived e b h l k = omega arith
-  small_by (act j ps) e b h l k = let a = acts_so j ps e h l in omega (arith, k, a.within, x.guided.ready.few_actions)
+  small_by (act j ps) e b h l k = let a = acts_so j ps e h l in omega (arith, k, a.within, instance.guided.ready.few_actions)
 
-  arrived_by : (p : Plan) (e b byte at : ℕ) (later written old new : List ℕ) → guided_examination task rows guide tables d s 0 ≡ succeeded p e → e ≤ budget_in guide → plan_head p ≡ b → b ≡ 254 → new ≡ set old at byte → byte ≡ b →
-      Remembers (guided_examination task rows guide tables) (budget_in guide) later → Stands (guided_examination task rows guide tables) written old at → Written (guided_examination task rows guide tables) (budget_in guide) p at later written old new (at + 1)
+  arrived_by : (p : Plan) (e b byte at : ℕ) (later written : List Slot) (old new : List ℕ) → guided_examination instance d s 0 ≡ succeeded p e → e ≤ instance.guide.budget → plan_head p ≡ b → b ≡ 254 → new ≡ set old at byte → byte ≡ b →
+      Remembers (guided_examination instance) instance.guide.budget later → Stands (guided_examination instance) written old at → Written (guided_examination instance) instance.guide.budget p at later written old new (at + 1)
   unfolding plan_head encode
   arrived_by arrived e b byte at later written old new h l k n u v m t = rw (u, v, n) (record { after = refl; keeps = keeps_stored at 254 old; holds = holds_stored at 254 old; remembers = m; stands = stands_stored _ t _ _ refl })
-  arrived_by (act j ps) e b byte at later written old new h l k n u v m t = let a = acts_so j ps e h l in absurd (omega (arith, k, n, a.within, x.guided.ready.few_actions))
+  arrived_by (act j ps) e b byte at later written old new h l k n u v m t = let a = acts_so j ps e h l in absurd (omega (arith, k, n, a.within, instance.guided.ready.few_actions))
 
   -- The plan by its start: its first byte is a byte, and its action one of the task's.
-  module _ {later : List ℕ} {n b : ℕ} (t : Starts (guided_examination task rows guide tables) (budget_in guide) d s later n b) where
-    start : (plan_size x.found ≡ n) × (plan_head x.found ≡ b) × (x.made ≤ budget_in guide)
+  module _ {later : List Slot} {n b : ℕ} (t : Starts (guided_examination instance) instance.guide.budget d s later n b) where
+    start : (plan_size x.found ≡ n) × (plan_head x.found ≡ b) × (x.made ≤ instance.guide.budget)
     start = t.told x.found x.made x.is
 
     pub first_small : b < 256
     first_small = small_by x.found x.made b x.is start.2 start.1
 
-    pub acts : {m : ℕ} → m ≡ b → (b ≡ 254 → ⊥) → Acts task rows guide tables d s m x.found
+    pub acts : {m : ℕ} → m ≡ b → (b ≡ 254 → ⊥) → Acts instance d s m x.found
     acts {m} f o = acts_by x.found x.made b m x.is start.2 start.1 f o
 
-    pub arrived-written : {byte at : ℕ} {written old new : List ℕ} → b ≡ 254 → new ≡ set old at byte → byte ≡ b → Stands (guided_examination task rows guide tables) written old at → Writes task rows guide tables d s at later written old new (at + 1)
+    pub arrived-written : {byte at : ℕ} {written : List Slot} {old new : List ℕ} → b ≡ 254 → new ≡ set old at byte → byte ≡ b → Stands (guided_examination instance) written old at → Writes instance d s at later written old new (at + 1)
     arrived-written {byte} {at} {written} {old} {new} o u v q = λ p k f. let i = t.told p k f in arrived_by p k b byte at later written old new f i.2 i.1 o u v t.remembers q
 
 -- In the middle of a row of plans, whose outcomes xs are left: they succeed, and their bytes from `end` on make the whole plan p at `at`.
@@ -178,10 +178,10 @@ pub record Writing (r : ℕ → ℕ → Result Plan) (budget : ℕ) (xs : List �
   pub keeps : Keeps at old plan
   pub finish : (new : List ℕ) → length new ≡ length plan → Keeps end plan new → Holds (encodes left) end new → Holds (encode p) at new
 
-writing_begins : (task rows guide tables : List ℕ) (d s m b byte n l at : ℕ) (p : Plan) (old mid : List ℕ) → Acts task rows guide tables d s m p → at + plan_size p ≤ 1000000 → at + plan_size p ≤ length old → m ≡ b → l ≡ d - action_weight task m → n ≡ outcome_count task m → mid ≡ set old at byte → byte ≡ b →
-    Writing (guided_examination task rows guide tables l) (budget_in guide) (tabulate (λ k. bit_or (bit_and s (keep_mask task m k)) (set_value task m k)) 0 (n - 0)) p at (at + 1) mid mid
+writing_begins : (instance : Instance) (d s m b byte n l at : ℕ) (p : Plan) (old mid : List ℕ) → Acts instance d s m p → at + plan_size p ≤ 1000000 → at + plan_size p ≤ length old → m ≡ b → l ≡ d - action_weight instance.task.now m → n ≡ outcome_count instance.task.now m → mid ≡ set old at byte → byte ≡ b →
+    Writing (guided_examination instance l) instance.guide.budget (tabulate (λ k. bit_or (bit_and s (keep_mask instance.task.now m k)) (set_value instance.task.now m k)) 0 (n - 0)) p at (at + 1) mid mid
 unfolding encode packed_system
-writing_begins task rows guide tables d s m b byte n l at p old mid a y z f w e u v = rw (sub-zero, e, w, a.is, u, v, ← f) (record {
+writing_begins instance d s m b byte n l at p old mid a y z f w e u v = rw (sub-zero, e, w, a.is, u, v, ← f) (record {
   left = a.rest;
   from = a.from;
   to = a.to;
@@ -238,7 +238,7 @@ module _ (Y : System ℕ) (h : ℕ → ℕ∞) (budget d : ℕ) where
     unfolding encodes
     next_fits = let a = v.place in let b = ap (λ (ps : Plans). plans_size ps) writing_next.is in let z = length-append (encode writing_next.plan) (encodes writing_next.rest) in omega (arith, a, b, z)
 
-    writing_goes_on : (r : ℕ → ℕ → ℕ → Result Plan) (b after : ℕ) (memory written new : List ℕ) → length new ≡ length plan → Written r b writing_next.plan end memory written plan new after → Writing (examination Y h budget d) budget (tabulate f (k + 1) (n - (k + 1))) p at after old new
+    writing_goes_on : (r : ℕ → ℕ → ℕ → Result Plan) (b after : ℕ) (memory written : List Slot) (new : List ℕ) → length new ≡ length plan → Written r b writing_next.plan end memory written plan new after → Writing (examination Y h budget d) budget (tabulate f (k + 1) (n - (k + 1))) p at after old new
     unfolding encodes
     writing_goes_on r b after memory written new q w =
         let a = v.place in let i = writing_next.is in let t = ap (λ (ps : Plans). plans_size ps) i in let z = length-append (encode writing_next.plan) (encodes writing_next.rest) in
@@ -259,67 +259,67 @@ module _ (Y : System ℕ) (h : ℕ → ℕ∞) (budget d : ℕ) where
         }
 
 -- The row is written: so is the plan, which may be noted.
-writing_ends : (f : ℕ → ℕ) (k n byte : ℕ) {r : ℕ → ℕ → Result Plan} {budget b : ℕ} {p : Plan} {at end : ℕ} {old mid plan memory written : List ℕ} (g : ℕ → ℕ → ℕ → Result Plan) → n ≤ k → Writing r budget (tabulate f k (n - k)) p at end mid plan → mid ≡ set old at byte → Remembers g b memory → Stands g written plan end → Written g b p at memory written old plan end
+writing_ends : (f : ℕ → ℕ) (k n byte : ℕ) {r : ℕ → ℕ → Result Plan} {budget b : ℕ} {p : Plan} {at end : ℕ} {old mid plan : List ℕ} {memory written : List Slot} (g : ℕ → ℕ → ℕ → Result Plan) → n ≤ k → Writing r budget (tabulate f k (n - k)) p at end mid plan → mid ≡ set old at byte → Remembers g b memory → Stands g written plan end → Written g b p at memory written old plan end
 unfolding examine_outcomes encodes
 writing_ends f k n byte {at = at} {end = end} {old = old} {plan = plan} g l v u m t =
     let e = rw (successors_end f k n l) at v.succeeds in let q : done ≡ v.left = cc in let z = ap (λ (ps : Plans). plans_size ps) q in
     record { after = omega (arith, v.place, z); keeps = keeps_trans at at old (set old at byte) plan (omega arith) (keeps_stored at byte old) (rw u at v.keeps); holds = v.finish plan refl (keeps_itself end plan) (rw (← q) (holds_nothing end plan)); remembers = m; stands = t }
 
-written_noted : {g : ℕ → ℕ → ℕ → Result Plan} {b : ℕ} {p : Plan} {at end : ℕ} {old plan memory written : List ℕ} (later : List ℕ) (s d k n : ℕ) → Written g b p at memory written old plan end → Noted written later (said s d n at 0) → g d s 0 ≡ succeeded p k → plan_size p ≡ n → Written g b p at memory later old plan end
+written_noted : {g : ℕ → ℕ → ℕ → Result Plan} {b : ℕ} {p : Plan} {at end : ℕ} {old plan : List ℕ} {memory written : List Slot} (later : List Slot) (s d k n : ℕ) → Written g b p at memory written old plan end → Noted written later (said s d n at 0) → g d s 0 ≡ succeeded p k → plan_size p ≡ n → Written g b p at memory later old plan end
 written_noted {g} {p = p} {at = at} later s d k n w t e q = let a = w.after in record { after = a; keeps = w.keeps; holds = w.holds; remembers = w.remembers; stands = stands_noted g w.stands later s d n at 0 k p t e q (omega arith) w.holds }
 
-written_same : {g : ℕ → ℕ → ℕ → Result Plan} {b : ℕ} {p q : Plan} {at end : ℕ} {old plan memory written : List ℕ} → p ≡ q → Written g b p at memory written old plan end → Written g b q at memory written old plan end
+written_same : {g : ℕ → ℕ → ℕ → Result Plan} {b : ℕ} {p q : Plan} {at end : ℕ} {old plan : List ℕ} {memory written : List Slot} → p ≡ q → Written g b p at memory written old plan end → Written g b q at memory written old plan end
 written_same e w = rw (← e) w
 
 -- In the middle of the loop over the outcomes of the plan's action m, of which k are written: the plan, of n bytes in all, and what is known besides.
-pub record Underway (task rows guide tables : List ℕ) (s d m left end k at to n : ℕ) (memory written old plan : List ℕ) : Type 0 where
+pub record Underway (instance : Instance) (s d m left end k at to n : ℕ) (memory written : List Slot) (old plan : List ℕ) : Type 0 where
   pub found : Plan
   pub made : ℕ
-  pub is : guided_examination task rows guide tables d s 0 ≡ succeeded found made
+  pub is : guided_examination instance d s 0 ≡ succeeded found made
   pub sized : plan_size found ≡ n
-  pub writing : Writing (guided_examination task rows guide tables left) (budget_in guide) (tabulate (λ j. bit_or (bit_and s (keep_mask task m j)) (set_value task m j)) k (end - k)) found at to old plan
+  pub writing : Writing (guided_examination instance left) instance.guide.budget (tabulate (λ j. bit_or (bit_and s (keep_mask instance.task.now m j)) (set_value instance.task.now m j)) k (end - k)) found at to old plan
   pub reached : k ≤ end
-  pub remembers : Remembers (guided_examination task rows guide tables) (budget_in guide) memory
-  pub stands : Stands (guided_examination task rows guide tables) written plan to
+  pub remembers : Remembers (guided_examination instance) instance.guide.budget memory
+  pub stands : Stands (guided_examination instance) written plan to
 
-pub underway_begins : {task sets places rows guide tables memory written plan later mid : List ℕ} {s d at n b m left end byte : ℕ} (w : Writable task sets places rows guide tables memory written plan s d at) →
-    Starts (guided_examination task rows guide tables) (budget_in guide) d s later n b → m ≡ b → (b ≡ 254 → ⊥) → left ≡ d - action_weight task m → end ≡ outcome_count task m → mid ≡ set plan at byte → byte ≡ b →
-    Underway task rows guide tables s d m left end 0 at (at + 1) n later written mid mid
-underway_begins {task} {rows = rows} {guide = guide} {tables = tables} {plan = plan} {mid = mid} {s = s} {d = d} {at = at} {b = b} {m = m} {left = left} {end = end} {byte = byte} w t f o g e u v = let x = w.succeeding in record {
+pub underway_begins : {instance : Instance} {memory written : List Slot} {plan : List ℕ} {later : List Slot} {mid : List ℕ} {s d at n b m left end byte : ℕ} (w : Writable instance memory written plan s d at) →
+    Starts (guided_examination instance) instance.guide.budget d s later n b → m ≡ b → (b ≡ 254 → ⊥) → left ≡ d - action_weight instance.task.now m → end ≡ outcome_count instance.task.now m → mid ≡ set plan at byte → byte ≡ b →
+    Underway instance s d m left end 0 at (at + 1) n later written mid mid
+underway_begins {instance} {plan = plan} {mid = mid} {s = s} {d = d} {at = at} {b = b} {m = m} {left = left} {end = end} {byte = byte} w t f o g e u v = let x = w.succeeding in record {
   found = x.found;
   made = x.made;
   is = x.is;
   sized = (t.told x.found x.made x.is).0;
-  writing = writing_begins task rows guide tables d s m b byte end left at x.found plan mid (acts x t f o) w.near w.fits f g e u v;
+  writing = writing_begins instance d s m b byte end left at x.found plan mid (acts x t f o) w.near w.fits f g e u v;
   reached = omega arith;
   remembers = t.remembers;
   stands = stands_stored _ w.stands mid byte u;
 }
 
-module _ {task rows guide tables memory written old plan : List ℕ} {s d m left end k at to n : ℕ} (i : Underway task rows guide tables s d m left end k at to n memory written old plan) where
+module _ {instance : Instance} {memory written : List Slot} {old plan : List ℕ} {s d m left end k at to n : ℕ} (i : Underway instance s d m left end k at to n memory written old plan) where
   -- The next outcome: the plan of the state after it may be written.
-  module _ {x : ℕ} (l : k < end) (e : x ≡ bit_or (bit_and s (keep_mask task m k)) (set_value task m k)) where
-    abbrev next : Next (guided_examination task rows guide tables left) (budget_in guide) x (tabulate (λ j. bit_or (bit_and s (keep_mask task m j)) (set_value task m j)) (k + 1) (end - (k + 1))) i.writing.left i.writing.to
-    next = writing_next (packed_system task (actions_in guide)) (guided_value rows guide tables) (budget_in guide) left (λ j. bit_or (bit_and s (keep_mask task m j)) (set_value task m j)) k end x i.found at to old plan l e i.writing
+  module _ {x : ℕ} (l : k < end) (e : x ≡ bit_or (bit_and s (keep_mask instance.task.now m k)) (set_value instance.task.now m k)) where
+    abbrev next : Next (guided_examination instance left) instance.guide.budget x (tabulate (λ j. bit_or (bit_and s (keep_mask instance.task.now m j)) (set_value instance.task.now m j)) (k + 1) (end - (k + 1))) i.writing.left i.writing.to
+    next = writing_next (packed_system instance.task.now instance.guide.actions) (guided_value instance) instance.guide.budget left (λ j. bit_or (bit_and s (keep_mask instance.task.now m j)) (set_value instance.task.now m j)) k end x i.found at to old plan l e i.writing
 
     next_within : to + plan_size next.plan ≤ at + plan_size i.found
-    next_within = next_fits (packed_system task (actions_in guide)) (guided_value rows guide tables) (budget_in guide) left (λ j. bit_or (bit_and s (keep_mask task m j)) (set_value task m j)) k end x i.found at to old plan l e i.writing
+    next_within = next_fits (packed_system instance.task.now instance.guide.actions) (guided_value instance) instance.guide.budget left (λ j. bit_or (bit_and s (keep_mask instance.task.now m j)) (set_value instance.task.now m j)) k end x i.found at to old plan l e i.writing
 
-    pub next_writable : {sets places : List ℕ} → Guided task sets places rows guide → left < 256 → Writable task sets places rows guide tables memory written plan x left to
-    next_writable g h = record {
-      succeeding = record { guided = g; remembers = i.remembers; shallow = h; found = next.plan; made = next.made; is = next.succeeds };
+    pub next_writable : left < 256 → Writable instance memory written plan x left to
+    next_writable h = record {
+      succeeding = record { remembers = i.remembers; shallow = h; found = next.plan; made = next.made; is = next.succeeds };
       fits = omega (arith, next_within, i.writing.fits);
       near = omega (arith, next_within, i.writing.near);
       stands = i.stands;
     }
 
-    pub underway_goes_on : {after : ℕ} {memory₁ written₁ new : List ℕ} → length new ≡ length plan → Writes task rows guide tables left x to memory₁ written₁ plan new after → Underway task rows guide tables s d m left end (k + 1) at after n memory₁ written₁ old new
+    pub underway_goes_on : {after : ℕ} {memory₁ written₁ : List Slot} {new : List ℕ} → length new ≡ length plan → Writes instance left x to memory₁ written₁ plan new after → Underway instance s d m left end (k + 1) at after n memory₁ written₁ old new
     underway_goes_on {after} {memory₁} {written₁} {new} q h = let w = h next.plan next.made next.succeeds in record {
       found = i.found;
       made = i.made;
       is = i.is;
       sized = i.sized;
-      writing = writing_goes_on (packed_system task (actions_in guide)) (guided_value rows guide tables) (budget_in guide) left (λ j. bit_or (bit_and s (keep_mask task m j)) (set_value task m j)) k end x i.found at to old plan l e i.writing (guided_examination task rows guide tables) (budget_in guide) after memory₁ written₁ new q w;
+      writing = writing_goes_on (packed_system instance.task.now instance.guide.actions) (guided_value instance) instance.guide.budget left (λ j. bit_or (bit_and s (keep_mask instance.task.now m j)) (set_value instance.task.now m j)) k end x i.found at to old plan l e i.writing (guided_examination instance) instance.guide.budget after memory₁ written₁ new q w;
       reached = omega arith;
       remembers = w.remembers;
       stands = w.stands;
@@ -329,6 +329,6 @@ module _ {task rows guide tables memory written old plan : List ℕ} {s d m left
   pub underway_near : at + n ≤ 1000000
   underway_near = omega (arith, i.sized, i.writing.near)
 
-  pub underway_ends : {first later : List ℕ} (byte : ℕ) → end ≤ k → old ≡ set first at byte → Noted written later (said s d n at 0) → Writes task rows guide tables d s at memory later first plan to
+  pub underway_ends : {first : List ℕ} {later : List Slot} (byte : ℕ) → end ≤ k → old ≡ set first at byte → Noted written later (said s d n at 0) → Writes instance d s at memory later first plan to
   underway_ends {first} {later} byte l u t = λ p j f. written_same (same_plan i.is f)
-      (written_noted later s d i.made n (writing_ends (λ j. bit_or (bit_and s (keep_mask task m j)) (set_value task m j)) k end byte (guided_examination task rows guide tables) l i.writing u i.remembers i.stands) t i.is i.sized)
+      (written_noted later s d i.made n (writing_ends (λ j. bit_or (bit_and s (keep_mask instance.task.now m j)) (set_value instance.task.now m j)) k end byte (guided_examination instance) l i.writing u i.remembers i.stands) t i.is i.sized)

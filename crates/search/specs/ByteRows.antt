@@ -1,6 +1,6 @@
 -- The index of a state in a pattern's table by the bytes of its word: a block of 256 entries for each byte that the pattern has says what
 -- the two digits of that byte add. Assumes nothing.
-use Rattle.std.specs.Prelude.{◌≡◌, ℕ, zero, suc, ◌+◌, ◌*◌, ◌/◌, ◌%◌, ◌<◌, ◌≤◌, Bool, true, cond, ◌⊎◌, List, nat_lt, slice_index}
+use Rattle.std.specs.Prelude.{◌≡◌, ℕ, zero, suc, ◌+◌, ◌*◌, ◌/◌, ◌%◌, ◌<◌, ◌≤◌, Bool, true, cond, ◌⊎◌, List, nat_lt, slice_index, ◌≢◌}
 use Rattle.search.specs.Value.{row_entry}
 
 -- What value x of variable v adds to the index in pattern p; nothing beyond the last variable.
@@ -20,20 +20,17 @@ unfoldable pub block_sum : List ℕ → ℕ → ℕ → ℕ → ℕ
 block_sum places at zero s = 0
 block_sum places at (suc n) s = slice_index places (at + s % 256) + block_sum places (at + 256) n (s / 256)
 
--- The blocks of `count` bytes follow each other from `at` on, the lowest digit of the first is at binary digit `shift`, and no other
--- variable adds anything.
-pub record SpanAt (rows : List ℕ) (variables p : ℕ) (places : List ℕ) (shift count at : ℕ) : Type 0 where
-  pub first : ℕ
-  pub shifted : shift ≡ 8 * first
+-- The blocks of `count` bytes from byte `first` on follow each other from `at` on, and no variable of another byte adds anything.
+pub record SpanAt (rows : List ℕ) (variables p : ℕ) (places : List ℕ) (first count at : ℕ) : Type 0 where
   pub within : first + count ≤ 8
   pub room : at + 256 * count ≤ 4096
   pub below : (v x : ℕ) → v < 2 * first → x < 16 → digit_adds rows variables p v x ≡ 0
   pub above : (v x : ℕ) → 2 * (first + count) ≤ v → x < 16 → digit_adds rows variables p v x ≡ 0
   pub blocks : (j : ℕ) → j < count → BlockAt rows variables p (first + j) places (at + 256 * j)
 
--- For each pattern three numbers after the 16 blocks: shift, count and place of its blocks. Count 0: it has no blocks.
+-- For each pattern three numbers after the 16 blocks: first byte, count and place of its blocks. Count 0: it has no blocks.
 pub record BytesOf (rows : List ℕ) (patterns variables : ℕ) (places : List ℕ) : Type 0 where
-  pub span : (p : ℕ) → p < patterns → (slice_index places (4097 + 3 * p) ≡ 0) ⊎
+  pub span : (p : ℕ) → p < patterns → (slice_index places (4097 + 3 * p) ≢ 0) →
       SpanAt rows variables p places (slice_index places (4096 + 3 * p)) (slice_index places (4097 + 3 * p)) (slice_index places (4098 + 3 * p))
 
 -- Rows that hold weights: a value adds so many times what value 1 adds.
@@ -58,7 +55,7 @@ pub record SpanFilled (rows : List ℕ) (variables p first count : ℕ) (old new
 -- Pattern p has its numbers, and blocks between `at` and `end` if it has any. What stands below `at` and the numbers of lower patterns
 -- are as they were.
 pub record PatternPlaced (rows : List ℕ) (variables p : ℕ) (old new : List ℕ) (at end : ℕ) : Type 0 where
-  pub span : (slice_index new (4097 + 3 * p) ≡ 0) ⊎
+  pub span : (slice_index new (4097 + 3 * p) ≢ 0) →
       (SpanAt rows variables p new (slice_index new (4096 + 3 * p)) (slice_index new (4097 + 3 * p)) (slice_index new (4098 + 3 * p)) ×
       (slice_index new (4098 + 3 * p) + 256 * slice_index new (4097 + 3 * p) ≤ end))
   pub kept : (i : ℕ) → (i < at) ⊎ ((4096 ≤ i) × (i < 4096 + 3 * p)) → slice_index new i ≡ slice_index old i

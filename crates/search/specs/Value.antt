@@ -1,9 +1,7 @@
 -- The estimate of a packed state from rows: what each value of each variable adds to the index in each pattern's table. Assumes nothing.
-use Rattle.std.specs.Prelude.{◌≡◌, ℕ, zero, suc, ◌+◌, ◌-◌, ◌*◌, ◌/◌, ◌%◌, ◌<◌, cond, List, nat_le, nat_lt, slice_index, slice_index_or}
+use Rattle.std.specs.Prelude.{◌≡◌, ℕ, zero, suc, ◌+◌, ◌-◌, ◌*◌, ◌/◌, ◌%◌, ◌<◌, cond, List, Option, Some, None, nat_le, nat_lt, slice_index, slice_index_or}
 use Rattle.planning.specs.Extended.{ℕ∞, fin, inf, add∞, ◌≤?◌}
 use Rattle.planning.specs.Table.{cost_of}
-use Rattle.search.specs.declared.estimate.Value.{Value}
-use Rattle.search.specs.declared.estimate.Value.TheVariants.{Finite}
 
 -- What value x of variable v adds to the index in pattern p.
 abbrev pub row_entry : List ℕ → ℕ → ℕ → ℕ → ℕ
@@ -39,7 +37,7 @@ pub record Estimated (h : ℕ∞) (v : ℕ) : Type 0 where
   pub within : (d : ℕ) → d < 65535 → (h ≤? d) ≡ nat_le v d
   pub exact : v < 65535 → h ≡ fin v
 
--- The code's word for a value.
-unfoldable pub value_of : ℕ∞ → Value
-value_of (fin n) = Finite n
-value_of inf = Value.Infinite
+-- The code's word for a value: an infinite one is none.
+unfoldable pub value_of : ℕ∞ → Option ℕ
+value_of (fin n) = Some n
+value_of inf = None

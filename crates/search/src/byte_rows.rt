@@ -6,12 +6,7 @@ ghost use Rattle.search.specs.Value.{row_entry, packed_index};
 ghost use Rattle.search.specs.ByteRows.{digit_adds, block_sum, BytesOf, Linear, SumsFilled, BlockFilled, SpanFilled, PatternPlaced};
 
 use crate::estimate::index_of;
-
-fn wide(x: u16) -> usize
-    ensures { (result ≡ x) × (result < 65536) }
-{
-    x as usize
-}
+use crate::instance::Instance;
 
 fn lowest_byte(s: u64) -> usize
     ensures { (result ≡ s % 256) × (result < 256) }
@@ -34,31 +29,25 @@ fn sum_blocks(places: &[u16; 4120], at: usize, count: usize, s: u64) -> usize
     let mut i = 0usize;
     let mut rest = s;
     for j in 0..count {
-        i = i + wide(places[at + 256 * j + lowest_byte(rest)]);
+        i = i + usize::from(places[at + 256 * j + lowest_byte(rest)]);
         rest = rest / 256;
     }
     i
 }
 
 // The index of a state in the table of pattern p.
-pub(crate) fn index_by_bytes(
-    places: &[u16; 4120],
-    rows: &[u16; 2048],
-    s: u64,
-    p: usize,
-    patterns: usize,
-    variables: usize,
-) -> usize
-    requires { (BytesOf rows.now patterns variables places.now) × (p < patterns) × (patterns ≤ 8) × (variables ≤ 16) }
-    ensures { (result ≡ packed_index rows.now p 0 variables s) × (result ≤ 65535 * 16) }
+pub(crate) fn index_by_bytes(instance: &Instance, s: u64, p: usize) -> usize
+    requires { p < instance.now.guide.patterns }
+    ensures { (result ≡ packed_index instance.now.rows.now p 0 instance.now.guide.variables s) × (result ≤ 65535 * 16) }
 {
-    let count = wide(places[4097 + 3 * p]);
+    let places = instance.places;
+    let count = usize::from(places[4097 + 3 * p]);
     if count == 0 {
-        return index_of(rows, s, p, variables);
+        return index_of(instance.rows, s, p, instance.guide.variables);
     }
-    let shift = wide(places[4096 + 3 * p]);
-    let at = wide(places[4098 + 3 * p]);
-    sum_blocks(places, at, count, from_bit(s, shift))
+    let first = usize::from(places[4096 + 3 * p]);
+    let at = usize::from(places[4098 + 3 * p]);
+    sum_blocks(places, at, count, from_bit(s, 8 * first))
 }
 
 // What value x of variable v adds; nothing beyond the last variable.
@@ -138,7 +127,7 @@ fn end_used(rows: &[u16; 2048], p: usize, variables: usize) -> usize
 fn is_entry(low: u16, high: u16) -> bool
     ensures { result ≡ true → low + high < 65536 }
 {
-    if wide(low) + wide(high) < 65536 {
+    if usize::from(low) + usize::from(high) < 65536 {
         return true;
     }
     false
@@ -170,11 +159,11 @@ fn fill_span(
 }
 
 // The three numbers of pattern p.
-fn put_numbers(places: &mut [u16], p: usize, shift: usize, count: usize, at: usize)
-    requires { (length places.old ≡ 4120) × (p < 8) × (shift < 65536) × (count < 65536) × (at < 65536) }
-    ensures { places.new ≡ slice_set (slice_set (slice_set places.old (4096 + 3 * p) shift) (4097 + 3 * p) count) (4098 + 3 * p) at }
+fn put_numbers(places: &mut [u16], p: usize, first: usize, count: usize, at: usize)
+    requires { (length places.old ≡ 4120) × (p < 8) × (first < 65536) × (count < 65536) × (at < 65536) }
+    ensures { places.new ≡ slice_set (slice_set (slice_set places.old (4096 + 3 * p) first) (4097 + 3 * p) count) (4098 + 3 * p) at }
 {
-    places[4096 + 3 * p] = shift as u16;
+    places[4096 + 3 * p] = first as u16;
     places[4097 + 3 * p] = count as u16;
     places[4098 + 3 * p] = at as u16;
 }
@@ -205,7 +194,7 @@ fn place_pattern(
         put_numbers(places, p, 0, 0, at);
         return at;
     }
-    put_numbers(places, p, 8 * first, count, at);
+    put_numbers(places, p, first, count, at);
     at + 256 * count
 }
 

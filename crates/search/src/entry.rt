@@ -2,38 +2,25 @@
 // is answered, is said for all records.
 ghost use Rattle.std.specs.Prelude.{◌≡◌, length};
 ghost use Rattle.tables.specs.RecordTables.{tables_prepared};
-ghost use Rattle.search.specs.Answer.{buffer_of};
-ghost use Rattle.search.specs.Entry.{Prepared, answer_within, widened, search_of, search_answer, plan_after, search_numbers, search_by_lines};
+ghost use Rattle.search.specs.Answer.{answer_of, buffer_of};
+ghost use Rattle.search.specs.Entry.{Prepared, answer_within, search_answer, plan_after, search_numbers, search_by_lines};
 
 use crate::byte_rows::fill_places;
-use crate::guide::{fill_guide, patterns_in, variables_in};
-use crate::rounds::{Answer, run_rounds};
+use crate::guide::guide_of;
+use crate::instance::Instance;
+use crate::rounds::{TooLong, run_rounds};
 use crate::rows::fill_rows;
-use patterns::estimate::EstimateCheck;
 use tables::record_tables::prepare;
 use task_record::cells::budget;
+use task_record::refusal::Refusal;
 
-// Found with cost, count and the plan's length; over with the count; spent with round and count; none with the count; or number and second
-// number of the refusal.
-#[derive(Clone, Copy)]
+// Found with cost, count and the plan's length; over with the count; spent with round and count; none with the count.
+#[derive(Clone, Copy, PartialEq, Eq)]
 pub enum SearchAnswer {
     Found(u64, u64, u64),
     Over(u64),
     Spent(u64, u64),
     None(u64),
-    Refused(u64, u64),
-}
-
-fn widen(a: Answer) -> SearchAnswer
-    ensures { result ≡ widened a }
-{
-    match a {
-        Answer::Found(d, c, n) => SearchAnswer::Found(d as u64, c as u64, n as u64),
-        Answer::TooLong(c, n) => SearchAnswer::Refused(11, n as u64),
-        Answer::Over(c) => SearchAnswer::Over(c as u64),
-        Answer::Spent(d, c) => SearchAnswer::Spent(d as u64, c as u64),
-        Answer::None(c) => SearchAnswer::None(c as u64),
-    }
 }
 
 // The search with all that is prepared: words that are compiled, sets of actions, the start as a word, tables that are built.
@@ -45,24 +32,30 @@ fn search_built(
     start: u64,
     tables: &[u16],
     plan: &mut [u8],
-) -> SearchAnswer
+) -> Result<SearchAnswer, TooLong>
     requires { Prepared rec.now budget task.now sets.now start tables.now }
-    ensures answer { result ≡ search_of (length plan.old) (answer_within budget rec.now) }
+    ensures answer { result ≡ answer_of (length plan.old) (answer_within budget rec.now) }
     ensures buffer { plan.new ≡ buffer_of (length plan.old) (answer_within budget rec.now) }
 {
     let mut places = [0u16; 4120];
     let mut rows = [0u16; 2048];
-    let mut guide = [0u32; 80];
-    fill_rows(rec, &mut rows, &mut guide);
-    fill_guide(rec, budget, task, &mut guide);
-    let patterns = patterns_in(&guide);
-    let variables = variables_in(&guide);
-    fill_places(&rows, patterns, variables, &mut places);
-    widen(run_rounds(task, sets, &places, &rows, &guide, tables, plan, start))
+    let mut offsets = [0u32; 8];
+    fill_rows(rec, &mut rows, &mut offsets);
+    let guide = guide_of(rec, budget, task, offsets);
+    fill_places(&rows, guide.patterns, guide.variables, &mut places);
+    let instance = Instance {
+        task,
+        sets,
+        places: &places,
+        rows: &rows,
+        guide,
+        tables,
+    };
+    run_rounds(&instance, plan, start)
 }
 
 // The search from the record's start with its limit and budget. A found plan stands at the start of `plan`; `tables` are built here.
-pub fn search(rec: &[u8], tables: &mut [u16], plan: &mut [u8]) -> SearchAnswer
+pub fn search(rec: &[u8], tables: &mut [u16], plan: &mut [u8]) -> Result<SearchAnswer, Refusal>
     ensures answer { result ≡ search_answer rec.now (length tables.old) (length plan.old) }
     ensures tables { tables.new ≡ tables_prepared rec.now tables.old }
     ensures plan { plan.new ≡ plan_after rec.now (length tables.old) plan.old }
@@ -70,9 +63,7 @@ pub fn search(rec: &[u8], tables: &mut [u16], plan: &mut [u8]) -> SearchAnswer
 {
     let mut task = [0u64; 1282];
     let mut sets = [0u64; 2048];
-    let mut start = 0u64;
-    match prepare(rec, tables, &mut task, &mut sets, &mut start) {
-        EstimateCheck::Refused(number, second) => SearchAnswer::Refused(number, second),
-        EstimateCheck::Ready => search_built(rec, budget(rec), &task, &sets, start, tables, plan),
-    }
+    let start = prepare(rec, tables, &mut task, &mut sets)?;
+    let answer = search_built(rec, budget(rec), &task, &sets, start, tables, plan)?;
+    Ok(answer)
 }

@@ -1,20 +1,17 @@
 // Examining a state that opens and examining an action's outcomes call each other, and the depth left falls by the action's weight. What is decided
 // without examining another state is a leaf beside them (`look`), asked before the call. The count of examinations is carried in every ending, and every
 // result is remembered. Asks for what `Examinable` names, of a state that opens for `Openable`, and gives what `Examines` names.
-ghost use Rattle.std.specs.Prelude.{◌≡◌, ℕ, ◌+◌, ◌-◌, ◌<◌, ◌≤◌, length, bit_and, nat_le};
+ghost use Rattle.std.specs.Prelude.{◌≡◌, ◌-◌, ◌<◌, bit_and};
 ghost use Rattle.std.specs.Int.Count.{count_trailing_zeros};
-ghost use Rattle.planning.specs.Extended.{ℕ∞, ◌≤?◌};
-ghost use Rattle.tables.specs.Packed.{packed_system};
-ghost use Rattle.search.specs.Guide.{actions_in, budget_in};
-ghost use Rattle.search.specs.Examination.{opening_of, plan_size, plan_head, plans_size, plans_head};
-ghost use Rattle.search.specs.Packed.{guided_examination, guided_outcomes};
-ghost use Rattle.search.specs.Cycle.{Examinable, Openable, Examines, Looks};
-ghost use Rattle.search.specs.declared.examine.Opening.{Opening};
+ghost use Rattle.search.specs.Examination.{plan_size, plan_head, plans_size, plans_head};
+ghost use Rattle.search.specs.Value.{Estimated};
+ghost use Rattle.search.specs.Packed.{guided_opening, guided_examination, guided_outcomes, guided_value};
+ghost use Rattle.search.specs.Cycle.{Examinable, Openable, Examines, Glanced};
 
 use crate::carried::{rest_of, sum_with};
 use crate::compiled::{is_beyond, is_goal, left_after, outcome_count, successor};
-use crate::guide::{budget_in, bytes_in};
-use crate::memory::{note, recall};
+use crate::instance::Instance;
+use crate::memory::{Slot, note, recall};
 use tables::applying::applying;
 
 // How an examination begins.
@@ -31,14 +28,7 @@ pub(crate) enum Opening {
 pub(crate) enum Ending {
     Stopped(u32),
     Failed(u32),
-    Succeeded(u32, u32, u32),
-}
-
-// What is seen of a state at once: how its examination ends, or that it opens.
-#[derive(Clone, Copy)]
-pub(crate) enum Glance {
-    Decided(Ending),
-    Open,
+    Succeeded(u32, u32, u8),
 }
 
 // A state to examine: its value, the depth left and the count so far.
@@ -50,43 +40,32 @@ pub(crate) struct Visit {
     pub count: u32,
 }
 
-pub(crate) fn visit_of(s: u64, value: u64, d: u32, count: u32) -> Visit
-    ensures { (result.s ≡ s) × (result.value ≡ value) × (result.d ≡ d) × (result.count ≡ count) }
-{
-    Visit { s, value, d, count }
-}
-
 // What is decided at once about a state of a value: with no depth left it is a goal or cut.
-pub(crate) fn open_state(
-    task: &[u64; 1282],
-    s: u64,
-    value: u64,
-    d: u32,
-    budget: u32,
-    count: u32,
-) -> Opening
-    ensures { (actions : ℕ) (h : ℕ → ℕ∞) → (h s ≤? d) ≡ nat_le value d → result ≡ opening_of (packed_system task.now actions) h budget d s count }
+pub(crate) fn open_state(instance: &Instance, v: Visit) -> Opening
+    requires { (v.d < 65535) × (Estimated (guided_value instance.now v.s) v.value) }
+    ensures { result ≡ guided_opening instance.now v.d v.s v.count }
 {
-    if count == budget {
+    if v.count == instance.guide.budget {
         return Opening::Spent;
     }
-    if is_goal(task, s) {
+    if is_goal(instance.task, v.s) {
         return Opening::Arrived;
     }
-    if d == 0 {
+    if v.d == 0 {
         return Opening::Cut;
     }
-    if value <= d as u64 {
+    if v.value <= u64::from(v.d) {
         return Opening::Expand;
     }
     Opening::Cut
 }
 
-pub(crate) fn number_of(m: usize) -> u32
+// An action's number as a plan's byte.
+fn number_of(m: usize) -> u8
     requires { m < 64 }
     ensures { result ≡ m }
 {
-    m as u32
+    m as u8
 }
 
 // The lowest number in a set that is not empty, and the set without it.
@@ -104,64 +83,36 @@ pub(crate) fn without_lowest(set: u64) -> u64
     set & (set - 1)
 }
 
-pub(crate) fn place_of(n: u64) -> usize
-    ensures { result ≡ n }
-{
-    n as usize
-}
-
 // What is known of a state without examining another: it is spent, a goal or cut, or remembered. Else it opens.
-fn look(
-    task: &[u64; 1282],
-    guide: &[u32; 80],
-    memory: &[u64],
-    s: u64,
-    value: u64,
-    d: u32,
-    count: u32,
-) -> Glance
-    requires { (count ≤ budget_in guide.now) × (budget_in guide.now ≤ 1000000) × (2 ≤ length memory.now) }
-    ensures { Looks task.now guide.now memory.now s value d count result }
+fn look(instance: &Instance, memory: &[Slot], v: Visit) -> Option<Ending>
+    requires { Examinable instance.now memory.now v.s v.value v.d v.count }
+    ensures { Glanced instance.now v.d v.s v.count memory.now result }
 {
-    let budget = budget_in(guide);
-    match open_state(task, s, value, d, budget, count) {
-        Opening::Spent => Glance::Decided(Ending::Stopped(count)),
-        Opening::Cut => Glance::Decided(Ending::Failed(count + 1)),
-        Opening::Arrived => Glance::Decided(Ending::Succeeded(count + 1, 1, 254)),
+    match open_state(instance, v) {
+        Opening::Spent => Some(Ending::Stopped(v.count)),
+        Opening::Cut => Some(Ending::Failed(v.count + 1)),
+        Opening::Arrived => Some(Ending::Succeeded(v.count + 1, 1, 254)),
         Opening::Expand => {
-            let known = recall(memory, s, d, budget - count);
-            if known.made == 0 {
-                return Glance::Open;
-            }
+            let known = recall(memory, v.s, v.d, instance.guide.budget - v.count)?;
             if known.size == 0 {
-                return Glance::Decided(Ending::Failed(count + known.made));
+                return Some(Ending::Failed(v.count + known.made));
             }
-            Glance::Decided(Ending::Succeeded(count + known.made, known.size, known.first))
+            Some(Ending::Succeeded(v.count + known.made, known.size, known.first))
         }
     }
 }
 
 // Examines a state that opens: the actions that apply are tried by number, and the first that succeeds wins.
 #[cycle(examine_outcomes)]
-pub(crate) fn examine(
-    task: &[u64; 1282],
-    sets: &[u64; 2048],
-    places: &[u16; 4120],
-    rows: &[u16; 2048],
-    guide: &[u32; 80],
-    tables: &[u16],
-    memory: &mut [u64],
-    v: Visit,
-) -> Ending
-    requires { Openable task.now sets.now places.now rows.now guide.now tables.now memory.old v.s v.value v.d v.count }
-    ensures { Examines plan_size plan_head (guided_examination task.now rows.now guide.now tables.now) (budget_in guide.now) (guided_examination task.now rows.now guide.now tables.now v.d v.s v.count) v.count memory.new result }
+pub(crate) fn examine(instance: &Instance, memory: &mut [Slot], v: Visit) -> Ending
+    requires { Openable instance.now memory.old v.s v.value v.d v.count }
+    ensures { Examines plan_size plan_head (guided_examination instance.now) instance.now.guide.budget (guided_examination instance.now v.d v.s v.count) v.count memory.new result }
 {
     let mut c = v.count + 1;
-    let mut set = applying(sets, v.s, bytes_in(guide));
+    let mut set = applying(instance.sets, v.s, (instance.guide.variables + 1) / 2);
     while set != 0 {
         let m = lowest(set);
-        let w = visit_of(v.s, v.value, v.d, c);
-        match outcomes(task, sets, places, rows, guide, tables, memory, m, w) {
+        match outcomes(instance, memory, m, Visit { count: c, ..v }) {
             Ending::Stopped(e) => {
                 return Ending::Stopped(e);
             }
@@ -183,71 +134,55 @@ pub(crate) fn examine(
 // Examines the states after an action's outcomes, in order, up to the first that does not succeed, with the depth that the action leaves. Only a
 // state that opens is a call: most do not. The endings are taken apart in each arm, since a joined one would go through memory.
 #[cycle(examine_outcomes)]
-pub(crate) fn outcomes(
-    task: &[u64; 1282],
-    sets: &[u64; 2048],
-    places: &[u16; 4120],
-    rows: &[u16; 2048],
-    guide: &[u32; 80],
-    tables: &[u16],
-    memory: &mut [u64],
-    m: usize,
-    v: Visit,
-) -> Ending
-    requires { (Examinable task.now sets.now places.now rows.now guide.now tables.now memory.old v.s v.value v.d v.count) × (m < actions_in guide.now) × (v.value < 256) }
-    ensures { Examines plans_size plans_head (guided_examination task.now rows.now guide.now tables.now) (budget_in guide.now) (guided_outcomes task.now rows.now guide.now tables.now v.d v.s m v.count) v.count memory.new result }
+pub(crate) fn outcomes(instance: &Instance, memory: &mut [Slot], m: usize, v: Visit) -> Ending
+    requires { (Examinable instance.now memory.old v.s v.value v.d v.count) × (m < instance.now.guide.actions) × (v.value < 256) }
+    ensures { Examines plans_size plans_head (guided_examination instance.now) instance.now.guide.budget (guided_outcomes instance.now v.d v.s m v.count) v.count memory.new result }
 {
-    if is_beyond(task, m, v.d) {
+    if is_beyond(instance.task, m, v.d) {
         return Ending::Failed(v.count);
     }
-    let left = left_after(task, m, v.d);
-    let rest = rest_of(places, rows, guide, tables, v.s, m, v.value);
+    let left = left_after(instance.task, m, v.d);
+    let rest = rest_of(instance, v.s, m, v.value);
     let mut c = v.count;
     let mut n = 0u32;
-    for k in 0..place_of(outcome_count(task, m)) {
-        let x = successor(task, v.s, m, k);
-        let value = sum_with(places, rows, guide, tables, x, m, rest);
-        match look(task, guide, memory, x, value, left, c) {
-            Glance::Decided(a) => match a {
+    for k in 0..outcome_count(instance.task, m) {
+        let s = successor(instance.task, v.s, m, k);
+        let value = sum_with(instance, s, m, rest);
+        let w = Visit {
+            s,
+            value,
+            d: left,
+            count: c,
+        };
+        match look(instance, memory, w) {
+            Some(seen) => match seen {
                 Ending::Stopped(e) => return Ending::Stopped(e),
                 Ending::Failed(e) => return Ending::Failed(e),
-                Ending::Succeeded(e, size, b) => {
+                Ending::Succeeded(e, size, _) => {
                     c = e;
                     n += size;
                 }
             },
-            Glance::Open => {
-                let w = visit_of(x, value, left, c);
-                match examine(task, sets, places, rows, guide, tables, memory, w) {
-                    Ending::Stopped(e) => return Ending::Stopped(e),
-                    Ending::Failed(e) => return Ending::Failed(e),
-                    Ending::Succeeded(e, size, b) => {
-                        c = e;
-                        n += size;
-                    }
+            None => match examine(instance, memory, w) {
+                Ending::Stopped(e) => return Ending::Stopped(e),
+                Ending::Failed(e) => return Ending::Failed(e),
+                Ending::Succeeded(e, size, _) => {
+                    c = e;
+                    n += size;
                 }
-            }
+            },
         }
     }
     Ending::Succeeded(c, n, 0)
 }
 
 // Examines any state, for a round and for the writer: what the leaf decides, or the examination of a state that opens.
-pub(crate) fn examine_any(
-    task: &[u64; 1282],
-    sets: &[u64; 2048],
-    places: &[u16; 4120],
-    rows: &[u16; 2048],
-    guide: &[u32; 80],
-    tables: &[u16],
-    memory: &mut [u64],
-    v: Visit,
-) -> Ending
-    requires { Examinable task.now sets.now places.now rows.now guide.now tables.now memory.old v.s v.value v.d v.count }
-    ensures { Examines plan_size plan_head (guided_examination task.now rows.now guide.now tables.now) (budget_in guide.now) (guided_examination task.now rows.now guide.now tables.now v.d v.s v.count) v.count memory.new result }
+pub(crate) fn examine_any(instance: &Instance, memory: &mut [Slot], v: Visit) -> Ending
+    requires { Examinable instance.now memory.old v.s v.value v.d v.count }
+    ensures { Examines plan_size plan_head (guided_examination instance.now) instance.now.guide.budget (guided_examination instance.now v.d v.s v.count) v.count memory.new result }
 {
-    match look(task, guide, memory, v.s, v.value, v.d, v.count) {
-        Glance::Decided(a) => a,
-        Glance::Open => examine(task, sets, places, rows, guide, tables, memory, v),
+    match look(instance, memory, v) {
+        Some(seen) => seen,
+        None => examine(instance, memory, v),
     }
 }

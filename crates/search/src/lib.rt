@@ -10,6 +10,7 @@ pub mod entry;
 mod estimate;
 mod examine;
 mod guide;
+mod instance;
 mod memory;
 mod owners;
 mod rounds;

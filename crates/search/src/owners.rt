@@ -12,7 +12,6 @@ ghost use Rattle.search.specs.Owned.{Owned, Marked, touches};
 
 use crate::buffer::put;
 use crate::compiled::outcome_count;
-use crate::rows::wide;
 use task_record::cells::{action_count, pattern_cells, pattern_count};
 
 fn picked(x: u8) -> u64
@@ -49,13 +48,10 @@ fn names_under(task: &[u64; 1282], mask: u64, m: usize) -> bool
     requires { (m < 64) × (outcome_count task.now m ≤ 8) }
     ensures { result ≡ touches task.now mask m }
 {
-    let n = outcome_count(task, m) as usize;
-    let mut k = 0usize;
-    while k < n {
+    for k in 0..outcome_count(task, m) {
         if task[20 * m + 4 + 2 * k] & mask != mask {
             return true;
         }
-        k += 1;
     }
     false
 }
@@ -76,7 +72,7 @@ pub(crate) fn fill_owners(rec: &[u8], task: &[u64; 1282], owners: &mut [u8])
     requires { (length owners.old ≡ 64) × (Sound rec.now) × (Additive (task_of rec.now) (patterns_of rec.now)) × (task.now ≡ compiled (task_of rec.now)) }
     ensures { (rows offsets : List ℕ) → RowsOf (task_of rec.now).sizes (patterns_of rec.now) rows offsets → Owned task.now rows (action_count rec.now) (pattern_count rec.now) (variable_count rec.now) owners.new }
 {
-    let actions = wide(action_count(rec));
+    let actions = usize::from(action_count(rec));
     for p in 0..pattern_count(rec) {
         mark(task, owners, mask_of(rec, p), p, actions);
     }

@@ -1,283 +1,228 @@
 // Rounds of examinations from a state, one more depth each, up to the limit; then the plan that was found is written and the buffer is filled
 // up with 255. The rounds begin with a small memory; where they outgrow it, they go on with a larger one, which begins empty.
-// Asks for what the search goes by (`Guided`), and a limit whose depths fit the memory.
-ghost use Rattle.std.specs.Prelude.{◌<◌, length};
+// Asks for a limit whose depths fit the memory.
+ghost use Rattle.std.specs.Prelude.{◌≡◌, ◌<◌, ◌≤◌, length};
 ghost use Rattle.planning.specs.Search as planning;
-ghost use Rattle.search.specs.Examination.{Guided};
-ghost use Rattle.search.specs.Guide.{budget_in, limit_in};
 ghost use Rattle.search.specs.Memory.{Remembers};
 ghost use Rattle.search.specs.Packed.{guided_examination};
-ghost use Rattle.search.specs.Cycle.{Examinable};
 ghost use Rattle.search.specs.Answer.{Begun, FoundBy, Startable, Concludes, Replies, Replied, guided_rounds, guided_search};
 
 use crate::buffer::fill;
-use crate::estimate::{Value, value_of};
-use crate::examine::{Ending, Visit, examine_any, visit_of};
-use crate::guide::{limit_in, patterns_in, variables_in};
-use crate::memory::is_outgrown;
+use crate::entry::SearchAnswer;
+use crate::estimate::value_of;
+use crate::examine::{Ending, Visit, examine_any};
+use crate::instance::Instance;
+use crate::memory::{EMPTY, Slot, is_outgrown};
 use crate::write::write_found;
+use task_record::refusal::Refusal;
 
-// The words of the small memory and of the large one, and how many examinations the rounds may have made when another begins with the small
+// The slots of the small memory and of the large one, and how many examinations the rounds may have made when another begins with the small
 // one, however crowded it is: as many as it has slots.
-const SMALL: usize = 2048;
+const SMALL: usize = 1024;
 
-const LARGE: usize = 32768;
+const LARGE: usize = 16384;
 
 const MOST: u32 = 1024;
 
-// How the rounds end: found with cost, count and the size of the plan; over with the count; spent with round and count. Or they are not
-// finished: the next round and the count.
+// How rounds end: found with cost, count and the size of the plan; over with the count; spent with round and count.
 #[derive(Clone, Copy)]
 pub(crate) enum Conclusion {
     Found(u32, u32, u32),
     Over(u32),
     Spent(u32, u32),
-    Unfinished(u32, u32),
 }
 
-// The answer with a buffer of a given length: found with cost, count and the number of bytes; too long with count and number of bytes; over
-// with the count; spent with round and count; none with the count.
+// Rounds that are not finished: the next round and the count.
 #[derive(Clone, Copy)]
-pub(crate) enum Answer {
-    Found(u32, u32, usize),
-    TooLong(u32, usize),
-    Over(u32),
-    Spent(u32, u32),
-    None(u32),
+pub(crate) struct Unfinished {
+    pub round: u32,
+    pub count: u32,
 }
 
-// The answer, or the next round and the count of rounds that are not finished.
+// A plan that the buffer is too short for: the count, and the bytes that it needs.
 #[derive(Clone, Copy)]
-pub(crate) enum Reply {
-    Ended(Answer),
-    Unfinished(u32, u32),
+pub(crate) struct TooLong {
+    pub count: u32,
+    pub bytes: u32,
+}
+
+impl From<TooLong> for Refusal {
+    ghost use Rattle.std.specs.Prelude.{◌≡◌};
+    ghost use Rattle.task_record.specs.declared.refusal.Refusal.TheVariants.{ShortPlan};
+
+    ghost from_gives = { λ e r. r ≡ ShortPlan e.bytes };
+
+    fn from(too_long: TooLong) -> Refusal {
+        Refusal::ShortPlan(u64::from(too_long.bytes))
+    }
+}
+
+// The answer of a plan that was found with a visit's depth and count, of so many bytes.
+fn found_with(v: Visit, bytes: u32) -> SearchAnswer
+    ensures { result ≡ SearchAnswer.Found v.d v.count bytes }
+{
+    SearchAnswer::Found(u64::from(v.d), u64::from(v.count), u64::from(bytes))
 }
 
 // The rounds from a visit's depth and count up to the limit, as long as the memory is not outgrown.
 fn deepen(
-    task: &[u64; 1282],
-    sets: &[u64; 2048],
-    places: &[u16; 4120],
-    rows: &[u16; 2048],
-    guide: &[u32; 80],
-    tables: &[u16],
-    memory: &mut [u64],
+    instance: &Instance,
+    memory: &mut [Slot],
     v: Visit,
     most: u32,
-) -> Conclusion
-    requires { Begun task.now sets.now places.now rows.now guide.now tables.now memory.old v.s v.value v.d v.count }
-    ensures conclusion { Concludes task.now rows.now guide.now tables.now v.s (guided_rounds task.now rows.now guide.now tables.now v.s v.d v.count) most result }
-    ensures memory { Remembers (guided_examination task.now rows.now guide.now tables.now) (budget_in guide.now) memory.new }
+) -> Result<Conclusion, Unfinished>
+    requires { Begun instance.now memory.old v.s v.value v.d v.count }
+    ensures conclusion { Concludes instance.now v.s (guided_rounds instance.now v.s v.d v.count) most result }
+    ensures memory { Remembers (guided_examination instance.now) instance.now.guide.budget memory.new }
 {
-    let limit = limit_in(guide);
     let mut c = v.count;
-    let mut d = v.d;
-    while d <= limit {
+    for d in v.d..instance.guide.limit + 1 {
         if is_outgrown(memory, most, c) {
-            return Conclusion::Unfinished(d, c);
+            return Err(Unfinished { round: d, count: c });
         }
-        let w = visit_of(v.s, v.value, d, c);
-        match examine_any(task, sets, places, rows, guide, tables, memory, w) {
+        match examine_any(instance, memory, Visit { d, count: c, ..v }) {
             Ending::Stopped(e) => {
-                return Conclusion::Spent(d, e);
+                return Ok(Conclusion::Spent(d, e));
             }
             Ending::Failed(e) => {
                 c = e;
             }
-            Ending::Succeeded(e, n, b) => {
-                return Conclusion::Found(d, e, n);
+            Ending::Succeeded(e, n, _) => {
+                return Ok(Conclusion::Found(d, e, n));
             }
         }
-        d += 1;
     }
-    Conclusion::Over(c)
+    Ok(Conclusion::Over(c))
 }
 
 // The plan of n bytes that a visit's depth has found with its count: written, if the buffer is long enough.
 fn tell_found(
-    task: &[u64; 1282],
-    sets: &[u64; 2048],
-    places: &[u16; 4120],
-    rows: &[u16; 2048],
-    guide: &[u32; 80],
-    tables: &[u16],
-    memory: &mut [u64],
+    instance: &Instance,
+    memory: &mut [Slot],
     plan: &mut [u8],
     v: Visit,
     n: u32,
-) -> Answer
-    requires { (Examinable task.now sets.now places.now rows.now guide.now tables.now memory.old v.s v.value v.d 0) × ((x : planning.Answer) × (FoundBy task.now rows.now guide.now tables.now v.s x v.d v.count n)) }
-    ensures { (x : planning.Answer) → FoundBy task.now rows.now guide.now tables.now v.s x v.d v.count n → Replied (length plan.old) x plan.new result }
+) -> Result<SearchAnswer, TooLong>
+    requires { (Remembers (guided_examination instance.now) instance.now.guide.budget memory.old) × (v.d < 256) × ((x : planning.Answer) × (FoundBy instance.now v.s x v.d v.count n)) }
+    ensures { (x : planning.Answer) → FoundBy instance.now v.s x v.d v.count n → Replied (length plan.old) x plan.new result }
 {
     let bytes = n as usize;
     if plan.len() < bytes {
         fill(plan, 0, 255);
-        return Answer::TooLong(v.count, bytes);
+        return Err(TooLong {
+            count: v.count,
+            bytes: n,
+        });
     }
-    let w = visit_of(v.s, v.value, v.d, 0);
-    write_found(task, sets, places, rows, guide, tables, memory, plan, w);
+    write_found(instance, memory, plan, v.s, v.d);
     fill(plan, bytes, 255);
-    Answer::Found(v.d, v.count, bytes)
+    Ok(found_with(v, n))
 }
 
 // The rounds, and the buffer as their answer wants it.
 fn conclude(
-    task: &[u64; 1282],
-    sets: &[u64; 2048],
-    places: &[u16; 4120],
-    rows: &[u16; 2048],
-    guide: &[u32; 80],
-    tables: &[u16],
-    memory: &mut [u64],
+    instance: &Instance,
+    memory: &mut [Slot],
     plan: &mut [u8],
     v: Visit,
     most: u32,
-) -> Reply
-    requires { Begun task.now sets.now places.now rows.now guide.now tables.now memory.old v.s v.value v.d v.count }
-    ensures { Replies task.now rows.now guide.now tables.now v.s (guided_rounds task.now rows.now guide.now tables.now v.s v.d v.count) most (length plan.old) plan.new result }
+) -> Result<Result<SearchAnswer, TooLong>, Unfinished>
+    requires { Begun instance.now memory.old v.s v.value v.d v.count }
+    ensures { Replies instance.now v.s (guided_rounds instance.now v.s v.d v.count) most (length plan.old) plan.new result }
 {
-    match deepen(task, sets, places, rows, guide, tables, memory, v, most) {
-        Conclusion::Unfinished(d, c) => Reply::Unfinished(d, c),
-        Conclusion::Found(d, c, n) => {
-            let w = visit_of(v.s, v.value, d, c);
-            let a = tell_found(task, sets, places, rows, guide, tables, memory, plan, w, n);
-            Reply::Ended(a)
+    match deepen(instance, memory, v, most)? {
+        Conclusion::Found(d, count, n) => {
+            let w = Visit { d, count, ..v };
+            Ok(tell_found(instance, memory, plan, w, n))
         }
         Conclusion::Over(c) => {
             fill(plan, 0, 255);
-            Reply::Ended(Answer::Over(c))
+            Ok(Ok(SearchAnswer::Over(u64::from(c))))
         }
         Conclusion::Spent(d, c) => {
             fill(plan, 0, 255);
-            Reply::Ended(Answer::Spent(d, c))
+            Ok(Ok(SearchAnswer::Spent(u64::from(d), u64::from(c))))
         }
     }
 }
 
-// The rounds with the small memory.
-fn run_small(
-    task: &[u64; 1282],
-    sets: &[u64; 2048],
-    places: &[u16; 4120],
-    rows: &[u16; 2048],
-    guide: &[u32; 80],
-    tables: &[u16],
+// The rounds with a memory of so many slots.
+fn run_with<const SLOTS: usize>(
+    instance: &Instance,
     plan: &mut [u8],
     v: Visit,
     most: u32,
-) -> Reply
-    requires { (Guided task.now sets.now places.now rows.now guide.now) × (Startable rows.now guide.now tables.now v.s v.value v.d v.count) }
-    ensures { Replies task.now rows.now guide.now tables.now v.s (guided_rounds task.now rows.now guide.now tables.now v.s v.d v.count) most (length plan.old) plan.new result }
+) -> Result<Result<SearchAnswer, TooLong>, Unfinished>
+    requires { (1 ≤ SLOTS) × (SLOTS ≤ 16384) × Startable instance.now v.s v.value v.d v.count }
+    ensures { Replies instance.now v.s (guided_rounds instance.now v.s v.d v.count) most (length plan.old) plan.new result }
 {
-    let mut memory = [0u64; SMALL];
-    conclude(
-        task,
-        sets,
-        places,
-        rows,
-        guide,
-        tables,
-        &mut memory,
-        plan,
-        v,
-        most,
-    )
+    let mut memory = [EMPTY; SLOTS];
+    conclude(instance, &mut memory, plan, v, most)
 }
 
 // The rounds with the large memory. They may make as many examinations as any budget has, so that they are never unfinished.
-fn run_large(
-    task: &[u64; 1282],
-    sets: &[u64; 2048],
-    places: &[u16; 4120],
-    rows: &[u16; 2048],
-    guide: &[u32; 80],
-    tables: &[u16],
-    plan: &mut [u8],
-    v: Visit,
-) -> Answer
-    requires { (Guided task.now sets.now places.now rows.now guide.now) × (Startable rows.now guide.now tables.now v.s v.value v.d v.count) }
-    ensures { Replied (length plan.old) (guided_rounds task.now rows.now guide.now tables.now v.s v.d v.count) plan.new result }
+fn run_large(instance: &Instance, plan: &mut [u8], v: Visit) -> Result<SearchAnswer, TooLong>
+    requires { Startable instance.now v.s v.value v.d v.count }
+    ensures { Replied (length plan.old) (guided_rounds instance.now v.s v.d v.count) plan.new result }
 {
-    let mut memory = [0u64; LARGE];
-    match conclude(
-        task,
-        sets,
-        places,
-        rows,
-        guide,
-        tables,
-        &mut memory,
-        plan,
-        v,
-        1000000,
-    ) {
-        Reply::Ended(a) => a,
-        Reply::Unfinished(d, c) => Answer::Spent(d, c),
+    match run_with::<LARGE>(instance, plan, v, 1000000) {
+        Ok(answer) => answer,
+        Err(Unfinished { round, count }) => Ok(SearchAnswer::Spent(
+            u64::from(round),
+            u64::from(count),
+        )),
     }
 }
 
 // The rounds with the small memory as long as it will do, then with the large one, which the count tells. It calls itself for that: a function makes
 // room for all its arrays where it begins, those of functions compiled into it among them, and one with a large array is not compiled into one that
 // calls itself. So a short search touches no page of the large memory, and the large one is made when the arrays of the build are gone.
-fn run_from(
-    task: &[u64; 1282],
-    sets: &[u64; 2048],
-    places: &[u16; 4120],
-    rows: &[u16; 2048],
-    guide: &[u32; 80],
-    tables: &[u16],
-    plan: &mut [u8],
-    v: Visit,
-) -> Answer
-    requires { (Guided task.now sets.now places.now rows.now guide.now) × (Startable rows.now guide.now tables.now v.s v.value v.d v.count) }
-    ensures { Replied (length plan.old) (guided_rounds task.now rows.now guide.now tables.now v.s v.d v.count) plan.new result }
+fn run_from(instance: &Instance, plan: &mut [u8], v: Visit) -> Result<SearchAnswer, TooLong>
+    requires { Startable instance.now v.s v.value v.d v.count }
+    ensures { Replied (length plan.old) (guided_rounds instance.now v.s v.d v.count) plan.new result }
 {
     if v.count > MOST {
-        return run_large(task, sets, places, rows, guide, tables, plan, v);
+        return run_large(instance, plan, v);
     }
-    match run_small(task, sets, places, rows, guide, tables, plan, v, MOST) {
-        Reply::Ended(a) => a,
-        Reply::Unfinished(d, c) => {
-            let next = visit_of(v.s, v.value, d, c);
-            run_from(task, sets, places, rows, guide, tables, plan, next)
+    match run_with::<SMALL>(instance, plan, v, MOST) {
+        Ok(answer) => answer,
+        Err(Unfinished { round, count }) => {
+            let next = Visit {
+                d: round,
+                count,
+                ..v
+            };
+            run_from(instance, plan, next)
         }
     }
 }
 
 // The search by rounds, from the value of the state on.
 pub(crate) fn run_rounds(
-    task: &[u64; 1282],
-    sets: &[u64; 2048],
-    places: &[u16; 4120],
-    rows: &[u16; 2048],
-    guide: &[u32; 80],
-    tables: &[u16],
+    instance: &Instance,
     plan: &mut [u8],
     s: u64,
-) -> Answer
-    requires { (Guided task.now sets.now places.now rows.now guide.now) × (limit_in guide.now < 256) }
-    ensures { Replied (length plan.old) (guided_search task.now rows.now guide.now tables.now s) plan.new result }
+) -> Result<SearchAnswer, TooLong>
+    requires { instance.now.guide.limit < 256 }
+    ensures { Replied (length plan.old) (guided_search instance.now s) plan.new result }
 {
-    let limit = limit_in(guide);
-    match value_of(
-        rows,
-        guide,
-        tables,
-        s,
-        patterns_in(guide),
-        variables_in(guide),
-    ) {
-        Value::Infinite => {
+    match value_of(instance, s) {
+        None => {
             fill(plan, 0, 255);
-            Answer::None(0)
+            Ok(SearchAnswer::None(0))
         }
-        Value::Finite(value) => {
-            if (limit as u64) < value {
+        Some(value) => {
+            if u64::from(instance.guide.limit) < value {
                 fill(plan, 0, 255);
-                return Answer::Over(0);
+                return Ok(SearchAnswer::Over(0));
             }
-            let v = visit_of(s, value, value as u32, 0);
-            run_from(task, sets, places, rows, guide, tables, plan, v)
+            let v = Visit {
+                s,
+                value,
+                d: value as u32,
+                count: 0,
+            };
+            run_from(instance, plan, v)
         }
     }
 }

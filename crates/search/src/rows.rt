@@ -10,12 +10,6 @@ ghost use Rattle.search.specs.Rows.{RowsOf, ValuesFilled, PatternFilled};
 
 use task_record::cells::{pattern_cells, pattern_count, size_of, variable_count};
 
-pub(crate) fn wide(x: u8) -> usize
-    ensures { (result ≡ x) × (result < 256) }
-{
-    x as usize
-}
-
 // What a value adds at a weight.
 fn product(x: usize, weight: usize) -> u16
     requires { (x < 16) × (weight ≤ 4096) }
@@ -50,7 +44,7 @@ fn weight_after(b: u8, weight: usize, z: u8) -> usize
     ensures { result ≡ (if nat_eq b 1 then weight * z else weight) }
 {
     if b == 1 {
-        return weight * wide(z);
+        return weight * usize::from(z);
     }
     weight
 }
@@ -63,21 +57,21 @@ fn fill_pattern(rec: &[u8], rows: &mut [u16], p: u8) -> usize
     let cells = pattern_cells(rec, p);
     let mut weight = 1usize;
     for v in 0..variable_count(rec) {
-        let b = cells[wide(v)];
-        fill_values(rows, wide(v), wide(p), weight_in(b, weight));
+        let b = cells[usize::from(v)];
+        fill_values(rows, usize::from(v), usize::from(p), weight_in(b, weight));
         weight = weight_after(b, weight, size_of(rec, v));
     }
     weight
 }
 
-// The rows of every pattern, and where their tables begin, at the start of the guide.
-pub(crate) fn fill_rows(rec: &[u8], rows: &mut [u16], guide: &mut [u32])
-    requires { (length rows.old ≡ 2048) × (length guide.old ≡ 80) × (Sound rec.now) × (Small (task_of rec.now) (patterns_of rec.now)) }
-    ensures { RowsOf (task_of rec.now).sizes (patterns_of rec.now) rows.new guide.new }
+// The rows of every pattern, and where their tables begin, in `offsets`.
+pub(crate) fn fill_rows(rec: &[u8], rows: &mut [u16], offsets: &mut [u32])
+    requires { (length rows.old ≡ 2048) × (length offsets.old ≡ 8) × (Sound rec.now) × (Small (task_of rec.now) (patterns_of rec.now)) }
+    ensures { RowsOf (task_of rec.now).sizes (patterns_of rec.now) rows.new offsets.new }
 {
     let mut begin = 0usize;
     for p in 0..pattern_count(rec) {
-        guide[wide(p)] = begin as u32;
+        offsets[usize::from(p)] = begin as u32;
         begin = begin + fill_pattern(rec, rows, p);
     }
 }

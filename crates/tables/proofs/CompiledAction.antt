@@ -9,7 +9,7 @@ use Rattle.planning.proofs.Finite.{length-tabulate, get_or_tabulate}
 use Rattle.task_record.specs.Layout.{at_precondition, at_outcome}
 use Rattle.task_record.specs.Numbers.{outcome_count}
 use Rattle.task_record.specs.TaskOf.{cells_at, action_of}
-use Rattle.tables.specs.Packed.{pack_by, naming, setting, digit_by, action_words}
+use Rattle.tables.specs.Packed.{pack_by, naming, leaving, setting, action_words}
 use Rattle.tables.specs.Compiling.{outcome_word, ActionCompiled}
 use Rattle.tables.proofs.Compiled.{outcome_words, length-chain, outcome_word_lem}
 
@@ -73,17 +73,17 @@ module _ (r : List ℕ) (m : ℕ) (few : outcome_count r m ≤ 8) where
       ∙ get_or-take 16 (w ++ replicate 16 0) (2 * k + i) 0 (omega arith)
       ∙ ap (λ z. get_or (w ++ replicate 16 0) z 0) e ∙ get_or-append-add w (replicate 16 0) (2 * k + i - 2 * count) 0 ∙ get_or-replicate 16 (2 * k + i - 2 * count) 0 0 (omega arith)
 
-  keep_word : (k : ℕ) → k < 8 → outcome_word 1 r m k ≡ get_or (action_words action) (4 + (2 * k + 0)) 0
-  unfolding outcome_word digit_by
+  keep_word : (k : ℕ) → k < 8 → outcome_word leaving r m k ≡ get_or (action_words action) (4 + (2 * k + 0)) 0
+  unfolding outcome_word
   keep_word k b = by_test (ltb k count) (λ e. rw e (sym (some_word k 0 (ltb-true k count e) (omega arith)))) (λ e. rw e (sym (no_word k 0 (ltb-false k count e) b (omega arith))))
 
-  set_word : (k : ℕ) → k < 8 → outcome_word 2 r m k ≡ get_or (action_words action) (4 + (2 * k + 1)) 0
-  unfolding outcome_word digit_by
+  set_word : (k : ℕ) → k < 8 → outcome_word setting r m k ≡ get_or (action_words action) (4 + (2 * k + 1)) 0
+  unfolding outcome_word
   set_word k b = by_test (ltb k count) (λ e. rw e (sym (some_word k 1 (ltb-true k count e) (omega arith)))) (λ e. rw e (sym (no_word k 1 (ltb-false k count e) b (omega arith))))
 
   -- One turn of the loop over the outcomes, and the words before it.
   pub compiling_outcome : (old now new : List ℕ) (k : ℕ) → k < 8 → 20 * m + 20 ≤ length old
-      → new ≡ set (set now (20 * m + 4 + 2 * k) (outcome_word 1 r m k)) (20 * m + 4 + 2 * k + 1) (outcome_word 2 r m k)
+      → new ≡ set (set now (20 * m + 4 + 2 * k) (outcome_word leaving r m k)) (20 * m + 4 + 2 * k + 1) (outcome_word setting r m k)
       → Compiling old now m action 4 (4 + 2 * k) → Compiling old new m action 4 (4 + 2 * (k + 1))
   compiling_outcome old now new k b l e h =
       let p : 4 + (2 * k + 0) ≡ 4 + 2 * k = omega arith in
@@ -93,9 +93,9 @@ module _ (r : List ℕ) (m : ℕ) (few : outcome_count r m ≤ 8) where
       (compiling_put old now m action 4 (4 + 2 * k) _ (20 * m + 4 + 2 * k) (omega arith) (omega arith) (omega arith) l (rw p at (keep_word k b)) h))
 
   pub compiling_head : (old new : List ℕ) → 20 * m + 20 ≤ length old
-      → new ≡ set (set (set (set old (20 * m) (pack_by (digit_by 0) (cells_at r (at_precondition m)))) (20 * m + 1) (pack_by (digit_by 2) (cells_at r (at_precondition m)))) (20 * m + 2) count) (20 * m + 3) 1
+      → new ≡ set (set (set (set old (20 * m) (pack_by naming (cells_at r (at_precondition m)))) (20 * m + 1) (pack_by setting (cells_at r (at_precondition m)))) (20 * m + 2) count) (20 * m + 3) 1
       → Compiling old new m action 0 4
-  unfolding digit_by action_words action_of
+  unfolding action_words action_of
   compiling_head old new l e = rw e
       (compiling_put old _ m action 0 3 1 (20 * m + 3) (omega arith) (omega arith) (omega arith) l refl
       (compiling_put old _ m action 0 2 count (20 * m + 2) (omega arith) (omega arith) (omega arith) l (sym outcomes_count)

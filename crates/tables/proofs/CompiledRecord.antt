@@ -6,7 +6,7 @@ use Rattle.task_record.specs.Numbers.{action_count}
 use Rattle.task_record.specs.Record.{Sound}
 use Rattle.task_record.specs.TaskOf.{cells_at, action_of, task_of}
 use Rattle.task_record.proofs.SoundTask.{actions_right}
-use Rattle.tables.specs.Packed.{pack_by, digit_by, action_words, compiled}
+use Rattle.tables.specs.Packed.{pack_by, naming, setting, action_words, compiled}
 use Rattle.tables.specs.Compiling.{ActionCompiled, ActionsCompiled, Cleared}
 use Rattle.tables.proofs.Compiled.{words_are_compiled}
 use Rattle.patterns.proofs.Reading.{actions_length, action_at_lem}
@@ -41,16 +41,16 @@ next_cleared old now new from i f l e h = rw e (record {
 
 module _ (r : List ℕ) (sound : Sound r) (old actions new : List ℕ) (whole : length old ≡ 1282)
     (z : (i : ℕ) → 20 * action_count r ≤ i → i < 1280 → get_or old i 0 ≡ 0) (a : ActionsCompiled r old actions (action_count r))
-    (e : new ≡ set (set actions 1280 (pack_by (digit_by 0) (cells_at r at_goal))) 1281 (pack_by (digit_by 2) (cells_at r at_goal))) where
+    (e : new ≡ set (set actions 1280 (pack_by naming (cells_at r at_goal))) 1281 (pack_by setting (cells_at r at_goal))) where
   long : length actions ≡ 1282
   long = a.long ∙ whole
 
   kept : (i : ℕ) → i < 1280 → get_or new i 0 ≡ get_or actions i 0
-  kept i l = rw e (get_or-set_other (set actions 1280 (pack_by (digit_by 0) (cells_at r at_goal))) 1281 i (pack_by (digit_by 2) (cells_at r at_goal)) 0 (λ q. omega arith)
-      ∙ get_or-set_other actions 1280 i (pack_by (digit_by 0) (cells_at r at_goal)) 0 (λ q. omega arith))
+  kept i l = rw e (get_or-set_other (set actions 1280 (pack_by naming (cells_at r at_goal))) 1281 i (pack_by setting (cells_at r at_goal)) 0 (λ q. omega arith)
+      ∙ get_or-set_other actions 1280 i (pack_by naming (cells_at r at_goal)) 0 (λ q. omega arith))
 
   pub record_compiled : new ≡ compiled (task_of r)
-  unfolding task_of digit_by
+  unfolding task_of
   record_compiled = let n = actions_right r sound in let c = actions_length r in
       words_are_compiled (task_of r) (rw c n) new (rw e (length-set (set actions 1280 _) 1281 _ ∙ length-set actions 1280 _ ∙ long))
       (λ m i l k. let b : m < action_count r = rw c at l in kept (20 * m + i) (omega arith) ∙ a.words m i b k ∙ sym (ap (λ x. get_or (action_words x) i 0) (action_at_lem r m b)))

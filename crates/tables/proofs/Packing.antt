@@ -8,6 +8,8 @@ use Rattle.planning.specs.Finite.{All}
 use Rattle.planning.specs.Task.{meets, apply, in_sizes}
 use Rattle.planning.specs.Pattern.{keep}
 use Rattle.planning.proofs.Test.{T_true, bool_iff, and_in, and_l, and_r, by_test}
+use Rattle.tables.specs.declared.packed.DigitRule.{DigitRule}
+use Rattle.tables.specs.declared.packed.DigitRule.TheVariants.{Naming, Leaving, Setting, Low, Picking}
 use Rattle.tables.specs.Packed.{pack_by, picking, low, naming, leaving, setting, cells_of, digit_by}
 use Rattle.tables.specs.Packable.{all_cells_fit}
 
@@ -146,10 +148,13 @@ pub pack_whole : (g : ℕ → ℕ) (s : List ℕ) (i p : ℕ) → i ≤ 0 → p 
 pack_whole g s zero p h e = e
 pack_whole g s (suc i) p h e = absurd (omega arith)
 
-pub digit_by_digit : (rule x : ℕ) → digit_by rule x < 16
+pub digit_by_digit : (rule : DigitRule) (x : ℕ) → digit_by rule x < 16
 unfolding digit_by
-digit_by_digit rule x = cond-digit (eqb rule 0) (naming x) _ (naming-digit x) (cond-digit (eqb rule 1) (leaving x) _ (leaving-digit x)
-    (cond-digit (eqb rule 2) (setting x) _ (setting-digit x) (cond-digit (eqb rule 3) (low x) _ (low_digit x) (cond-digit (eqb x 1) 15 0 (omega arith) (omega arith)))))
+digit_by_digit Naming x = naming-digit x
+digit_by_digit Leaving x = leaving-digit x
+digit_by_digit Setting x = setting-digit x
+digit_by_digit Low x = low_digit x
+digit_by_digit Picking x = cond-digit (eqb x 1) 15 0 (omega arith) (omega arith)
 
 -- A list with one cell more.
 pub pack_snoc : (g : ℕ → ℕ) (s : List ℕ) (x : ℕ) → pack_by g (s ++ (x ∷ [])) ≡ pack_by g s + g x * 16 ^ length s

@@ -7,7 +7,7 @@ use Rattle.task_record.specs.Scan.{all_below}
 use Rattle.task_record.proofs.Scanning.{all_at}
 use Rattle.task_record.proofs.SoundTask.{cell_of_part, length_of_part}
 use Rattle.planning.proofs.Test.{by_test}
-use Rattle.tables.specs.Packed.{pack_by, digit_by, low, leaving, setting}
+use Rattle.tables.specs.Packed.{pack_by, low, leaving, setting}
 use Rattle.tables.specs.Squeezed.{bytes_of, plain_cell, squeezed}
 
 -- A mask of digits that stand 16 bits apart takes the low digit of every second byte.
@@ -191,8 +191,8 @@ module _ (c : List ℕ) (whole : length c ≡ 16) (plain : (i : ℕ) → i < 16 
 pub plain_words : (c : List ℕ) → length c ≡ 16 → all_below (λ i. plain_cell (get_or c i 0)) 16 ≡ true → (keep all : ℕ) →
     keep ≡ squeezed 8 (bytes_of (take 8 (drop 0 c)) / 16) + 4294967296 * squeezed 8 (bytes_of (take 8 (drop 8 c)) / 16) →
     all ≡ squeezed 8 (bytes_of (take 8 (drop 0 c))) + 4294967296 * squeezed 8 (bytes_of (take 8 (drop 8 c))) →
-    (keep ≤ all) × (keep ≡ pack_by (digit_by 1) c) × (all - keep ≡ pack_by (digit_by 2) c)
-unfolding digit_by plain_cell
+    (keep ≤ all) × (keep ≡ pack_by leaving c) × (all - keep ≡ pack_by setting c)
+unfolding plain_cell
 plain_words c whole ok keep all k a =
     let plain : (i : ℕ) → i < 16 → (get_or c i 0 ≡ 255 → ⊥) → get_or c i 0 < 16 =
     (λ i l n. ltb-true (get_or c i 0) 16 (rw (ne_eqb (get_or c i 0) 255 n) at (all_at (λ i. plain_cell (get_or c i 0)) 16 i ok l))) in

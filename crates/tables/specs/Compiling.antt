@@ -4,11 +4,11 @@ use Rattle.planning.specs.Task.{Action}
 use Rattle.task_record.specs.Layout.{at_outcome}
 use Rattle.task_record.specs.Numbers.{outcome_count}
 use Rattle.task_record.specs.TaskOf.{cells_at, action_of}
-use Rattle.tables.specs.Packed.{pack_by, digit_by, action_words}
+use Rattle.tables.specs.Packed.{pack_by, action_words}
 
--- Outcome k of action m as a word by a rule, 0 where there is no such outcome.
-unfoldable pub outcome_word : ℕ → List ℕ → ℕ → ℕ → ℕ
-outcome_word rule r m k = cond (nat_lt k (outcome_count r m)) (pack_by (digit_by rule) (cells_at r (at_outcome m k))) 0
+-- Outcome k of action m as a word by a rule for its digits, 0 where there is no such outcome.
+unfoldable pub outcome_word : (ℕ → ℕ) → List ℕ → ℕ → ℕ → ℕ
+outcome_word rule r m k = cond (nat_lt k (outcome_count r m)) (pack_by rule (cells_at r (at_outcome m k))) 0
 
 -- The words of action m are there, and the others as they were.
 pub record ActionCompiled (old new : List ℕ) (m : ℕ) (a : Action) : Type 0 where

@@ -4,6 +4,8 @@ use Rattle.std.specs.Prelude.{ℕ, zero, suc, ◌+◌, ◌*◌, ◌/◌, ◌%◌
 use Rattle.planning.specs.Finite.{tabulate, chain}
 use Rattle.planning.specs.System.{System}
 use Rattle.planning.specs.Task.{Action, Task}
+use Rattle.tables.specs.declared.packed.DigitRule.{DigitRule}
+use Rattle.tables.specs.declared.packed.DigitRule.TheVariants.{Naming, Leaving, Setting, Low, Picking}
 
 -- A list of cells as one number, a digit of 16 for each, by a rule for the digit.
 unfoldable pub pack_by : (ℕ → ℕ) → List ℕ → ℕ
@@ -75,9 +77,14 @@ action_words a = pack_by naming a.precondition ∷ pack_by setting a.preconditio
 unfoldable pub compiled : Task → List ℕ
 compiled t = take 1280 (chain action_words t.actions ++ replicate 1280 0) ++ (pack_by naming t.goal ∷ pack_by setting t.goal ∷ [])
 
--- The rule for a digit by its number: 0 naming, 1 leaving, 2 setting, 3 low, 4 the digits of a pattern's variables.
+-- The digits of a pattern's variables: 15 where a cell is 1.
 abbrev pub picking : ℕ → ℕ
 picking b = cond (b == 1) 15 0
 
-unfoldable pub digit_by : ℕ → ℕ → ℕ
-digit_by rule x = cond (rule == 0) (naming x) (cond (rule == 1) (leaving x) (cond (rule == 2) (setting x) (cond (rule == 3) (low x) (picking x))))
+-- The digit by each rule.
+unfoldable pub digit_by : DigitRule → ℕ → ℕ
+digit_by Naming x = naming x
+digit_by Leaving x = leaving x
+digit_by Setting x = setting x
+digit_by Low x = low x
+digit_by Picking x = picking x

@@ -5,6 +5,8 @@
 ghost use Rattle.std.specs.Prelude.{◌≡◌, ℕ, ◌+◌, ◌*◌, ◌/◌, ◌%◌, ◌<◌, ◌≤◌, length, bit_and, slice_index};
 ghost use Rattle.tables.specs.Sets.{lowest_need, action_need, spread, meet_from, Entered, SlotsOf, RowFilled, RowsFilled, sets_filled};
 
+// The slot of the lowest digit that an action needs: its value, or the last of seventeen where any value will do.
+// Stays: 16 is a place among the slots like the others, and goes into an index as it is; an Option would be turned into it at once.
 fn lowest_need(need: u64, value: u64) -> usize
     ensures { (result ≡ lowest_need need value) × (result < 17) }
 {
@@ -114,7 +116,7 @@ fn two_bytes(sets: &[u64; 2048], b: usize, s: u64, rest: u64) -> u64
 pub fn applying(sets: &[u64; 2048], s: u64, bytes: usize) -> u64
     ensures { result ≡ meet_from sets.now 0 (spread bytes) s }
 {
-    let all = 18446744073709551615u64;
+    let all = u64::MAX;
     if bytes <= 2 {
         return two_bytes(sets, 0, s, all);
     }

@@ -8,7 +8,7 @@ ghost use Rattle.tables.specs.Certified.{Lookable, Finished};
 ghost use Rattle.tables.specs.Built.{Built};
 
 use crate::certify::is_certified;
-use crate::packed::{PICKING, pack};
+use crate::packed::{DigitRule, pack};
 use crate::ranking::{fill_states, weights_of};
 use crate::space::Space;
 use crate::sweep::{lively, settle, settles, start};
@@ -74,7 +74,7 @@ fn build_within<const STATES: usize>(
     let mut states = [0u64; STATES];
     fill_states(sizes, pattern, n, &mut states);
     let weights = weights_of(sizes, pattern, n);
-    let mask = pack(PICKING, &pattern);
+    let mask = pack(DigitRule::Picking, &pattern);
     let space = Space {
         task,
         mask,

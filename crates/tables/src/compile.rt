@@ -2,11 +2,10 @@
 ghost use Rattle.std.specs.Prelude.{◌≡◌, ◌+◌, ◌<◌, ◌≤◌, length, slice_set};
 ghost use Rattle.task_record.specs.Numbers.{outcome_count};
 ghost use Rattle.task_record.specs.TaskOf.{action_of};
-ghost use Rattle.tables.specs.Packed.{pack_by, digit_by};
+ghost use Rattle.tables.specs.Packed.{pack_by, naming, leaving, setting};
 ghost use Rattle.tables.specs.Compiling.{outcome_word, ActionCompiled};
 
-use crate::packed::{NAMING, pack};
-use crate::ranking::wide;
+use crate::packed::{DigitRule, pack};
 use crate::words::{Words, words_of};
 use task_record::cells::{outcome_cells, outcome_count, precondition_cells};
 
@@ -22,7 +21,7 @@ pub(crate) fn put(task: &mut [u64], at: usize, x: u64)
 
 // The two words of outcome k, 0 where there is none.
 fn outcome_words(rec: &[u8], m: u8, k: u8) -> Words
-    ensures { (result.keep ≡ outcome_word 1 rec.now m k) × (result.value ≡ outcome_word 2 rec.now m k) }
+    ensures { (result.keep ≡ outcome_word leaving rec.now m k) × (result.value ≡ outcome_word setting rec.now m k) }
 {
     if k < outcome_count(rec, m) {
         return words_of(outcome_cells(rec, m, k));
@@ -32,7 +31,7 @@ fn outcome_words(rec: &[u8], m: u8, k: u8) -> Words
 
 fn put_outcome(rec: &[u8], m: u8, k: u8, task: &mut [u64], at: usize)
     requires { (at + 1 < length task.old) × (at < 2000) }
-    ensures { task.new ≡ slice_set (slice_set task.old at (outcome_word 1 rec.now m k)) (at + 1) (outcome_word 2 rec.now m k) }
+    ensures { task.new ≡ slice_set (slice_set task.old at (outcome_word leaving rec.now m k)) (at + 1) (outcome_word setting rec.now m k) }
 {
     let words = outcome_words(rec, m, k);
     put(task, at, words.keep);
@@ -41,19 +40,19 @@ fn put_outcome(rec: &[u8], m: u8, k: u8, task: &mut [u64], at: usize)
 
 // The digits that a precondition or a goal names, given those that it does not name.
 pub(crate) fn named_digits(pre: &[u8], keep: u64) -> u64
-    requires { (length pre.now ≤ 16) × (keep ≡ pack_by (digit_by 1) pre.now) }
-    ensures { result ≡ pack_by (digit_by 0) pre.now }
+    requires { (length pre.now ≤ 16) × (keep ≡ pack_by leaving pre.now) }
+    ensures { result ≡ pack_by naming pre.now }
 {
     if pre.len() == 16 {
-        return 18446744073709551615 - keep;
+        return u64::MAX - keep;
     }
-    pack(NAMING, pre)
+    pack(DigitRule::Naming, pre)
 }
 
 // The four words before the outcomes.
 fn put_head(pre: &[u8], count: u64, task: &mut [u64], at: usize)
     requires { (length pre.now ≤ 16) × (at + 3 < length task.old) × (at < 2000) }
-    ensures { task.new ≡ slice_set (slice_set (slice_set (slice_set task.old at (pack_by (digit_by 0) pre.now)) (at + 1) (pack_by (digit_by 2) pre.now)) (at + 2) count) (at + 3) 1 }
+    ensures { task.new ≡ slice_set (slice_set (slice_set (slice_set task.old at (pack_by naming pre.now)) (at + 1) (pack_by setting pre.now)) (at + 2) count) (at + 3) 1 }
 {
     let words = words_of(pre);
     let mask = named_digits(pre, words.keep);
@@ -68,16 +67,14 @@ pub(crate) fn compile_action(rec: &[u8], m: u8, task: &mut [u64])
     requires { (outcome_count rec.now m ≤ 8) × (m < 64) × (1280 ≤ length task.old) }
     ensures { ActionCompiled task.old task.new m (action_of rec.now m) }
 {
-    let at = 20 * wide(m);
+    let at = 20 * usize::from(m);
     put_head(
         precondition_cells(rec, m),
-        outcome_count(rec, m) as u64,
+        u64::from(outcome_count(rec, m)),
         task,
         at,
     );
-    let mut k = 0u8;
-    while k < 8 {
-        put_outcome(rec, m, k, task, at + 4 + 2 * wide(k));
-        k += 1;
+    for k in 0..8u8 {
+        put_outcome(rec, m, k, task, at + 4 + 2 * usize::from(k));
     }
 }

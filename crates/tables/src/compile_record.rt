@@ -7,7 +7,6 @@ ghost use Rattle.tables.specs.Packed.{compiled};
 ghost use Rattle.tables.specs.Compiling.{ActionsCompiled, Cleared};
 
 use crate::compile::{compile_action, named_digits, put};
-use crate::ranking::wide;
 use crate::words::words_of;
 use task_record::cells::{action_count, goal_cells};
 
@@ -16,11 +15,8 @@ fn compile_actions(rec: &[u8], task: &mut [u64])
     requires { (Sound rec.now) × (1280 ≤ length task.old) }
     ensures { ActionsCompiled rec.now task.old task.new (action_count rec.now) }
 {
-    let n = action_count(rec);
-    let mut m = 0u8;
-    while m < n {
+    for m in 0..action_count(rec) {
         compile_action(rec, m, task);
-        m += 1;
     }
 }
 
@@ -29,11 +25,7 @@ fn clear_from(task: &mut [u64], from: usize)
     requires { (from ≤ 1280) × (1280 ≤ length task.old) }
     ensures { Cleared task.old task.new from 1280 }
 {
-    let mut i = from;
-    while i < 1280 {
-        put(task, i, 0);
-        i += 1;
-    }
+    task[from..1280].fill(0);
 }
 
 // The compiled task in words that are 0, those of the actions and of the goal aside.
@@ -54,6 +46,6 @@ pub(crate) fn compile_record(rec: &[u8], task: &mut [u64; 1282])
     requires { Sound rec.now }
     ensures { task.new ≡ compiled (task_of rec.now) }
 {
-    clear_from(task, 20 * wide(action_count(rec)));
+    clear_from(task, 20 * usize::from(action_count(rec)));
     compile_cleared(rec, task);
 }

@@ -7,7 +7,7 @@ ghost use Rattle.tables.specs.Steps.{weights_from, Sized, Extended};
 pub(crate) fn wide(x: u8) -> usize
     ensures { (result ≡ x) × (result < 256) }
 {
-    x as usize
+    usize::from(x)
 }
 
 // The weight of a variable: that of the next one in the pattern, 0 outside it.
@@ -27,7 +27,7 @@ pub(crate) fn next_weight(b: u8, w: usize, z: u8) -> usize
     ensures { result ≡ (if nat_eq b 1 then w * z else w) }
 {
     if b == 1 {
-        return w * wide(z);
+        return w * usize::from(z);
     }
     w
 }
@@ -38,12 +38,9 @@ pub(crate) fn weights_of(sizes: [u8; 16], pattern: [u8; 16], n: usize) -> [u16; 
 {
     let mut r = [0u16; 16];
     let mut w = 1usize;
-    let mut v = 0usize;
-    while v < n {
-        let b = pattern[v];
-        r[v] = weight_in(b, w);
-        w = next_weight(b, w, sizes[v]);
-        v += 1;
+    for v in 0..n {
+        r[v] = weight_in(pattern[v], w);
+        w = next_weight(pattern[v], w, sizes[v]);
     }
     r
 }
@@ -54,10 +51,8 @@ pub(crate) fn state_count(sizes: [u8; 16], pattern: [u8; 16], n: usize) -> usize
     ensures { result ≡ state_count (take n sizes) pattern }
 {
     let mut w = 1usize;
-    let mut v = 0usize;
-    while v < n {
+    for v in 0..n {
         w = next_weight(pattern[v], w, sizes[v]);
-        v += 1;
     }
     w
 }
@@ -74,10 +69,8 @@ fn extend(states: &mut [u64], w: usize, end: usize, place: u64)
     requires { (1 ≤ w) × (end ≤ length states.old) }
     ensures { Extended states.old states.new w end place }
 {
-    let mut k = w;
-    while k < end {
-        states[k] = std::num::wrapping_add_u64(states[k - w], place);
-        k += 1;
+    for k in w..end {
+        states[k] = states[k - w].wrapping_add(place);
     }
 }
 
@@ -88,12 +81,10 @@ pub(crate) fn fill_states(sizes: [u8; 16], pattern: [u8; 16], n: usize, states: 
 {
     let mut w = 1usize;
     let mut place = 1u64;
-    let mut v = 0usize;
-    while v < n {
+    for v in 0..n {
         let next = next_weight(pattern[v], w, sizes[v]);
         extend(states, w, next, place);
         w = next;
         place = next_place(place);
-        v += 1;
     }
 }

@@ -14,8 +14,8 @@ ghost use Rattle.tables.specs.RecordTables.{Buildable, table_build, built_over, 
 use crate::applying::fill_sets;
 use crate::builder::{ProvedWorklist, TableBuilder, Tested};
 use crate::compile_record::{compile_cleared, compile_record};
-use crate::packed::{LOW, pack};
-use crate::ranking::{state_count, wide};
+use crate::packed::{DigitRule, pack};
+use crate::ranking::state_count;
 use patterns::estimate::check_estimate;
 use patterns::space::{check_tables, sizes_of};
 use task_record::cells::{
@@ -35,8 +35,8 @@ fn build_one<B: TableBuilder>(
     requires { (Sound rec.now) × (task.now ≡ compiled (task_of rec.now)) × (Sixteen (size_of rec.now) sizes) × (p < pattern_count rec.now) × (state_count (task_of rec.now).sizes (cells_at rec.now (at_pattern p)) ≤ 4096) × (begin + state_count (task_of rec.now).sizes (cells_at rec.now (at_pattern p)) ≤ length tables.old) }
     ensures { (result ≡ begin + state_count (task_of rec.now).sizes (cells_at rec.now (at_pattern p))) × (tables.new ≡ take begin tables.old ++ (map entry_of (table (task_of rec.now) (cells_at rec.now (at_pattern p))) ++ drop result tables.old)) }
 {
-    let n = wide(variable_count(rec));
-    let actions = wide(action_count(rec));
+    let n = usize::from(variable_count(rec));
+    let actions = usize::from(action_count(rec));
     let pattern = state_of(pattern_cells(rec, p));
     let end = begin + state_count(sizes, pattern, n);
     B::build_table(task, actions, n, sizes, pattern, &mut tables[begin..end]);
@@ -100,9 +100,9 @@ fn start_word(rec: &[u8]) -> u64
     requires { Sound rec.now }
     ensures { result ≡ pack_by low (start_of rec.now) }
 {
-    let n = wide(variable_count(rec));
+    let n = usize::from(variable_count(rec));
     let cells = start_cells(rec);
-    pack(LOW, &cells[..n])
+    pack(DigitRule::Low, &cells[..n])
 }
 
 // All that a search needs before it starts: patterns that are additive, their tables, the compiled task, its sets of applying actions, and the
@@ -120,9 +120,9 @@ fn prepare_with<B: TableBuilder>(
     check_estimate(rec, tables.len())?;
     compile_record(rec, task);
     build_all::<B>(rec, task, tables);
-    let actions = wide(action_count(rec));
-    let bytes = (wide(variable_count(rec)) + 1) / 2;
-    fill_sets(task, 18446744073709551615, actions, bytes, sets);
+    let actions = usize::from(action_count(rec));
+    let bytes = (usize::from(variable_count(rec)) + 1) / 2;
+    fill_sets(task, u64::MAX, actions, bytes, sets);
     Ok(start_word(rec))
 }
 

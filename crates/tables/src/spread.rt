@@ -1,6 +1,6 @@
 // The spread of a pattern's table: how many of its abstract states have each cost, counted in a lent row. It shows whether a pattern tells
 // states apart.
-ghost use Rattle.std.specs.Prelude.{◌≡◌, suc, ◌+◌, ◌<◌, ◌≤◌, min, [], map, length, take, replicate};
+ghost use Rattle.std.specs.Prelude.{◌≡◌, suc, ◌+◌, ◌<◌, ◌≤◌, min, [], map, length, take};
 ghost use Rattle.planning.specs.Table.{cost_of, EntriesBelow, most_cost, Small};
 ghost use Rattle.planning.specs.Spread.{row_size, spread};
 ghost use Rattle.task_record.specs.Numbers.{pattern_count};
@@ -12,32 +12,21 @@ ghost use Rattle.tables.specs.RecordTables.{Buildable, built_over};
 ghost use Rattle.tables.specs.Spread.{costs_named, states_named, table_spread, tables_spread, row_spread};
 
 use crate::builder::{ProvedWorklist, TableBuilder, Tested};
-use crate::ranking::{state_count, wide};
+use crate::ranking::state_count;
 use crate::record_tables::build_checked;
 use patterns::space::{check_tables, sizes_of};
+use std::ops::Range;
 use task_record::cells::{pattern_cells, pattern_count, state_of, variable_count};
 use task_record::refusal::Refusal;
 
 // A count for each cost that a table can hold, from 0 on, and after them one for infinity.
 const ROW: usize = 4097;
 
-fn clear(row: &mut [u32])
-    ensures { row.new ≡ replicate (length row.old) 0 }
-{
-    for i in 0..row.len() {
-        row[i] = 0;
-    }
-}
-
 // The place of an entry in the row: its own where it is finite, and so at most 4,095; an infinite one is cut to the last.
 fn place_of(e: u16) -> usize
     ensures { result ≡ min e (suc most_cost) }
 {
-    let k = e as usize;
-    if k < ROW {
-        return k;
-    }
-    ROW - 1
+    usize::from(e).min(ROW - 1)
 }
 
 // Counts the entries of a table in a row that is cleared.
@@ -45,26 +34,18 @@ fn count_entries(entries: &[u16], row: &mut [u32])
     requires { (length entries.now ≤ 4096) × (EntriesBelow (suc most_cost) (map cost_of entries.now)) × (row.old ≡ spread []) }
     ensures { row.new ≡ spread (map cost_of entries.now) }
 {
-    for i in 0..entries.len() {
-        let k = place_of(entries[i]);
-        row[k] = row[k] + 1;
+    for e in entries {
+        row[place_of(*e)] += 1;
     }
 }
 
-// The part of the tables that a pattern's table takes.
-#[derive(Clone, Copy)]
-struct Part {
-    begin: usize,
-    end: usize,
-}
-
-// The part of pattern p: behind the entries of the patterns before it.
-fn part_of(rec: &[u8], p: u8) -> Part
+// The part of the tables that pattern p's table takes: behind the entries of the patterns before it.
+fn part_of(rec: &[u8], p: u8) -> Range<usize>
     requires { (Sound rec.now) × (Small (task_of rec.now) (patterns_of rec.now)) × (p < pattern_count rec.now) }
-    ensures { (result.begin ≡ entries_needed (task_of rec.now).sizes (take p (patterns_of rec.now))) × (result.end ≡ entries_needed (task_of rec.now).sizes (take (p + 1) (patterns_of rec.now))) }
+    ensures { (result.start ≡ entries_needed (task_of rec.now).sizes (take p (patterns_of rec.now))) × (result.end ≡ entries_needed (task_of rec.now).sizes (take (p + 1) (patterns_of rec.now))) }
 {
     let sizes = sizes_of(rec);
-    let n = wide(variable_count(rec));
+    let n = usize::from(variable_count(rec));
     let mut begin = 0usize;
     let mut end = 0usize;
     for q in 0..p + 1 {
@@ -72,14 +53,7 @@ fn part_of(rec: &[u8], p: u8) -> Part
         begin = end;
         end = begin + state_count(sizes, pattern, n);
     }
-    Part { begin, end }
-}
-
-fn narrow(pattern: u64) -> u8
-    requires { pattern < 256 }
-    ensures { result ≡ pattern }
-{
-    pattern as u8
+    begin..end
 }
 
 // The spread of a pattern's table that stands among the tables of its record; of a number that names no pattern all counts are 0. Answers how
@@ -88,14 +62,11 @@ fn count_pattern(rec: &[u8], pattern: u64, tables: &[u16], row: &mut [u32]) -> u
     requires { (Buildable rec.now (length tables.now)) × (tables.now ≡ built_over rec.now tables.now) × (length row.old ≡ row_size) }
     ensures { (result ≡ states_named rec.now pattern) × (row.new ≡ spread (costs_named rec.now pattern)) }
 {
-    clear(row);
-    if pattern < wide(pattern_count(rec)) as u64 {
-        let p = narrow(pattern);
-        let part = part_of(rec, p);
-        let begin = part.begin;
-        let end = part.end;
-        count_entries(&tables[begin..end], row);
-        return (end - begin) as u64;
+    row.fill(0);
+    if pattern < u64::from(pattern_count(rec)) {
+        let part = part_of(rec, pattern as u8);
+        count_entries(&tables[part.start..part.end], row);
+        return (part.end - part.start) as u64;
     }
     0
 }

@@ -2,10 +2,10 @@
 // whether it names a value, and its low digit which.
 ghost use Rattle.std.specs.Prelude.{◌≡◌, ◌+◌, ◌<◌, ◌≤◌, length, take, drop, ◌==◌, slice_index};
 ghost use Rattle.task_record.specs.Scan.{all_below};
-ghost use Rattle.tables.specs.Packed.{pack_by, digit_by};
+ghost use Rattle.tables.specs.Packed.{pack_by, leaving, setting};
 ghost use Rattle.tables.specs.Squeezed.{bytes_of, plain_cell, squeezed};
 
-use crate::packed::{LEAVING, SETTING, pack};
+use crate::packed::{DigitRule, pack};
 
 // What an outcome keeps, and what it sets; of a precondition the digits that it does not name, and the values that it names.
 #[derive(Clone, Copy)]
@@ -32,16 +32,10 @@ fn all_plain(cells: &[u8]) -> bool
     ensures { result ≡ all_below (λ i. plain_cell (slice_index cells.now i)) 16 }
 {
     let mut bad = 0u8;
-    for i in 0..16usize {
-        bad = bad | strange(cells[i]);
+    for x in cells {
+        bad = bad | strange(*x);
     }
     bad == 0
-}
-
-fn byte_of(x: u8) -> u64
-    ensures { (result ≡ x) × (result < 256) }
-{
-    x as u64
 }
 
 // Four cells as the bytes of a number.
@@ -49,10 +43,10 @@ fn four(c: &[u8], at: usize) -> u64
     requires { (at + 4 ≤ length c.now) × (at ≤ 16) }
     ensures { (result ≡ bytes_of (take 4 (drop at c.now))) × (result < 4294967296) }
 {
-    byte_of(c[at])
-        + 256 * byte_of(c[at + 1])
-        + 65536 * byte_of(c[at + 2])
-        + 16777216 * byte_of(c[at + 3])
+    u64::from(c[at])
+        + 256 * u64::from(c[at + 1])
+        + 65536 * u64::from(c[at + 2])
+        + 16777216 * u64::from(c[at + 3])
 }
 
 // The low digits of the eight bytes of a word, side by side.
@@ -79,7 +73,7 @@ fn eight(c: &[u8], at: usize) -> u64
 // The words of at most sixteen cells.
 pub(crate) fn words_of(cells: &[u8]) -> Words
     requires { length cells.now ≤ 16 }
-    ensures { (result.keep ≡ pack_by (digit_by 1) cells.now) × (result.value ≡ pack_by (digit_by 2) cells.now) }
+    ensures { (result.keep ≡ pack_by leaving cells.now) × (result.value ≡ pack_by setting cells.now) }
 {
     if cells.len() == 16 {
         if all_plain(cells) {
@@ -88,13 +82,13 @@ pub(crate) fn words_of(cells: &[u8]) -> Words
             let keep = squeeze(x / 16) + 4294967296 * squeeze(y / 16);
             let low = squeeze(x) + 4294967296 * squeeze(y);
             return Words {
-                keep: keep,
+                keep,
                 value: low - keep,
             };
         }
     }
     Words {
-        keep: pack(LEAVING, cells),
-        value: pack(SETTING, cells),
+        keep: pack(DigitRule::Leaving, cells),
+        value: pack(DigitRule::Setting, cells),
     }
 }

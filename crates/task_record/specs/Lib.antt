@@ -6,6 +6,7 @@ pub mod Scan
 pub mod Refusals
 pub mod Record
 pub mod State
+pub mod SoundRecord
 pub mod Answers
 pub mod TaskOf
 pub mod Window

@@ -11,3 +11,4 @@ pub mod layout;
 mod measured;
 pub mod record;
 pub mod refusal;
+pub mod sound;

@@ -203,7 +203,7 @@ pub fn check_record(rec: &[u8]) -> Result<(), Refusal>
     }
 }
 
-fn judge_state(rec: &[u8], state: &[u8]) -> Result<(), Refusal>
+pub(crate) fn judge_state(rec: &[u8], state: &[u8]) -> Result<(), Refusal>
     requires { Sound rec.now }
     ensures { result ≡ judge_state rec.now state.now }
 {

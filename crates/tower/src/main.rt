@@ -2,29 +2,12 @@
 // there. It ends with exit code 0 whatever it prints, refusals too; with 1 only where standard input or output fails.
 #![tactic(auto)]
 
-ghost use Rattle.std.specs.Prelude.{◌≤◌, IfOk, length};
-
+use report::input::read_full;
 use report::text::report_text;
 use std::io;
-use std::io::Read;
 
 // Four bytes for each byte of the plan and 256 more: what `report_text` never passes.
 const OUT_SIZE: usize = 262400;
-
-// Reads until the buffer is full or the input ends. Answers how many bytes there are.
-fn read_full<R: Read>(input: &mut R, buffer: &mut [u8]) -> io::Result<usize>
-    ensures { IfOk result (λ n. n ≤ length buffer.new) }
-{
-    let mut done = 0;
-    while done < buffer.len() {
-        let n = input.read(&mut buffer[done..])?;
-        if n == 0 {
-            break;
-        }
-        done += n;
-    }
-    Ok(done)
-}
 
 fn main(rt: HostRuntime) -> io::Result<()> {
     let mut input: [u8; 65536] = [0; 65536];

@@ -1,6 +1,6 @@
 // One vector: the call that its first letter tells, on the record as it then is.
-use crate::lists::{break_lines, copy_bytes, find, least, low_byte, number_at, read_numbers, wide};
-use crate::shown::{end_line, show_answer, show_bytes, show_counts, show_entries};
+use crate::lists::{Numbers, as_bytes, break_lines};
+use crate::shown::{show_answer, show_counts, show_first};
 use planner::estimates::{planner_additive, planner_build_tables, planner_spread, planner_value};
 use planner::plans::{planner_check_plan, planner_search};
 use planner::tasks::{planner_check_record, planner_check_state, planner_read_text};
@@ -10,197 +10,163 @@ const AT_START: usize = 40;
 
 const AT_PATTERNS: usize = 56;
 
+const RECORD_ROOM: usize = 9472;
+
 const ROW_ROOM: usize = 4104;
 
-fn read(out: &impl Print, text: &mut [u8], rec: &mut [u8]) -> io::Result<()> {
-    break_lines(text);
-    show_answer(out, planner_read_text(text, rec))
+// The record that was read last, and how many bytes of it are lent.
+#[derive(Drop)]
+struct Record {
+    cells: [u8; RECORD_ROOM],
+    lent: usize,
 }
 
-fn set_cell(rec: &mut [u8], offset: u32, value: u32) {
-    let k = wide(offset);
-    if k < rec.len() {
-        rec[k] = low_byte(value);
+impl Record {
+    fn as_slice(&self) -> &[u8] {
+        &self.cells[..self.lent.min(RECORD_ROOM)]
+    }
+
+    fn as_mut_slice(&mut self) -> &mut [u8] {
+        let n = self.lent.min(RECORD_ROOM);
+        &mut self.cells[..n]
     }
 }
 
-// Offsets and values by turns.
-fn set_cells(rec: &mut [u8], numbers: &[u32]) {
-    let mut i = 1;
-    while i < numbers.len() {
-        set_cell(rec, numbers[i - 1], numbers[i]);
-        i += 2;
+// What the calls are lent from line to line, but for the bytes of states and plans, and the numbers of the line.
+#[derive(Drop)]
+pub(crate) struct Lent {
+    rec: Record,
+    tables: [u16; 16384],
+    numbers: Numbers,
+}
+
+impl Lent {
+    pub(crate) fn new() -> Lent {
+        Lent {
+            rec: Record {
+                cells: [0; RECORD_ROOM],
+                lent: RECORD_ROOM,
+            },
+            tables: [0; 16384],
+            numbers: Numbers::new(),
+        }
     }
-}
 
-fn cells(out: &impl Print, list: &[u8], rec: &mut [u8], numbers: &mut [u32]) -> io::Result<()> {
-    let n = read_numbers(list, numbers);
-    set_cells(rec, &numbers[..n]);
-    show_answer(out, planner_check_record(rec))
-}
+    fn read(&mut self, out: &impl Print, text: &mut [u8]) -> io::Result<()> {
+        break_lines(text);
+        show_answer(out, planner_read_text(text, self.rec.as_mut_slice()))
+    }
 
-fn state(
-    out: &impl Print,
-    list: &[u8],
-    rec: &[u8],
-    numbers: &mut [u32],
-    bytes: &mut [u8],
-) -> io::Result<()> {
-    let n = read_numbers(list, numbers);
-    let k = copy_bytes(&numbers[..n], bytes);
-    show_answer(out, planner_check_state(rec, &bytes[..k]))
-}
+    // Offsets and values by turns.
+    fn cells(&mut self, out: &impl Print) -> io::Result<()> {
+        let rec = self.rec.as_mut_slice();
+        for pair in self.numbers.as_slice().chunks_exact(2) {
+            if pair[0] < rec.len() {
+                rec[pair[0]] = (pair[1] % 256) as u8;
+            }
+        }
+        show_answer(out, planner_check_record(rec))
+    }
 
-fn build(
-    out: &impl Print,
-    list: &[u8],
-    rec: &[u8],
-    tables: &mut [u16],
-    numbers: &mut [u32],
-) -> io::Result<()> {
-    let n = read_numbers(list, numbers);
-    let entries = least(number_at(&numbers[..n], 0), tables.len());
-    show_answer(out, planner_build_tables(rec, &mut tables[..entries]))?;
-    show_entries(out, &tables[..entries])
-}
+    fn state(&mut self, out: &impl Print, room: &mut [u8]) -> io::Result<()> {
+        let state = as_bytes(self.numbers.as_slice(), room);
+        show_answer(out, planner_check_state(self.rec.as_slice(), state))
+    }
 
-fn spread(
-    out: &impl Print,
-    list: &[u8],
-    rec: &[u8],
-    tables: &mut [u16],
-    row: &mut [u32],
-    numbers: &mut [u32],
-) -> io::Result<()> {
-    let n = read_numbers(list, numbers);
-    let pattern = number_at(&numbers[..n], 0) as u64;
-    let entries = least(number_at(&numbers[..n], 1), tables.len());
-    let counts = least(number_at(&numbers[..n], 2), row.len());
-    show_answer(
-        out,
-        planner_spread(rec, pattern, &mut tables[..entries], &mut row[..counts]),
-    )?;
-    show_entries(out, &tables[..entries])?;
-    show_counts(out, &row[..counts])
-}
+    fn build(&mut self, out: &impl Print) -> io::Result<()> {
+        let rec = self.rec.as_slice();
+        let entries = self.numbers.at(0).min(self.tables.len());
+        let all = &mut self.tables[..];
+        let tables = &mut all[..entries];
+        show_answer(out, planner_build_tables(rec, tables))?;
+        show_first(out, "tables", tables)
+    }
 
-// Into a row that holds 7 where nothing is counted.
-fn spread_anew(
-    out: &impl Print,
-    list: &[u8],
-    rec: &[u8],
-    tables: &mut [u16],
-    numbers: &mut [u32],
-) -> io::Result<()> {
-    let mut row = [7u32; ROW_ROOM];
-    spread(out, list, rec, tables, &mut row, numbers)
-}
+    // Into a row that holds 7 where nothing is counted.
+    fn spread(&mut self, out: &impl Print) -> io::Result<()> {
+        let mut counts = [7u32; ROW_ROOM];
+        let rec = self.rec.as_slice();
+        let pattern = self.numbers.at(0) as u64;
+        let entries = self.numbers.at(1).min(self.tables.len());
+        let length = self.numbers.at(2).min(counts.len());
+        let all = &mut self.tables[..];
+        let tables = &mut all[..entries];
+        let row = &mut counts[..length];
+        show_answer(out, planner_spread(rec, pattern, tables, row))?;
+        show_first(out, "tables", tables)?;
+        show_counts(out, row)
+    }
 
-fn search(
-    out: &impl Print,
-    list: &[u8],
-    rec: &[u8],
-    tables: &mut [u16],
-    plan: &mut [u8],
-    numbers: &mut [u32],
-) -> io::Result<()> {
-    let n = read_numbers(list, numbers);
-    let entries = least(number_at(&numbers[..n], 0), tables.len());
-    let room = least(number_at(&numbers[..n], 1), plan.len());
-    show_answer(
-        out,
-        planner_search(rec, &mut tables[..entries], &mut plan[..room]),
-    )?;
-    show_bytes(out, &plan[..room])
-}
+    fn value(&mut self, out: &impl Print, room: &mut [u8]) -> io::Result<()> {
+        let entries = self.numbers.last_first().min(self.tables.len());
+        let numbers = self.numbers.as_slice();
+        let from = numbers.len().min(1);
+        let state = as_bytes(&numbers[from..], room);
+        let tables = &self.tables[..entries];
+        show_answer(out, planner_value(self.rec.as_slice(), state, tables))
+    }
 
-fn value(
-    out: &impl Print,
-    list: &[u8],
-    rec: &[u8],
-    tables: &[u16],
-    numbers: &mut [u32],
-    bytes: &mut [u8],
-) -> io::Result<()> {
-    let n = read_numbers(list, numbers);
-    let from = least(1, n);
-    let entries = least(number_at(numbers, 0), tables.len());
-    let k = copy_bytes(&numbers[from..n], bytes);
-    show_answer(out, planner_value(rec, &bytes[..k], &tables[..entries]))
-}
+    fn search(&mut self, out: &impl Print, room: &mut [u8]) -> io::Result<()> {
+        let entries = self.numbers.at(0).min(self.tables.len());
+        let bytes = self.numbers.at(1).min(room.len());
+        let rec = self.rec.as_slice();
+        let all = &mut self.tables[..];
+        let tables = &mut all[..entries];
+        let plan = &mut room[..bytes];
+        show_answer(out, planner_search(rec, tables, plan))?;
+        show_first(out, "plan", plan)
+    }
 
-fn check_plan(
-    out: &impl Print,
-    list: &[u8],
-    rec: &[u8],
-    numbers: &mut [u32],
-    bytes: &mut [u8],
-) -> io::Result<()> {
-    let n = read_numbers(list, numbers);
-    let k = copy_bytes(&numbers[..n], bytes);
-    if rec.len() >= AT_PATTERNS {
+    fn check_plan(&mut self, out: &impl Print, room: &mut [u8]) -> io::Result<()> {
+        let plan = as_bytes(self.numbers.as_slice(), room);
+        let rec = self.rec.as_slice();
+        if rec.len() < AT_PATTERNS {
+            return Ok(());
+        }
         show_answer(
             out,
-            planner_check_plan(rec, &rec[AT_START..AT_PATTERNS], &bytes[..k]),
-        )?;
+            planner_check_plan(rec, &rec[AT_START..AT_PATTERNS], plan),
+        )
     }
-    Ok(())
-}
 
-fn call(
-    out: &impl Print,
-    letter: u8,
-    list: &mut [u8],
-    rec: &mut [u8],
-    tables: &mut [u16],
-    plan: &mut [u8],
-    numbers: &mut [u32],
-) -> io::Result<()> {
-    match letter {
-        b'r' => read(out, list, rec),
-        b'c' => cells(out, list, rec, numbers),
-        b's' => state(out, list, rec, numbers, plan),
-        b'b' => build(out, list, rec, tables, numbers),
-        b'f' => search(out, list, rec, tables, plan, numbers),
-        b'h' => spread_anew(out, list, rec, tables, numbers),
-        b'a' => show_answer(out, planner_additive(rec)),
-        b'v' => value(out, list, rec, tables, numbers, plan),
-        b'p' => check_plan(out, list, rec, numbers, plan),
-        _ => Ok(()),
+    fn call(&mut self, out: &impl Print, letter: u8, room: &mut [u8]) -> io::Result<()> {
+        match letter {
+            b'c' => self.cells(out),
+            b's' => self.state(out, room),
+            b'b' => self.build(out),
+            b'f' => self.search(out, room),
+            b'h' => self.spread(out),
+            b'v' => self.value(out, room),
+            b'p' => self.check_plan(out, room),
+            _ => Ok(()),
+        }
     }
-}
 
-// Answers how many bytes of the record the next call is lent.
-pub(crate) fn run_line(
-    out: &impl Print,
-    line: &mut [u8],
-    rec: &mut [u8],
-    tables: &mut [u16],
-    plan: &mut [u8],
-    numbers: &mut [u32],
-    lent: usize,
-) -> io::Result<usize> {
-    if line.len() == 0 {
-        return Ok(lent);
+    pub(crate) fn run_line(
+        &mut self,
+        out: &impl Print,
+        line: &mut [u8],
+        room: &mut [u8],
+    ) -> io::Result<()> {
+        let Some(&letter) = line.first() else {
+            return Ok(());
+        };
+        let name = line.iter().position(|&b| b == b':').unwrap_or(line.len());
+        let list = (name + 2).min(line.len());
+        if letter == b'l' {
+            self.numbers.read(&line[list..]);
+            self.rec.lent = self.numbers.at(0);
+            return Ok(());
+        }
+        out.write_all(&line[..name])?;
+        match letter {
+            b'r' => self.read(out, &mut line[list..])?,
+            b'a' => show_answer(out, planner_additive(self.rec.as_slice()))?,
+            _ => {
+                self.numbers.read(&line[list..]);
+                self.call(out, letter, room)?
+            }
+        }
+        println!(out)
     }
-    let letter = line[0];
-    let k = find(line, b':');
-    let from = least(k + 1, line.len() - 1) + 1;
-    if letter == b'l' {
-        let n = read_numbers(&line[from..], numbers);
-        return Ok(number_at(&numbers[..n], 0));
-    }
-    let end = least(lent, rec.len());
-    out.write_all(&line[..k])?;
-    call(
-        out,
-        letter,
-        &mut line[from..],
-        &mut rec[..end],
-        tables,
-        plan,
-        numbers,
-    )?;
-    end_line(out)?;
-    Ok(lent)
 }

@@ -1,115 +1,77 @@
-// The bytes of a line: where a byte stands, line breaks, and lists of numbers.
+// The arguments of a line: text with its line breaks, and lists of numbers.
 ghost use Rattle.std.specs.Prelude.{◌≤◌, length};
-
-// The index of the first b, or the length where there is none.
-pub(crate) fn find(s: &[u8], b: u8) -> usize
-    ensures { result ≤ length s.now }
-{
-    let mut i = 0;
-    while i < s.len() {
-        if s[i] == b {
-            return i;
-        }
-        i += 1;
-    }
-    i
-}
-
-pub(crate) fn least(a: usize, b: usize) -> usize
-    ensures { (result ≤ a) × (result ≤ b) }
-{
-    if a < b {
-        return a;
-    }
-    b
-}
-
-fn broken(b: u8) -> u8 {
-    if b == b'/' {
-        return 10;
-    }
-    b
-}
 
 // The document writes / for a line break.
 pub(crate) fn break_lines(text: &mut [u8]) {
-    for i in 0..text.len() {
-        text[i] = broken(text[i]);
+    for b in text.iter_mut() {
+        if *b == b'/' {
+            *b = b'\n';
+        }
     }
 }
 
-// The number that a byte makes of the digits before it: a comma begins a new one; what is no digit, or too much, is passed over.
-fn with_digit(x: u32, b: u8) -> u32 {
-    if b == b',' {
-        return 0;
-    }
-    if x < 100000 {
-        if b >= b'0' {
-            if b <= b'9' {
-                return x * 10 + (b - b'0') as u32;
-            }
-        }
+// The number that a byte makes of the digits before it: what is no digit, or too much, is passed over.
+fn with_digit(x: usize, b: u8) -> usize {
+    if x < 100000 && b.is_ascii_digit() {
+        return x * 10 + usize::from(b - b'0');
     }
     x
 }
 
-// Which number of the list a byte belongs to.
-fn with_comma(k: usize, b: u8) -> usize
-    requires { k ≤ 64 }
-    ensures { result ≤ 64 }
-{
-    if b == b',' {
-        return least(k + 1, 64);
-    }
-    k
+fn number_of(piece: &[u8]) -> usize {
+    piece.iter().fold(0, |x, &b| with_digit(x, b))
 }
 
-fn put(numbers: &mut [u32], k: usize, x: u32) {
-    if k < numbers.len() {
-        numbers[k] = x;
+// The numbers of a list.
+#[derive(Drop)]
+pub(crate) struct Numbers {
+    cells: [usize; 64],
+    count: usize,
+    ghost in_room: { count ≤ 64 },
+}
+
+impl Numbers {
+    pub(crate) fn new() -> Numbers {
+        Numbers {
+            cells: [0; 64],
+            count: 0,
+        }
+    }
+
+    // The numbers are parted by commas; those that find no room are passed over.
+    pub(crate) fn read(&mut self, list: &[u8]) {
+        self.count = 0;
+        if list.is_empty() {
+            return;
+        }
+        for piece in list.split(|&b| b == b',') {
+            if self.count < 64 {
+                self.cells[self.count] = number_of(piece);
+                self.count += 1;
+            }
+        }
+    }
+
+    pub(crate) fn as_slice(&self) -> &[usize] {
+        &self.cells[..self.count]
+    }
+
+    // Number k of the list, or 0 where it has fewer.
+    pub(crate) fn at(&self, k: usize) -> usize {
+        self.as_slice().get(k).copied().unwrap_or(0)
+    }
+
+    // The number that a list last began with: an empty list leaves it.
+    pub(crate) fn last_first(&self) -> usize {
+        self.cells[0]
     }
 }
 
-// The numbers of a list, parted by commas; those that find no room are passed over. Answers how many there are.
-pub(crate) fn read_numbers(list: &[u8], numbers: &mut [u32]) -> usize
-    ensures { result ≤ length numbers.new }
-{
-    let mut k = 0;
-    let mut x = 0u32;
-    if list.len() == 0 {
-        return 0;
+// The numbers as bytes, as many as find room.
+pub(crate) fn as_bytes<'a>(numbers: &[usize], room: &'a mut [u8]) -> &'a [u8] {
+    let n = numbers.len().min(room.len());
+    for (b, x) in room.iter_mut().zip(numbers) {
+        *b = (x % 256) as u8;
     }
-    for i in 0..list.len() {
-        k = with_comma(k, list[i]);
-        x = with_digit(x, list[i]);
-        put(numbers, k, x);
-    }
-    least(k + 1, numbers.len())
-}
-
-pub(crate) fn low_byte(x: u32) -> u8 {
-    (x % 256) as u8
-}
-
-// The numbers as bytes, as many as find room. Answers how many.
-pub(crate) fn copy_bytes(numbers: &[u32], bytes: &mut [u8]) -> usize
-    ensures { result ≤ length bytes.new }
-{
-    let n = least(numbers.len(), bytes.len());
-    for i in 0..n {
-        bytes[i] = low_byte(numbers[i]);
-    }
-    n
-}
-
-pub(crate) fn wide(x: u32) -> usize {
-    x as usize
-}
-
-// Number k of a list, or 0 where it has fewer.
-pub(crate) fn number_at(numbers: &[u32], k: usize) -> usize {
-    if k < numbers.len() {
-        return wide(numbers[k]);
-    }
-    0
+    &room[..n]
 }

@@ -1,76 +1,44 @@
 // What is written of an answer and of the slices.
-use crate::lists::least;
 use planner::answer::PlannerAnswer;
+use std::fmt::Display;
 use std::io;
 
 // How many entries or bytes of a slice are written.
 const SHOWN: usize = 10;
 
-// The place of the last count of a row, and where it is no longer written.
+// The place of the last count of a row, and how many are written from there on.
 const LAST: usize = 4096;
 
-const ROW_SHOWN: usize = 4100;
-
-fn show_field(out: &impl Print, key: &str, x: u64) -> io::Result<()> {
-    print!(out; "{key}{x}")
-}
+const LAST_SHOWN: usize = 4;
 
 pub(crate) fn show_answer(out: &impl Print, a: PlannerAnswer) -> io::Result<()> {
-    show_field(out, ": number=", a.number)?;
-    show_field(out, " kind=", a.kind)?;
-    show_field(out, " first=", a.first)?;
-    show_field(out, " second=", a.second)?;
-    show_field(out, " third=", a.third)
+    print!(out;
+        ": number={} kind={} first={} second={} third={}",
+        a.number, a.kind, a.first, a.second, a.third
+    )
 }
 
-pub(crate) fn end_line(out: &impl Print) -> io::Result<()> {
-    println!(out)
-}
-
-fn entry(x: u16) -> u64 {
-    x as u64
-}
-
-fn byte(x: u8) -> u64 {
-    x as u64
-}
-
-fn count(x: u32) -> u64 {
-    x as u64
-}
-
-// A number of a list, and the comma after it.
-fn show_number(out: &impl Print, x: u64) -> io::Result<()> {
-    print!(out; "{x},")
-}
-
-pub(crate) fn show_entries(out: &impl Print, tables: &[u16]) -> io::Result<()> {
-    out.print(" tables=")?;
-    for i in 0..least(tables.len(), SHOWN) {
-        show_number(out, entry(tables[i]))?;
+// Some numbers of a slice, each with a comma after it.
+fn show_some<T: Display>(
+    out: &impl Print,
+    name: &str,
+    list: &[T],
+    from: usize,
+    count: usize,
+) -> io::Result<()> {
+    print!(out; " {name}=")?;
+    for x in list.iter().skip(from).take(count) {
+        print!(out; "{x},")?;
     }
     Ok(())
 }
 
-fn show_run(out: &impl Print, row: &[u32], from: usize, end: usize) -> io::Result<()> {
-    for i in from..least(row.len(), end) {
-        show_number(out, count(row[i]))?;
-    }
-    Ok(())
+pub(crate) fn show_first<T: Display>(out: &impl Print, name: &str, list: &[T]) -> io::Result<()> {
+    show_some(out, name, list, 0, SHOWN)
 }
 
 // The first counts of a row, and those from the last one on, that of infinity.
 pub(crate) fn show_counts(out: &impl Print, row: &[u32]) -> io::Result<()> {
-    out.print(" row=")?;
-    show_run(out, row, 0, SHOWN)?;
-    out.print(" last=")?;
-    show_run(out, row, LAST, ROW_SHOWN)
-}
-
-pub(crate) fn show_bytes(out: &impl Print, plan: &[u8]) -> io::Result<()> {
-    out.print(" plan=")?;
-    for i in 0..least(plan.len(), SHOWN) {
-        show_number(out, byte(plan[i]))?;
-    }
-    Ok(())
+    show_first(out, "row", row)?;
+    show_some(out, "last", row, LAST, LAST_SHOWN)
 }

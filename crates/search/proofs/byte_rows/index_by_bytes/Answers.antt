@@ -4,14 +4,14 @@ use Rattle.search.proofs.ByteSums.{span_here, span_index}
 use Rattle.search.proofs.byte_rows.index_by_bytes.Goals as goal
 
 pub from_bit-requires : goal.from_bit-requires
-from_bit-requires c = let a = c.args in let q = c.requires in let n = c.wide-count.ensures.0 in let g = span_here a.rows.now a.patterns a.variables a.places.now q.0 a.p q.1 (λ z. c.if-count-eq0.false (n ∙ z)) in
-    let w = g.within in let f = g.shifted in let m = c.wide-shift.ensures.0 in let k = c.if-count-eq0.false in omega arith
+from_bit-requires c = let i = c.args.instance.now in let n = c.from-count.ensures in let g = span_here i.rows.now i.guide.patterns i.guide.variables i.places.now i.guided.placed c.args.p c.requires (λ z. c.if-count-eq0.false (n ∙ z)) in
+    let w = g.within in let m = c.from-first.ensures in let k = c.if-count-eq0.false in omega arith
 
 pub sum_blocks-requires : goal.sum_blocks-requires
-sum_blocks-requires c = let a = c.args in let q = c.requires in let n = c.wide-count.ensures.0 in let g = span_here a.rows.now a.patterns a.variables a.places.now q.0 a.p q.1 (λ z. c.if-count-eq0.false (n ∙ z)) in
-    let w = g.within in let r = g.room in let m = c.wide-at.ensures.0 in (omega arith, omega arith)
+sum_blocks-requires c = let i = c.args.instance.now in let n = c.from-count.ensures in let g = span_here i.rows.now i.guide.patterns i.guide.variables i.places.now i.guided.placed c.args.p c.requires (λ z. c.if-count-eq0.false (n ∙ z)) in
+    let w = g.within in let r = g.room in let m = c.from-at.ensures in (omega arith, omega arith)
 
 pub returns : goal.returns
-returns c = let a = c.args in let q = c.requires in let n = c.wide-count.ensures.0 in let g = span_here a.rows.now a.patterns a.variables a.places.now q.0 a.p q.1 (λ z. c.if-count-eq0.false (n ∙ z)) in
-    let e = span_index a.rows.now a.p a.variables a.places.now _ _ _ g a.s q.3 in
-    (rw (n, c.wide-at.ensures.0, c.from_bit.ensures, c.wide-shift.ensures.0) at c.sum_blocks.ensures.0 ∙ e, c.sum_blocks.ensures.1)
+returns c = let i = c.args.instance.now in let n = c.from-count.ensures in let g = span_here i.rows.now i.guide.patterns i.guide.variables i.places.now i.guided.placed c.args.p c.requires (λ z. c.if-count-eq0.false (n ∙ z)) in
+    let e = span_index i.rows.now c.args.p i.guide.variables i.places.now _ _ _ g c.args.s i.guided.ready.few_variables in
+    (rw (n, c.from-at.ensures, c.from_bit.ensures, c.from-first.ensures) at c.sum_blocks.ensures.0 ∙ e, c.sum_blocks.ensures.1)

@@ -10,8 +10,8 @@ pub bounds-places-at : goal.bounds-places-at
 bounds-places-at c = let p = c.requires in omega (arith, p.0, p.1, c.lowest_byte.ensures.1)
 
 pub loop-j-preserved : goal.loop-j-preserved
-loop-j-preserved c = let l = c.loop-j in let a = c.args in let e = rw c.lowest_byte.ensures.0 at c.wide-i.ensures.0 in
-    (blocks_add a.places.now a.at l.j a.count l.i c.wide-i.result l.rest _ c.loop-j-test.true e l.invariant.0, omega arith, omega arith)
+loop-j-preserved c = let l = c.loop-j in let a = c.args in let e = rw c.lowest_byte.ensures.0 at c.from-i.ensures in
+    (blocks_add a.places.now a.at l.j a.count l.i c.from-i.result l.rest _ c.loop-j-test.true e l.invariant.0, omega arith, omega arith)
 
 pub returns : goal.returns
 returns c = let l = c.loop-j in let a = c.args in

@@ -10,8 +10,8 @@ loop-v-init c = (rw sub-zero (sym (zero-add _)), omega arith, omega arith)
 pub loop-v-preserved : goal.loop-v-preserved
 loop-v-preserved c = let l = c.loop-v in
     let a = c.args in
-    let e = rw c.lowest_digit-x.ensures.0 at c.wide-i.ensures.0 in
-    (index_adds a.rows.now a.p l.v a.variables l.rest l.i c.wide-i.result _ c.loop-v-test.true e l.invariant.0, omega arith, omega arith)
+    let e = rw c.lowest_digit-x.ensures.0 at c.from-i.ensures in
+    (index_adds a.rows.now a.p l.v a.variables l.rest l.i c.from-i.result _ c.loop-v-test.true e l.invariant.0, omega arith, omega arith)
 
 pub returns : goal.returns
 returns c = let l = c.loop-v in

@@ -5,46 +5,46 @@
 use Rattle.std.proofs.Common.{◌+◌, ◌-◌, length, sym, refl, ap, ◌∙◌, arith, ltb-false, ltb-true}
 use Rattle.tables.specs.Packed.{action_weight}
 use Rattle.search.proofs.Looking.{seen_decided, seen_open}
-use Rattle.search.proofs.Examining.{openable_same, examines_same, examining_begins, action_known, action_asks, action_stops, action_fails, win_counted, action_wins, examining_ends, action_refused, following_begins, outcome_examinable, outcome_stops, outcome_fails, outcome_small, outcome_succeeds, following_ends}
-use Rattle.search.proofs.examine.+examine_outcomes.Goals.{outcomes-in-Decided+in-Succeeded, outcomes-in-Open+in-Succeeded-examine}
+use Rattle.search.proofs.Examining.{examining_begins, action_known, action_asks, action_stops, action_fails, win_counted, action_wins, examining_ends, action_refused, following_begins, outcome_examinable, outcome_stops, outcome_fails, outcome_small, outcome_succeeds, following_ends}
+use Rattle.search.proofs.examine.+examine_outcomes.Goals.{outcomes-in-Some+in-Succeeded, outcomes-in-None+in-Succeeded-examine}
 use Rattle.search.proofs.examine.+examine_outcomes.Goals as goal
 
 pub examine-loop-set-init : goal.examine-loop-set-init
-examine-loop-set-init t c = (examining_begins c.requires c.bytes_in.ensures c.applying-set.ensures, refl)
+examine-loop-set-init t c = (examining_begins c.requires c.applying-set.ensures, refl)
 
 pub examine-outcomes-requires : goal.examine-outcomes-requires
-examine-outcomes-requires t c = (omega (arith, c.visit_of-w.ensures.2, c.decreases), action_asks c.requires c.loop-set.invariant.0 c.loop-set-test.true c.lowest-m.ensures c.visit_of-w.ensures)
+examine-outcomes-requires t c = (omega (arith, c.decreases), action_asks c.requires c.loop-set.invariant.0 c.loop-set-test.true c.lowest-m.ensures)
 
 pub examine-returns-in-Stopped : goal.examine-returns-in-Stopped
-examine-returns-in-Stopped t c = action_stops c.requires c.loop-set.invariant.0 c.loop-set-test.true c.lowest-m.ensures c.visit_of-w.ensures c.outcomes.ensures _ c.in-Stopped.is
+examine-returns-in-Stopped t c = action_stops c.requires c.loop-set.invariant.0 c.loop-set-test.true c.lowest-m.ensures c.outcomes.ensures _ c.in-Stopped.is
 
 pub examine-number_of-first-requires : goal.examine-number_of-first-requires
-examine-number_of-first-requires t c = omega (arith, action_known c.requires c.loop-set.invariant.0 c.loop-set-test.true c.lowest-m.ensures, c.requires.examinable.guided.ready.few_actions)
+examine-number_of-first-requires t c = omega (arith, action_known c.requires c.loop-set.invariant.0 c.loop-set-test.true c.lowest-m.ensures, c.args.instance.now.guided.ready.few_actions)
 
 pub examine-overflow_sub-e : goal.examine-overflow_sub-e
-examine-overflow_sub-e t c = let w = win_counted c.requires c.loop-set.invariant.0 c.loop-set-test.true c.lowest-m.ensures c.visit_of-w.ensures c.outcomes.ensures _ _ _ c.in-Succeeded.is in omega (arith, w.0)
+examine-overflow_sub-e t c = let w = win_counted c.requires c.loop-set.invariant.0 c.loop-set-test.true c.lowest-m.ensures c.outcomes.ensures _ _ _ c.in-Succeeded.is in omega (arith, w.0)
 
 pub examine-overflow_add-n : goal.examine-overflow_add-n
-examine-overflow_add-n t c = let w = win_counted c.requires c.loop-set.invariant.0 c.loop-set-test.true c.lowest-m.ensures c.visit_of-w.ensures c.outcomes.ensures _ _ _ c.in-Succeeded.is in omega (arith, w.1, w.2)
+examine-overflow_add-n t c = let w = win_counted c.requires c.loop-set.invariant.0 c.loop-set-test.true c.lowest-m.ensures c.outcomes.ensures _ _ _ c.in-Succeeded.is in omega (arith, w.1, w.2)
 
 pub examine-note-requires : goal.examine-note-requires
-examine-note-requires t c = let w = win_counted c.requires c.loop-set.invariant.0 c.loop-set-test.true c.lowest-m.ensures c.visit_of-w.ensures c.outcomes.ensures _ _ _ c.in-Succeeded.is in let x = c.requires.examinable in
-    (c.outcomes.ensures.remembers.long, x.shallow, omega (arith, w.2), omega (arith, w.1, w.2), omega (arith, c.number_of-first.ensures, action_known c.requires c.loop-set.invariant.0 c.loop-set-test.true c.lowest-m.ensures, x.guided.ready.few_actions))
+examine-note-requires t c = let w = win_counted c.requires c.loop-set.invariant.0 c.loop-set-test.true c.lowest-m.ensures c.outcomes.ensures _ _ _ c.in-Succeeded.is in let x = c.requires.examinable in
+    (c.outcomes.ensures.remembers.long, x.shallow, omega (arith, w.2), omega (arith, w.1, w.2))
 
 pub examine-overflow_add-result : goal.examine-overflow_add-result
-examine-overflow_add-result t c = let w = win_counted c.requires c.loop-set.invariant.0 c.loop-set-test.true c.lowest-m.ensures c.visit_of-w.ensures c.outcomes.ensures _ _ _ c.in-Succeeded.is in omega (arith, w.1, w.2)
+examine-overflow_add-result t c = let w = win_counted c.requires c.loop-set.invariant.0 c.loop-set-test.true c.lowest-m.ensures c.outcomes.ensures _ _ _ c.in-Succeeded.is in omega (arith, w.1, w.2)
 
 pub examine-returns-in-Succeeded : goal.examine-returns-in-Succeeded
-examine-returns-in-Succeeded t c = action_wins c.requires c.loop-set.invariant.0 c.loop-set-test.true c.lowest-m.ensures c.visit_of-w.ensures c.outcomes.ensures _ _ _ c.in-Succeeded.is c.number_of-first.ensures c.note.ensures
+examine-returns-in-Succeeded t c = action_wins c.requires c.loop-set.invariant.0 c.loop-set-test.true c.lowest-m.ensures c.outcomes.ensures _ _ _ c.in-Succeeded.is c.number_of-first.ensures c.note.ensures
 
 pub examine-loop-set-preserved : goal.examine-loop-set-preserved
-examine-loop-set-preserved t c = (action_fails c.requires c.loop-set.invariant.0 c.loop-set-test.true c.lowest-m.ensures c.visit_of-w.ensures c.outcomes.ensures _ c.in-Failed.is c.without_lowest-set.ensures.0, c.outcomes.auto.memory ∙ c.loop-set.invariant.1)
+examine-loop-set-preserved t c = (action_fails c.requires c.loop-set.invariant.0 c.loop-set-test.true c.lowest-m.ensures c.outcomes.ensures _ c.in-Failed.is c.without_lowest-set.ensures.0, c.outcomes.auto.memory ∙ c.loop-set.invariant.1)
 
 pub examine-overflow_sub-c : goal.examine-overflow_sub-c
 examine-overflow_sub-c t c = omega (arith, c.loop-set.invariant.0.counted)
 
 pub examine-note-requires-2 : goal.examine-note-requires-2
-examine-note-requires-2 t c = let x = c.requires.examinable in let i = c.loop-set.invariant.0 in (i.remembers.long, x.shallow, omega (arith, i.within, x.guided.ready.small_budget), omega arith, omega arith)
+examine-note-requires-2 t c = let x = c.requires.examinable in let i = c.loop-set.invariant.0 in (i.remembers.long, x.shallow, omega (arith, i.within, c.args.instance.now.guided.ready.small_budget), omega arith)
 
 pub examine-returns : goal.examine-returns
 examine-returns t c = examining_ends c.requires c.loop-set.invariant.0 c.loop-set-test.false c.note-2.ensures
@@ -53,37 +53,37 @@ pub outcomes-returns-then-is_beyond : goal.outcomes-returns-then-is_beyond
 outcomes-returns-then-is_beyond t c = action_refused c.requires (ltb-true _ _ (sym c.is_beyond.ensures ∙ c.if-is_beyond.true))
 
 pub outcomes-loop-k-init : goal.outcomes-loop-k-init
-outcomes-loop-k-init t c = (following_begins c.requires c.left_after-left.ensures (c.place_of-k-end.ensures ∙ c.outcome_count.ensures) (ltb-false _ _ (sym c.is_beyond.ensures ∙ c.if-is_beyond.false)), refl)
+outcomes-loop-k-init t c = (following_begins c.requires c.left_after-left.ensures c.outcome_count-k-end.ensures (ltb-false _ _ (sym c.is_beyond.ensures ∙ c.if-is_beyond.false)), refl)
 
 pub outcomes-look-requires : goal.outcomes-look-requires
-outcomes-look-requires t c = let i = c.loop-k.invariant.0 in (i.within, c.requires.0.guided.ready.small_budget, i.remembers.long)
+outcomes-look-requires t c = outcome_examinable c.requires c.left_after-left.ensures c.outcome_count-k-end.ensures c.loop-k.invariant.0 c.loop-k-test.true c.successor-s.ensures c.rest_of-rest.ensures.0 c.sum_with-value.ensures
 
 pub outcomes-returns-in-Stopped : goal.outcomes-returns-in-Stopped
-outcomes-returns-in-Stopped t c = outcome_stops c.requires c.left_after-left.ensures (c.place_of-k-end.ensures ∙ c.outcome_count.ensures) c.loop-k.invariant.0 c.loop-k-test.true c.successor-x.ensures (seen_decided (outcome_examinable c.requires c.left_after-left.ensures (c.place_of-k-end.ensures ∙ c.outcome_count.ensures) c.loop-k.invariant.0 c.loop-k-test.true c.successor-x.ensures c.rest_of-rest.ensures.0 c.sum_with-value.ensures) c.look.ensures _ c.in-Decided.is) _ c.in-Stopped.is
+outcomes-returns-in-Stopped t c = outcome_stops c.requires c.left_after-left.ensures c.outcome_count-k-end.ensures c.loop-k.invariant.0 c.loop-k-test.true c.successor-s.ensures (seen_decided (outcome_examinable c.requires c.left_after-left.ensures c.outcome_count-k-end.ensures c.loop-k.invariant.0 c.loop-k-test.true c.successor-s.ensures c.rest_of-rest.ensures.0 c.sum_with-value.ensures) c.look.ensures _ c.in-Some.is) _ c.in-Stopped.is
 
 pub outcomes-returns-in-Failed : goal.outcomes-returns-in-Failed
-outcomes-returns-in-Failed t c = outcome_fails c.requires c.left_after-left.ensures (c.place_of-k-end.ensures ∙ c.outcome_count.ensures) c.loop-k.invariant.0 c.loop-k-test.true c.successor-x.ensures (seen_decided (outcome_examinable c.requires c.left_after-left.ensures (c.place_of-k-end.ensures ∙ c.outcome_count.ensures) c.loop-k.invariant.0 c.loop-k-test.true c.successor-x.ensures c.rest_of-rest.ensures.0 c.sum_with-value.ensures) c.look.ensures _ c.in-Decided.is) _ c.in-Failed.is
+outcomes-returns-in-Failed t c = outcome_fails c.requires c.left_after-left.ensures c.outcome_count-k-end.ensures c.loop-k.invariant.0 c.loop-k-test.true c.successor-s.ensures (seen_decided (outcome_examinable c.requires c.left_after-left.ensures c.outcome_count-k-end.ensures c.loop-k.invariant.0 c.loop-k-test.true c.successor-s.ensures c.rest_of-rest.ensures.0 c.sum_with-value.ensures) c.look.ensures _ c.in-Some.is) _ c.in-Failed.is
 
 pub outcomes-overflow_add-n : goal.outcomes-overflow_add-n
-outcomes-overflow_add-n t c = omega (arith, outcome_small c.requires c.left_after-left.ensures (c.place_of-k-end.ensures ∙ c.outcome_count.ensures) c.loop-k.invariant.0 c.loop-k-test.true c.successor-x.ensures (seen_decided (outcome_examinable c.requires c.left_after-left.ensures (c.place_of-k-end.ensures ∙ c.outcome_count.ensures) c.loop-k.invariant.0 c.loop-k-test.true c.successor-x.ensures c.rest_of-rest.ensures.0 c.sum_with-value.ensures) c.look.ensures _ c.in-Decided.is) _ _ _ c.in-Succeeded.is)
+outcomes-overflow_add-n t c = omega (arith, outcome_small c.requires c.left_after-left.ensures c.outcome_count-k-end.ensures c.loop-k.invariant.0 c.loop-k-test.true c.successor-s.ensures (seen_decided (outcome_examinable c.requires c.left_after-left.ensures c.outcome_count-k-end.ensures c.loop-k.invariant.0 c.loop-k-test.true c.successor-s.ensures c.rest_of-rest.ensures.0 c.sum_with-value.ensures) c.look.ensures _ c.in-Some.is) _ _ _ c.in-Succeeded.is)
 
 pub outcomes-examine-requires : goal.outcomes-examine-requires
 outcomes-examine-requires t c = let y = c.args in let p = c.requires in
-    (omega (arith, c.visit_of-w.ensures.2, c.left_after-left.ensures, p.0.guided.ready.weights y.m p.1, ltb-false y.v.d (action_weight y.task.now y.m) (sym c.is_beyond.ensures ∙ c.if-is_beyond.false), c.decreases), openable_same c.visit_of-w.ensures (seen_open (outcome_examinable c.requires c.left_after-left.ensures (c.place_of-k-end.ensures ∙ c.outcome_count.ensures) c.loop-k.invariant.0 c.loop-k-test.true c.successor-x.ensures c.rest_of-rest.ensures.0 c.sum_with-value.ensures) c.look.ensures c.in-Open.is))
+    (omega (arith, c.left_after-left.ensures, y.instance.now.guided.ready.weights y.m p.1, ltb-false y.v.d (action_weight y.instance.now.task.now y.m) (sym c.is_beyond.ensures ∙ c.if-is_beyond.false), c.decreases), seen_open (outcome_examinable c.requires c.left_after-left.ensures c.outcome_count-k-end.ensures c.loop-k.invariant.0 c.loop-k-test.true c.successor-s.ensures c.rest_of-rest.ensures.0 c.sum_with-value.ensures) c.look.ensures c.in-None.is)
 
 pub outcomes-returns-in-Stopped-examine : goal.outcomes-returns-in-Stopped-examine
-outcomes-returns-in-Stopped-examine t c = outcome_stops c.requires c.left_after-left.ensures (c.place_of-k-end.ensures ∙ c.outcome_count.ensures) c.loop-k.invariant.0 c.loop-k-test.true c.successor-x.ensures (examines_same c.visit_of-w.ensures c.examine.ensures) _ c.in-Stopped-examine.is
+outcomes-returns-in-Stopped-examine t c = outcome_stops c.requires c.left_after-left.ensures c.outcome_count-k-end.ensures c.loop-k.invariant.0 c.loop-k-test.true c.successor-s.ensures (c.examine.ensures) _ c.in-Stopped-examine.is
 
 pub outcomes-returns-in-Failed-examine : goal.outcomes-returns-in-Failed-examine
-outcomes-returns-in-Failed-examine t c = outcome_fails c.requires c.left_after-left.ensures (c.place_of-k-end.ensures ∙ c.outcome_count.ensures) c.loop-k.invariant.0 c.loop-k-test.true c.successor-x.ensures (examines_same c.visit_of-w.ensures c.examine.ensures) _ c.in-Failed-examine.is
+outcomes-returns-in-Failed-examine t c = outcome_fails c.requires c.left_after-left.ensures c.outcome_count-k-end.ensures c.loop-k.invariant.0 c.loop-k-test.true c.successor-s.ensures (c.examine.ensures) _ c.in-Failed-examine.is
 
 pub outcomes-overflow_add-n-in-Succeeded-examine : goal.outcomes-overflow_add-n-in-Succeeded-examine
-outcomes-overflow_add-n-in-Succeeded-examine t c = omega (arith, outcome_small c.requires c.left_after-left.ensures (c.place_of-k-end.ensures ∙ c.outcome_count.ensures) c.loop-k.invariant.0 c.loop-k-test.true c.successor-x.ensures (examines_same c.visit_of-w.ensures c.examine.ensures) _ _ _ c.in-Succeeded-examine.is)
+outcomes-overflow_add-n-in-Succeeded-examine t c = omega (arith, outcome_small c.requires c.left_after-left.ensures c.outcome_count-k-end.ensures c.loop-k.invariant.0 c.loop-k-test.true c.successor-s.ensures (c.examine.ensures) _ _ _ c.in-Succeeded-examine.is)
 
 pub outcomes-loop-k-preserved : goal.outcomes-loop-k-preserved
 outcomes-loop-k-preserved t c = let i = c.loop-k.invariant.1 in elim c.match-look.branch [
-  | outcomes-in-Decided+in-Succeeded w ↦ (rw (w.memory-is, w.c-is, w.n-is) (outcome_succeeds c.requires c.left_after-left.ensures (c.place_of-k-end.ensures ∙ c.outcome_count.ensures) c.loop-k.invariant.0 c.loop-k-test.true c.successor-x.ensures (seen_decided (outcome_examinable c.requires c.left_after-left.ensures (c.place_of-k-end.ensures ∙ c.outcome_count.ensures) c.loop-k.invariant.0 c.loop-k-test.true c.successor-x.ensures c.rest_of-rest.ensures.0 c.sum_with-value.ensures) c.look.ensures _ w.in-Decided.is) _ _ _ w.in-Succeeded.is), ap length w.memory-is ∙ i)
-  | outcomes-in-Open+in-Succeeded-examine w ↦ (rw (w.memory-is, w.c-is, w.n-is) (outcome_succeeds c.requires c.left_after-left.ensures (c.place_of-k-end.ensures ∙ c.outcome_count.ensures) c.loop-k.invariant.0 c.loop-k-test.true c.successor-x.ensures (examines_same w.visit_of-w.ensures w.examine.ensures) _ _ _ w.in-Succeeded-examine.is), ap length w.memory-is ∙ w.examine.auto.memory ∙ i)
+  | outcomes-in-Some+in-Succeeded w ↦ (rw (w.memory-is, w.c-is, w.n-is) (outcome_succeeds c.requires c.left_after-left.ensures c.outcome_count-k-end.ensures c.loop-k.invariant.0 c.loop-k-test.true c.successor-s.ensures (seen_decided (outcome_examinable c.requires c.left_after-left.ensures c.outcome_count-k-end.ensures c.loop-k.invariant.0 c.loop-k-test.true c.successor-s.ensures c.rest_of-rest.ensures.0 c.sum_with-value.ensures) c.look.ensures _ w.in-Some.is) _ _ _ w.in-Succeeded.is), ap length w.memory-is ∙ i)
+  | outcomes-in-None+in-Succeeded-examine w ↦ (rw (w.memory-is, w.c-is, w.n-is) (outcome_succeeds c.requires c.left_after-left.ensures c.outcome_count-k-end.ensures c.loop-k.invariant.0 c.loop-k-test.true c.successor-s.ensures (w.examine.ensures) _ _ _ w.in-Succeeded-examine.is), ap length w.memory-is ∙ w.examine.auto.memory ∙ i)
 ]
 
 pub outcomes-returns : goal.outcomes-returns

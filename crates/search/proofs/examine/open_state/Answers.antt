@@ -4,25 +4,26 @@ use borrow.Author.Tests.{lt-leb}
 use Rattle.tables.specs.Packed.{packed_system}
 use Rattle.planning.specs.Extended.{◌≤?◌}
 use Rattle.search.specs.Examination.{opening_of}
+use Rattle.search.specs.Packed.{guided_value}
 use Rattle.search.proofs.Openings.{cut_either_way}
 use Rattle.search.proofs.examine.open_state.Goals as goal
 
-pub returns-then-count-budget : goal.returns-then-count-budget
+pub returns-then-v-instance : goal.returns-then-v-instance
 unfolding opening_of packed_system
-returns-then-count-budget c = λ n h g. rw (eq-eqb _ _ c.if-count-budget.true)
+returns-then-v-instance c = rw (eq-eqb _ _ c.if-v-instance.true)
 
 pub returns-then-is_goal : goal.returns-then-is_goal
 unfolding opening_of packed_system
-returns-then-is_goal c = λ n h g. rw (ne_eqb _ _ c.if-count-budget.false, sym c.is_goal.ensures ∙ c.if-is_goal.true)
+returns-then-is_goal c = rw (ne_eqb _ _ c.if-v-instance.false, sym c.is_goal.ensures ∙ c.if-is_goal.true)
 
-pub returns-then-d-eq0 : goal.returns-then-d-eq0
+pub returns-then-v-eq0 : goal.returns-then-v-eq0
 unfolding opening_of packed_system
-returns-then-d-eq0 c = let a = c.args in λ n h g. rw (ne_eqb _ _ c.if-count-budget.false, sym c.is_goal.ensures ∙ c.if-is_goal.false, eq-eqb _ _ c.if-d-eq0.true) (cut_either_way (h a.s ≤? a.d))
+returns-then-v-eq0 c = let a = c.args in rw (ne_eqb _ _ c.if-v-instance.false, sym c.is_goal.ensures ∙ c.if-is_goal.false, eq-eqb _ _ c.if-v-eq0.true) (cut_either_way (guided_value a.instance.now a.v.s ≤? a.v.d))
 
-pub returns-then-value-d : goal.returns-then-value-d
+pub returns-then-v-from : goal.returns-then-v-from
 unfolding opening_of packed_system
-returns-then-value-d c = λ n h g. rw (ne_eqb _ _ c.if-count-budget.false, sym c.is_goal.ensures ∙ c.if-is_goal.false, ne_eqb _ _ c.if-d-eq0.false, g ∙ le-leb _ _ c.if-value-d.true)
+returns-then-v-from c = rw (ne_eqb _ _ c.if-v-instance.false, sym c.is_goal.ensures ∙ c.if-is_goal.false, ne_eqb _ _ c.if-v-eq0.false, c.requires.1.within _ c.requires.0 ∙ le-leb _ _ (rw c.from.ensures at c.if-v-from.true))
 
 pub returns : goal.returns
 unfolding opening_of packed_system
-returns c = λ n h g. rw (ne_eqb _ _ c.if-count-budget.false, sym c.is_goal.ensures ∙ c.if-is_goal.false, g ∙ lt-leb _ _ c.if-value-d.false)
+returns c = rw (ne_eqb _ _ c.if-v-instance.false, sym c.is_goal.ensures ∙ c.if-is_goal.false, c.requires.1.within _ c.requires.0 ∙ lt-leb _ _ (rw c.from.ensures at c.if-v-from.false))

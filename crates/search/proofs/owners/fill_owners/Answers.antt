@@ -10,11 +10,11 @@ pub loop-p-init : goal.loop-p-init
 loop-p-init c = (λ sound. owning_begins _ sound _ c.requires.0, search rules, omega arith)
 
 pub mark-requires : goal.mark-requires
-mark-requires c = let s = c.requires.1 in let r = c.args.rec.now in let n = actions_right r s in let a = c.wide-actions.ensures.0 ∙ c.action_count.ensures in
+mark-requires c = let s = c.requires.1 in let r = c.args.rec.now in let n = actions_right r s in let a = c.from-actions.ensures ∙ c.action_count.ensures in
     (c.loop-p.invariant.1 ∙ c.requires.0, omega (arith, a), λ m l. rw c.requires.3 (compiled_outcomes_few r s m (omega (arith, a))))
 
 pub loop-p-preserved : goal.loop-p-preserved
-loop-p-preserved c = let r = c.args.rec.now in let l = c.loop-p in let a = c.wide-actions.ensures.0 ∙ c.action_count.ensures in
+loop-p-preserved c = let r = c.args.rec.now in let l = c.loop-p in let a = c.from-actions.ensures ∙ c.action_count.ensures in
     let t : l.p < pattern_count r = rw c.pattern_count-p-end.ensures at c.loop-p-test.true in
     (λ sound. owning_goes_on r sound c.requires.2 _ _ l.p t c.mark.auto.owners (l.invariant.0 sound) (rw (a, c.requires.3, c.mask_of.ensures) at c.mark.ensures), c.mark.auto.owners ∙ l.invariant.1, omega arith)
 

@@ -8,7 +8,7 @@ use Rattle.search.proofs.owners.names_under.Goals as goal
 
 pub loop-k-init : goal.loop-k-init
 unfolding touches
-loop-k-init c = (rw sub-zero, omega arith, c.outcome_count-n.ensures)
+loop-k-init c = (rw sub-zero, omega arith, c.outcome_count-k-end.ensures)
 
 pub returns-then-task-m : goal.returns-then-task-m
 returns-then-task-m c = let a = c.args in let l = c.loop-k in sym (l.invariant.0 ∙ naming_hit a.task.now a.mask a.m l.k (outcome_count a.task.now a.m) (omega (arith, c.loop-k-test.true, l.invariant.2)) c.if-task-m.true)

@@ -7,7 +7,7 @@ use Rattle.tables.specs.Packed.{outcome_count, keep_mask}
 use Rattle.search.proofs.owners.names_under.Given as goal
 
 abbrev pub invariant-loop-k : goal.invariant-loop-k
-invariant-loop-k l = (touches l.task l.mask l.m ≡ any_from l.k (outcome_count l.task l.m - l.k) (λ o. not (eqb (bit_and (keep_mask l.task l.m o) l.mask) l.mask))) × (l.k ≤ l.n) × (l.n ≡ outcome_count l.task l.m)
+invariant-loop-k l = (touches l.task l.mask l.m ≡ any_from l.k (outcome_count l.task l.m - l.k) (λ o. not (eqb (bit_and (keep_mask l.task l.m o) l.mask) l.mask))) × (l.k ≤ l.k-end) × (l.k-end ≡ outcome_count l.task l.m)
 
 abbrev pub decreases-loop-k : goal.decreases-loop-k
-decreases-loop-k l = l.n - l.k
+decreases-loop-k l = l.k-end - l.k

@@ -6,37 +6,27 @@ use Rattle.search.proofs.Endings.{told_success, told_failure, told_stop}
 use Rattle.search.proofs.rounds.deepen.Goals as goal
 
 pub loop-d-init : goal.loop-d-init
-loop-d-init c = let p = c.requires in (refl, p.startable.within, p.remembers, refl)
+loop-d-init c = let p = c.requires in (refl, p.startable.within, p.remembers, refl, omega (arith, p.startable.shallow))
 
 pub returns-then-is_outgrown : goal.returns-then-is_outgrown
-unfolding Concludes
 returns-then-is_outgrown c = let i = c.loop-d.invariant in
-    record { conclusion = record { same = i.0; within = rw c.limit_in-limit.ensures at c.loop-d-test.true; counted = i.1; many = c.is_outgrown.ensures c.if-is_outgrown.true }; memory = i.2 }
+    record { conclusion = record { same = i.0; within = omega (arith, c.loop-d-test.true); counted = i.1; many = c.is_outgrown.ensures c.if-is_outgrown.true }; memory = i.2 }
 
 pub examine_any-requires : goal.examine_any-requires
-examine_any-requires c = let p = c.requires in let i = c.loop-d.invariant in let e = c.visit_of-w.ensures in
-    rw (e.0, e.1, e.2, e.3) (record { guided = p.guided; remembers = i.2; within = i.1; shallow = omega (arith, c.loop-d-test.true, c.limit_in-limit.ensures, p.startable.limited); valued = p.startable.valued })
+examine_any-requires c = let p = c.requires in let i = c.loop-d.invariant in
+    record { remembers = i.2; within = i.1; shallow = omega (arith, c.loop-d-test.true, p.startable.limited); valued = p.startable.valued }
 
 pub returns-in-Stopped : goal.returns-in-Stopped
-unfolding Concludes
-returns-in-Stopped c = let i = c.loop-d.invariant in let e = c.visit_of-w.ensures in let h = rw (c.in-Stopped.is, e.0, e.2, e.3) at c.examine_any.ensures in
-    record { conclusion = round_stops _ _ _ _ _ _ _ _ i.0 (rw c.limit_in-limit.ensures at c.loop-d-test.true) _ (told_stop _ _ h).0; memory = h.remembers }
+returns-in-Stopped c = let i = c.loop-d.invariant in let h = rw c.in-Stopped.is at c.examine_any.ensures in
+    record { conclusion = round_stops _ _ _ _ _ _ _ _ i.0 (omega (arith, c.loop-d-test.true)) _ (told_stop _ _ h).0; memory = h.remembers }
 
 pub returns-in-Succeeded : goal.returns-in-Succeeded
-unfolding Concludes
-returns-in-Succeeded c = let i = c.loop-d.invariant in let e = c.visit_of-w.ensures in let h = rw (c.in-Succeeded.is, e.0, e.2, e.3) at c.examine_any.ensures in
-    record { conclusion = round_found _ _ _ _ _ _ _ _ i.0 (rw c.limit_in-limit.ensures at c.loop-d-test.true) c.requires.guided.ready.small_budget _ _ _ (told_success _ _ _ _ h); memory = h.remembers }
-
-pub overflow_add-d : goal.overflow_add-d
-overflow_add-d c = omega (arith, c.loop-d-test.true, c.limit_in-limit.ensures, c.requires.startable.limited)
-
-pub loop-d-smaller : goal.loop-d-smaller
-loop-d-smaller c = omega (arith, c.loop-d-test.true)
+returns-in-Succeeded c = let i = c.loop-d.invariant in let h = rw c.in-Succeeded.is at c.examine_any.ensures in
+    record { conclusion = round_found _ _ _ _ _ i.0 (omega (arith, c.loop-d-test.true)) c.args.instance.now.guided.ready.small_budget _ _ _ (told_success _ _ _ _ h); memory = h.remembers }
 
 pub loop-d-preserved : goal.loop-d-preserved
-loop-d-preserved c = let i = c.loop-d.invariant in let e = c.visit_of-w.ensures in let h = rw (c.in-Failed.is, e.0, e.2, e.3) at c.examine_any.ensures in let q = told_failure _ _ h in
-    (round_fails _ _ _ _ _ _ _ _ i.0 (rw c.limit_in-limit.ensures at c.loop-d-test.true) _ q.0, q.2, h.remembers, c.examine_any.auto.memory ∙ i.3)
+loop-d-preserved c = let i = c.loop-d.invariant in let h = rw c.in-Failed.is at c.examine_any.ensures in let q = told_failure _ _ h in
+    (round_fails _ _ _ _ _ _ _ _ i.0 (omega (arith, c.loop-d-test.true)) _ q.0, q.2, h.remembers, c.examine_any.auto.memory ∙ i.3, omega (arith, c.loop-d-test.true, c.requires.startable.limited))
 
 pub returns : goal.returns
-unfolding Concludes
-returns c = let i = c.loop-d.invariant in record { conclusion = rounds-over _ _ _ _ _ _ _ _ i.0 (rw c.limit_in-limit.ensures at c.loop-d-test.false); memory = i.2 }
+returns c = let i = c.loop-d.invariant in record { conclusion = rounds-over _ _ _ _ _ _ _ _ i.0 (omega (arith, c.loop-d-test.false)); memory = i.2 }

@@ -1,13 +1,12 @@
 -- `search::rounds::deepen` meets its contract. Invariant: the rounds left from the count so far are the whole. Assumes nothing.
 use Rattle.std.proofs.Common.{◌≡◌, ◌+◌, ◌-◌, ◌≤◌, length}
-use Rattle.search.specs.Guide.{budget_in}
 use Rattle.search.specs.Memory.{Remembers}
 use Rattle.search.specs.Packed.{guided_examination}
 use Rattle.search.specs.Answer.{guided_rounds}
 use Rattle.search.proofs.rounds.deepen.Given as goal
 
 abbrev pub invariant-loop-d : goal.invariant-loop-d
-invariant-loop-d l = (guided_rounds l.task l.rows l.guide l.tables l.v.s l.v.d l.v.count ≡ guided_rounds l.task l.rows l.guide l.tables l.v.s l.d l.c) × (l.c ≤ budget_in l.guide) × Remembers (guided_examination l.task l.rows l.guide l.tables) (budget_in l.guide) l.memory × (length l.memory ≡ length l.initial.memory)
+invariant-loop-d l = (guided_rounds l.instance l.v.s l.v.d l.v.count ≡ guided_rounds l.instance l.v.s l.d l.c) × (l.c ≤ l.instance.guide.budget) × Remembers (guided_examination l.instance) l.instance.guide.budget l.memory × (length l.memory ≡ length l.initial.memory) × (l.d ≤ 256)
 
 abbrev pub decreases-loop-d : goal.decreases-loop-d
-decreases-loop-d l = l.limit + 1 - l.d
+decreases-loop-d l = l.instance.guide.limit + 1 - l.d

@@ -2,15 +2,10 @@
 use Rattle.std.proofs.Common.{arith}
 use Rattle.search.specs.Answer.{Replies}
 use Rattle.search.proofs.Conclusions.{always_ends}
-use Rattle.search.proofs.Remembering.{nothing_remembered}
 use Rattle.search.proofs.rounds.run_large.Goals as goal
 
-pub conclude-requires : goal.conclude-requires
-conclude-requires c = let p = c.requires in record { guided = p.0; startable = p.1; remembers = nothing_remembered _ _ 32768 (omega arith) }
+pub returns-in-Ok : goal.returns-in-Ok
+returns-in-Ok c = rw c.in-Ok.is at c.run_with.ensures
 
-pub returns-in-Ended : goal.returns-in-Ended
-unfolding Replies
-returns-in-Ended c = rw c.in-Ended.is at c.conclude.ensures
-
-pub returns-in-Unfinished : goal.returns-in-Unfinished
-returns-in-Unfinished c = always_ends _ _ _ _ _ _ _ _ _ _ c.requires.0.ready.small_budget (rw c.in-Unfinished.is at c.conclude.ensures)
+pub returns-in-Err : goal.returns-in-Err
+returns-in-Err c = always_ends c.args.instance.now.guided.ready.small_budget (rw c.in-Err.is at c.run_with.ensures)

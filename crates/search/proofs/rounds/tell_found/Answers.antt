@@ -4,12 +4,11 @@ use Rattle.search.proofs.Conclusions.{too_long, fits}
 use Rattle.search.proofs.rounds.tell_found.Goals as goal
 
 pub returns-then-plan-bytes : goal.returns-then-plan-bytes
-returns-then-plan-bytes c = λ x f. too_long _ _ _ refl x _ _ _ _ _ _ _ _ f c.if-plan-bytes.true c.fill.ensures
+returns-then-plan-bytes c = λ x f. too_long _ _ _ refl x _ _ _ _ _ f c.if-plan-bytes.true c.fill.ensures
 
 pub write_found-requires : goal.write_found-requires
-write_found-requires c = let p = c.requires in let e = c.visit_of-w.ensures in let f = p.1.1 in
-    rw (e.0, e.1, e.2, e.3) (p.0, refl, (f.plan, f.made, f.again, omega (arith, f.sized, c.if-plan-bytes.false), omega (arith, f.sized, f.short)))
+write_found-requires c = let p = c.requires in let f = p.2.1 in
+    (record { remembers = p.0; shallow = p.1; found = f.plan; made = f.made; is = f.again }, omega (arith, f.sized, c.if-plan-bytes.false), omega (arith, f.sized, f.short))
 
 pub returns : goal.returns
-returns c = let e = c.visit_of-w.ensures in
-    λ x f. fits _ _ _ c.write_found.auto.plan x _ _ _ _ _ _ _ _ f c.if-plan-bytes.false (c.write_found.ensures f.plan f.made (rw (e.0, e.2) f.again)) c.fill-2.ensures
+returns c = λ x f. rw c.found_with.ensures (fits _ _ _ c.write_found.auto.plan x _ _ _ _ _ f c.if-plan-bytes.false (c.write_found.ensures f.plan f.made f.again) c.fill-2.ensures)

@@ -11,14 +11,14 @@ use Rattle.search.proofs.rows.fill_pattern.Goals as goal
 pub loop-v-init : goal.loop-v-init
 loop-v-init c = let r = c.args.rec.now in (pattern_begins (task_of r).sizes (cells_at r (at_pattern c.args.p)) (sizes_within r c.requires.1 c.args.p c.requires.2) c.args.rows.now c.args.p, c.requires.0)
 
-pub bounds-cells-wide : goal.bounds-cells-wide
-bounds-cells-wide c = let r = c.args.rec.now in let w = pattern_whole r c.requires.1 c.args.p c.requires.2 in let n = variables_few r c.requires.1 in
-    rw c.pattern_cells-cells.ensures (omega (arith, c.variable_count-v-end.ensures, c.loop-v-test.true, c.wide.ensures.0))
+pub bounds-cells-from : goal.bounds-cells-from
+bounds-cells-from c = let r = c.args.rec.now in let w = pattern_whole r c.requires.1 c.args.p c.requires.2 in let n = variables_few r c.requires.1 in
+    rw c.pattern_cells-cells.ensures (omega (arith, c.variable_count-v-end.ensures, c.loop-v-test.true, c.from.ensures))
 
 pub fill_values-requires : goal.fill_values-requires
 fill_values-requires c = let r = c.args.rec.now in let l = c.loop-v in let n = variables_few r c.requires.1 in let k = patterns_right r c.requires.1 in
     let h = weight_small (task_of r).sizes (cells_at r (at_pattern c.args.p)) (sizes_within r c.requires.1 c.args.p c.requires.2) l.invariant.0 (sizes_positive r c.requires.1) c.requires.3 in
-    (l.invariant.1, omega (arith, c.variable_count-v-end.ensures, c.loop-v-test.true, c.wide-in-loop-v.ensures.0), omega (arith, c.wide-in-loop-v-2.ensures.0, c.requires.2), omega (arith, c.weight_in.ensures.1))
+    (l.invariant.1, omega (arith, c.variable_count-v-end.ensures, c.loop-v-test.true, c.from-in-loop-v.ensures), omega (arith, c.from-in-loop-v-2.ensures, c.requires.2), omega (arith, c.weight_in.ensures.1))
 
 pub weight_after-weight-requires : goal.weight_after-weight-requires
 weight_after-weight-requires c = let r = c.args.rec.now in let l = c.loop-v in
@@ -30,9 +30,9 @@ loop-v-smaller c = rw (← c.variable_count-v-end.ensures) (omega arith)
 pub loop-v-preserved : goal.loop-v-preserved
 loop-v-preserved c = let r = c.args.rec.now in let l = c.loop-v in
     let t : l.v < variable_count r = rw c.variable_count-v-end.ensures at c.loop-v-test.true in let k = patterns_right r c.requires.1 in (
-      rw (c.weight_after-weight.ensures, c.size_of.ensures, ← (size_read r c.requires.1 l.v t), c.wide.ensures.0, c.pattern_cells-cells.ensures)
+      rw (c.weight_after-weight.ensures, c.size_of.ensures, ← (size_read r c.requires.1 l.v t), c.from.ensures, c.pattern_cells-cells.ensures)
           (pattern_goes_on (task_of r).sizes (cells_at r (at_pattern c.args.p)) (sizes_within r c.requires.1 c.args.p c.requires.2) l.invariant.0 (omega (arith, sizes_number r c.requires.1))
-          (rw (c.wide-in-loop-v.ensures.0, c.wide-in-loop-v-2.ensures.0, c.weight_in.ensures.0, c.wide.ensures.0, c.pattern_cells-cells.ensures) at c.fill_values.ensures) (omega (arith, c.requires.2))),
+          (rw (c.from-in-loop-v.ensures, c.from-in-loop-v-2.ensures, c.weight_in.ensures.0, c.from.ensures, c.pattern_cells-cells.ensures) at c.fill_values.ensures) (omega (arith, c.requires.2))),
       c.fill_values.auto.rows ∙ l.invariant.1,
     )
 

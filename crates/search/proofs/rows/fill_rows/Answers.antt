@@ -8,15 +8,15 @@ use Rattle.search.proofs.RowsFilled.{rows_begin, rows-go_on, rows_end, pattern_s
 use Rattle.search.proofs.rows.fill_rows.Goals as goal
 
 pub loop-p-init : goal.loop-p-init
-loop-p-init c = let r = c.args.rec.now in (rows_begin (task_of r).sizes (patterns_of r) c.args.rows.now c.args.guide.now c.requires.1, c.requires.0)
+loop-p-init c = let r = c.args.rec.now in (rows_begin (task_of r).sizes (patterns_of r) c.args.rows.now c.args.offsets.now c.requires.1, c.requires.0)
 
-pub overflow_cast-guide : goal.overflow_cast-guide
-overflow_cast-guide c = let r = c.args.rec.now in let l = c.loop-p in let t : l.p < pattern_count r = rw c.pattern_count-p-end.ensures at c.loop-p-test.true in
+pub overflow_cast-offsets : goal.overflow_cast-offsets
+overflow_cast-offsets c = let r = c.args.rec.now in let l = c.loop-p in let t : l.p < pattern_count r = rw c.pattern_count-p-end.ensures at c.loop-p-test.true in
     let k = patterns_right r c.requires.2 in record { fits = omega (arith, l.invariant.0.bounded) }
 
-pub bounds-guide-wide : goal.bounds-guide-wide
-bounds-guide-wide c = let r = c.args.rec.now in let l = c.loop-p in let t : l.p < pattern_count r = rw c.pattern_count-p-end.ensures at c.loop-p-test.true in
-    let k = patterns_right r c.requires.2 in omega (arith, l.invariant.0.long, c.wide.ensures.0)
+pub bounds-offsets-from : goal.bounds-offsets-from
+bounds-offsets-from c = let r = c.args.rec.now in let l = c.loop-p in let t : l.p < pattern_count r = rw c.pattern_count-p-end.ensures at c.loop-p-test.true in
+    let k = patterns_right r c.requires.2 in omega (arith, l.invariant.0.long, c.from.ensures)
 
 pub fill_pattern-begin-requires : goal.fill_pattern-begin-requires
 fill_pattern-begin-requires c = let r = c.args.rec.now in let l = c.loop-p in let t : l.p < pattern_count r = rw c.pattern_count-p-end.ensures at c.loop-p-test.true in
@@ -32,7 +32,7 @@ loop-p-smaller c = rw (← c.pattern_count-p-end.ensures) (omega arith)
 pub loop-p-preserved : goal.loop-p-preserved
 loop-p-preserved c = let r = c.args.rec.now in let l = c.loop-p in let t : l.p < pattern_count r = rw c.pattern_count-p-end.ensures at c.loop-p-test.true in
     let k = patterns_right r c.requires.2 in let h = pattern_small r c.requires.2 c.requires.3 l.p t in (
-      rw c.wide.ensures.0 (rows-go_on (task_of r).sizes (patterns_of r) l.invariant.0 (rw (patterns_length r) t) (omega arith)
+      rw c.from.ensures (rows-go_on (task_of r).sizes (patterns_of r) l.invariant.0 (rw (patterns_length r) t) (omega arith)
           (rw (pattern_at r l.p t) c.fill_pattern-begin.ensures) (rw (pattern_at r l.p t) h)),
       c.fill_pattern-begin.auto.rows ∙ l.invariant.1,
     )
@@ -40,8 +40,8 @@ loop-p-preserved c = let r = c.args.rec.now in let l = c.loop-p in let t : l.p <
 pub shape_of-rows : goal.shape_of-rows
 shape_of-rows c = c.loop-p.invariant.1 ∙ sym c.requires.0
 
-pub shape_of-guide : goal.shape_of-guide
-shape_of-guide c = c.loop-p.invariant.0.long ∙ sym c.requires.1
+pub shape_of-offsets : goal.shape_of-offsets
+shape_of-offsets c = c.loop-p.invariant.0.long ∙ sym c.requires.1
 
 pub returns : goal.returns
 returns c = let r = c.args.rec.now in rows_end (task_of r).sizes (patterns_of r) c.loop-p.invariant.0

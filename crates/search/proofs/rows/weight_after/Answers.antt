@@ -3,10 +3,10 @@ use Rattle.std.proofs.Common.{◌*◌, ◌≤◌, ap, mul-le-mul, arith, eq-eqb,
 use Rattle.search.proofs.rows.weight_after.Goals as goal
 
 pub overflow_mul-result : goal.overflow_mul-result
-overflow_mul-result c = let x : c.args.weight ≤ 4096 = c.requires in let y : c.wide.result ≤ 255 = omega arith in let p = mul-le-mul x y in record { fits = omega arith }
+overflow_mul-result c = let x : c.args.weight ≤ 4096 = c.requires in let y : c.from.result ≤ 255 = omega arith in let p = mul-le-mul x y in record { fits = omega arith }
 
 pub returns-then-b-eq1 : goal.returns-then-b-eq1
-returns-then-b-eq1 c = simp (eq-eqb _ _ c.if-b-eq1.true) (ap (λ z. c.args.weight * z) c.wide.ensures.0)
+returns-then-b-eq1 c = simp (eq-eqb _ _ c.if-b-eq1.true) (ap (λ z. c.args.weight * z) c.from.ensures)
 
 pub returns : goal.returns
 returns c = simp (ne_eqb _ _ c.if-b-eq1.false)

@@ -8,4 +8,4 @@ abbrev pub decreases-write_plan : goal.decreases-write_plan
 decreases-write_plan l = l.d
 
 abbrev pub invariant-loop-k : goal.invariant-loop-k
-invariant-loop-k l = Underway l.task l.rows l.guide l.tables l.s l.d l.m l.left l.k-end l.k l.at l.end l.start.size l.memory l.written l.initial.plan l.plan × (length l.memory ≡ length l.initial.memory) × (length l.written ≡ length l.initial.written)
+invariant-loop-k l = Underway l.instance l.s l.d l.m l.left l.k-end l.k l.at l.end l.start.size l.memory l.written l.initial.plan l.plan × (length l.memory ≡ length l.initial.memory) × (length l.written ≡ length l.initial.written)

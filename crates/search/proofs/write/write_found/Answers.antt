@@ -5,7 +5,7 @@ use Rattle.search.proofs.write.write_found.Goals as goal
 
 pub write_plan-requires : goal.write_plan-requires
 write_plan-requires c = let p = c.requires in
-    record { succeeding = record { guided = p.0.guided; remembers = p.0.remembers; shallow = p.0.shallow; found = p.2.0; made = p.2.1; is = p.2.2 }; fits = omega (arith, p.2.3); near = omega (arith, p.2.4); stands = nothing_stands _ 256 _ (omega arith) }
+    record { succeeding = p.0; fits = omega (arith, p.1); near = omega (arith, p.2); stands = nothing_stands _ 128 _ (omega arith) }
 
 pub returns : goal.returns
 returns c = λ p k f. (c.write_plan.ensures p k f).holds

@@ -12,10 +12,10 @@ use Rattle.tables.proofs.compile.compile_action.Goals.{After-put_head}
 headed : (c : After-put_head) → Compiling c.args.task.now c.put_head.new.task c.args.m (action_of c.args.rec.now c.args.m) 0 4
 headed c = let a = c.args in let p = c.requires in
     compiling_head a.rec.now a.m p.0 a.task.now c.put_head.new.task (omega (arith, p.1, p.2))
-    (rw (c.wide-at.ensures.0, c.precondition_cells.ensures, c.outcome_count.ensures) at c.put_head.ensures)
+    (rw (c.from-at.ensures, c.precondition_cells.ensures, c.from.ensures, c.outcome_count.ensures) at c.put_head.ensures)
 
 pub put_head-requires : goal.put_head-requires
-put_head-requires c = let p = c.requires in let e = c.wide-at.ensures.0 in
+put_head-requires c = let p = c.requires in let e = c.from-at.ensures in
     (rw c.precondition_cells.ensures (part_few (drop (at_precondition c.args.m) c.args.rec.now)), omega (arith, e, p.1, p.2), omega (arith, e, p.1))
 
 pub loop-k-init : goal.loop-k-init
@@ -25,7 +25,7 @@ pub put_outcome-requires : goal.put_outcome-requires
 put_outcome-requires c =
     let w = (goal.at.put_outcome-requires c).After-put_head in
     let p = c.requires in let t = c.loop-k-test.true in
-    let e = c.wide-at.ensures.0 in let f = c.wide.ensures.0 in
+    let e = c.from-at.ensures in let f = c.from-in-loop-k.ensures in
     (omega (arith, (headed w).long, c.loop-k.invariant.1, t, e, f, p.1, p.2), omega (arith, t, e, f, p.1))
 
 pub loop-k-preserved : goal.loop-k-preserved
@@ -33,7 +33,7 @@ loop-k-preserved c =
     let w = (goal.at.loop-k-preserved c).After-put_head in
     let l = c.loop-k in let a = c.args in let p = c.requires in
     let g = compiling_outcome a.rec.now a.m p.0 _ l.task _ l.k c.loop-k-test.true (omega (arith, (headed w).long, p.1, p.2))
-    (rw (c.wide.ensures.0, c.wide-at.ensures.0) at c.put_outcome.ensures) l.invariant.2 in
+    (rw (c.from-in-loop-k.ensures, c.from-at.ensures) at c.put_outcome.ensures) l.invariant.2 in
     (omega (arith, c.loop-k-test.true), g.long, g)
 
 pub returns : goal.returns

@@ -6,6 +6,3 @@ use Rattle.tables.proofs.compile.compile_action.Given as goal
 
 abbrev pub invariant-loop-k : goal.invariant-loop-k
 invariant-loop-k l = (l.k ≤ 8) × (length l.task ≡ length l.initial.task) × Compiling l.initial.task l.task l.m (action_of l.rec l.m) 4 (4 + 2 * l.k)
-
-abbrev pub decreases-loop-k : goal.decreases-loop-k
-decreases-loop-k l = 8 - l.k

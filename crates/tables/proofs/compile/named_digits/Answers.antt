@@ -5,5 +5,8 @@ use Rattle.tables.proofs.Packing.{left_are_not_named}
 use Rattle.tables.proofs.compile.named_digits.Goals as goal
 
 pub returns-then-pre-eq16 : goal.returns-then-pre-eq16
-unfolding digit_by
 returns-then-pre-eq16 c = ap (λ k. 18446744073709551615 - k) c.requires.1 ∙ left_are_not_named c.args.pre.now c.if-pre-eq16.true
+
+pub returns : goal.returns
+unfolding digit_by
+returns c = c.pack.ensures

@@ -2,7 +2,7 @@
 use Rattle.std.proofs.Common.{drop, refl, ap, ◌∙◌, le-ltb, lt-ltb}
 use Rattle.task_record.specs.Layout.{at_outcome}
 use Rattle.task_record.specs.Numbers.{outcome_count}
-use Rattle.tables.specs.Packed.{pack_by, digit_by}
+use Rattle.tables.specs.Packed.{pack_by, leaving, setting}
 use Rattle.tables.specs.Compiling.{outcome_word}
 use Rattle.tables.proofs.CompiledRecord.{part_few}
 use Rattle.tables.proofs.compile.outcome_words.Goals as goal
@@ -14,7 +14,7 @@ pub returns-then-k-outcome_count : goal.returns-then-k-outcome_count
 unfolding outcome_word
 returns-then-k-outcome_count c = let a = c.args in
     rw (lt-ltb a.k (outcome_count a.rec.now a.m) (rw c.outcome_count.ensures at c.if-k-outcome_count.true))
-    (c.words_of.ensures.0 ∙ ap (pack_by (digit_by 1)) c.outcome_cells.ensures, c.words_of.ensures.1 ∙ ap (pack_by (digit_by 2)) c.outcome_cells.ensures)
+    (c.words_of.ensures.0 ∙ ap (pack_by leaving) c.outcome_cells.ensures, c.words_of.ensures.1 ∙ ap (pack_by setting) c.outcome_cells.ensures)
 
 pub returns : goal.returns
 unfolding outcome_word

@@ -11,7 +11,7 @@ loop-m-init c = let h = no_actions c.args.rec.now c.args.task.now in (omega arit
 pub compile_action-requires : goal.compile_action-requires
 compile_action-requires c =
     let r = c.args.rec.now in let p = c.requires in let m = c.loop-m.m in
-    let b : m < action_count r = rw c.action_count-n.ensures at c.loop-m-test.true in
+    let b : m < action_count r = rw c.action_count-m-end.ensures at c.loop-m-test.true in
     ((outcomes_right r p.0 m b).1, omega (arith, actions_right r p.0), omega (arith, p.1, c.loop-m.invariant.1))
 
 pub loop-m-preserved : goal.loop-m-preserved
@@ -21,5 +21,5 @@ loop-m-preserved c = let a = c.args in let l = c.loop-m in
 
 pub returns : goal.returns
 returns c = let l = c.loop-m in
-    let e : l.m ≡ action_count c.args.rec.now = omega (arith, l.invariant.0, c.loop-m-test.false, c.action_count-n.ensures) in
+    let e : l.m ≡ action_count c.args.rec.now = omega (arith, l.invariant.0, c.loop-m-test.false, c.action_count-m-end.ensures) in
     rw e at l.invariant.2

@@ -5,6 +5,3 @@ use Rattle.tables.proofs.packed.pack.Given as goal
 
 abbrev pub invariant-loop-i : goal.invariant-loop-i
 invariant-loop-i l = (l.i ≤ length l.cells) × (l.p ≡ pack_by (digit_by l.rule) (drop l.i l.cells))
-
-abbrev pub decreases-loop-i : goal.decreases-loop-i
-decreases-loop-i l = l.i

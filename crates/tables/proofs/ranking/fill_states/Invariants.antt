@@ -5,6 +5,3 @@ use Rattle.tables.proofs.ranking.fill_states.Given as goal
 
 abbrev pub invariant-loop-v : goal.invariant-loop-v
 invariant-loop-v l = Filling l.sizes l.pattern l.n l.states l.w l.place l.v × (length l.states ≡ length l.initial.states)
-
-abbrev pub decreases-loop-v : goal.decreases-loop-v
-decreases-loop-v l = l.n - l.v

@@ -5,6 +5,3 @@ use Rattle.tables.proofs.ranking.state_count.Given as goal
 
 abbrev pub invariant-loop-v : goal.invariant-loop-v
 invariant-loop-v l = Weighed l.sizes l.pattern l.n l.w l.v
-
-abbrev pub decreases-loop-v : goal.decreases-loop-v
-decreases-loop-v l = l.n - l.v

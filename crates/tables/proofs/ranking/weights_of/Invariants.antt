@@ -5,6 +5,3 @@ use Rattle.tables.proofs.ranking.weights_of.Given as goal
 
 abbrev pub invariant-loop-v : goal.invariant-loop-v
 invariant-loop-v l = Weighing l.sizes l.pattern l.n l.r l.w l.v
-
-abbrev pub decreases-loop-v : goal.decreases-loop-v
-decreases-loop-v l = l.n - l.v

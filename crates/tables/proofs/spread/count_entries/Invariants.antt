@@ -4,8 +4,5 @@ use Rattle.planning.specs.Table.{cost_of}
 use Rattle.planning.specs.Spread.{spread}
 use Rattle.tables.proofs.spread.count_entries.Given as goal
 
-abbrev pub invariant-loop-i : goal.invariant-loop-i
-invariant-loop-i l = (l.i ≤ length l.entries) × (l.row ≡ spread (take l.i (map cost_of l.entries)))
-
-abbrev pub decreases-loop-i : goal.decreases-loop-i
-decreases-loop-i l = length l.entries - l.i
+abbrev pub invariant-loop-e : goal.invariant-loop-e
+invariant-loop-e l = (l.e-index ≤ length l.entries) × (l.row ≡ spread (take l.e-index (map cost_of l.entries)))

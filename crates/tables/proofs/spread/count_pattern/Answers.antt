@@ -7,12 +7,12 @@ use Rattle.task_record.specs.TaskOf.{task_of, patterns_of}
 use Rattle.patterns.specs.Space.{entries_needed}
 use Rattle.tables.proofs.Spreading.{cleared, states_of_pattern, pattern_ends, part_costs, part_few, part_bounded, states_named_lem, none_named, no_states}
 use Rattle.tables.proofs.spread.count_pattern.Goals as goal
-use Rattle.tables.proofs.spread.count_pattern.Goals.{After-wide, After-part_of-part}
+use Rattle.tables.proofs.spread.count_pattern.Goals.{After-from, After-part_of-part}
 
 -- The number of patterns, once it was compared with.
 
-patterns-known : (c : After-wide) → c.wide.result ≡ pattern_count c.args.rec.now
-patterns-known c = c.wide.ensures.0 ∙ c.pattern_count.ensures
+patterns-known : (c : After-from) → c.from.result ≡ pattern_count c.args.rec.now
+patterns-known c = c.from.ensures ∙ c.pattern_count.ensures
 
 -- A number that names a pattern: where its table begins and ends.
 
@@ -27,31 +27,31 @@ module _ (c : After-part_of-part) where
   tabs = c.args.tables.now
 
   below : number < pattern_count rec
-  below = omega (arith, c.if-pattern-wide.true, c.wide.ensures.0 ∙ c.pattern_count.ensures)
+  below = omega (arith, c.if-pattern-from.true, c.from.ensures ∙ c.pattern_count.ensures)
 
-  begins : c.part_of-part.result.begin ≡ entries_needed (task_of rec).sizes (take number (patterns_of rec))
-  begins = c.part_of-part.ensures.0 ∙ ap (λ k. entries_needed (task_of rec).sizes (take k (patterns_of rec))) c.narrow-p.ensures
+  begins : c.part_of-part.result.start ≡ entries_needed (task_of rec).sizes (take number (patterns_of rec))
+  begins = c.part_of-part.ensures.0
 
   abbrev states : ℕ
   states = state_count (task_of rec).sizes (get_or (patterns_of rec) number [])
 
   ends-known : c.part_of-part.result.end ≡ entries_needed (task_of rec).sizes (take (number + 1) (patterns_of rec))
-  ends-known = c.part_of-part.ensures.1 ∙ ap (λ k. entries_needed (task_of rec).sizes (take (k + 1) (patterns_of rec))) c.narrow-p.ensures
+  ends-known = c.part_of-part.ensures.1
 
-  ends : c.part_of-part.result.end ≡ c.part_of-part.result.begin + states
+  ends : c.part_of-part.result.end ≡ c.part_of-part.result.start + states
   ends = ends-known ∙ states_of_pattern rec tabs c.requires.0 c.requires.1 number below ∙ ap (λ k. k + states) (sym begins)
 
   inside : c.part_of-part.result.end ≤ length tabs
   inside = let h = pattern_ends rec tabs c.requires.0 c.requires.1 number below in let e = ends-known in omega arith
 
   abbrev part : List ℕ
-  part = take (c.part_of-part.result.end - c.part_of-part.result.begin) (drop c.part_of-part.result.begin tabs)
+  part = take (c.part_of-part.result.end - c.part_of-part.result.start) (drop c.part_of-part.result.start tabs)
 
   part-is : part ≡ take states (drop (entries_needed (task_of rec).sizes (take number (patterns_of rec))) tabs)
-  part-is = let e : c.part_of-part.result.end - c.part_of-part.result.begin ≡ states = omega (arith, ends) in ap₂ (λ k b. take k (drop b tabs)) e begins
+  part-is = let e : c.part_of-part.result.end - c.part_of-part.result.start ≡ states = omega (arith, ends) in ap₂ (λ k b. take k (drop b tabs)) e begins
 
-pub offset_bounds-tables-begin : goal.offset_bounds-tables-begin
-offset_bounds-tables-begin c = let w = (goal.at.offset_bounds-tables-begin c).After-part_of-part in let h = inside w in let e = ends w in omega arith
+pub offset_bounds-tables-part : goal.offset_bounds-tables-part
+offset_bounds-tables-part c = let w = (goal.at.offset_bounds-tables-part c).After-part_of-part in let h = inside w in let e = ends w in omega arith
 
 pub slice_bounds-count_entries-count : goal.slice_bounds-count_entries-count
 slice_bounds-count_entries-count c = let w = (goal.at.slice_bounds-count_entries-count c).After-part_of-part in let e = ends w in omega arith
@@ -64,15 +64,15 @@ slice_bounds-count_entries-end c = let w = (goal.at.slice_bounds-count_entries-e
 
 pub count_entries-requires : goal.count_entries-requires
 count_entries-requires c = let w = (goal.at.count_entries-requires c).After-part_of-part in let p = c.requires in let l = below w in
-    (part_few (rec w) (tabs w) p.0 p.1 (number w) l (part w) (part-is w), part_bounded (rec w) (tabs w) p.0 p.1 (number w) l (part w) (part-is w), cleared c.args.row.now _ p.2 c.clear.ensures)
+    (part_few (rec w) (tabs w) p.0 p.1 (number w) l (part w) (part-is w), part_bounded (rec w) (tabs w) p.0 p.1 (number w) l (part w) (part-is w), cleared c.args.row.now _ p.2 (c.fill.ensures.after (λ y e. e)))
 
 pub overflow_sub-result : goal.overflow_sub-result
 overflow_sub-result c = let w = (goal.at.overflow_sub-result c).After-part_of-part in let e = ends w in omega arith
 
-pub returns-then-pattern-wide : goal.returns-then-pattern-wide
-returns-then-pattern-wide c = let w = (goal.at.returns-then-pattern-wide c).After-part_of-part in let p = c.requires in let l = below w in let e = ends w in
+pub returns-then-pattern-from : goal.returns-then-pattern-from
+returns-then-pattern-from c = let w = (goal.at.returns-then-pattern-from c).After-part_of-part in let p = c.requires in let l = below w in let e = ends w in
     (omega (arith, states_named_lem (rec w) (tabs w) p.0 p.1 (number w) l), c.count_entries.ensures ∙ ap spread (part_costs (rec w) (tabs w) p.0 p.1 (number w) l (part w) (part-is w)))
 
 pub returns : goal.returns
-returns c = let v = (goal.at.returns c).After-wide in let l : pattern_count c.args.rec.now ≤ c.args.pattern = omega (arith, c.if-pattern-wide.false, patterns-known v) in
-    (sym (no_states c.args.rec.now c.args.pattern l), cleared c.args.row.now _ c.requires.2 c.clear.ensures ∙ ap spread (sym (none_named c.args.rec.now c.args.pattern l)))
+returns c = let v = (goal.at.returns c).After-from in let l : pattern_count c.args.rec.now ≤ c.args.pattern = omega (arith, c.if-pattern-from.false, patterns-known v) in
+    (sym (no_states c.args.rec.now c.args.pattern l), cleared c.args.row.now _ c.requires.2 (c.fill.ensures.after (λ y e. e)) ∙ ap spread (sym (none_named c.args.rec.now c.args.pattern l)))

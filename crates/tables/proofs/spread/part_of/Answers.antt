@@ -40,8 +40,8 @@ module _ (c : After-state_of-pattern) where
   sixteen : Sixteen (size_of rec) sizes
   sixteen = sixteen_sizes _ _ c.sizes_of-sizes.ensures
 
-  variables-known : c.wide-n.result ≡ variable_count rec
-  variables-known = c.wide-n.ensures.0 ∙ c.variable_count.ensures
+  variables-known : c.from-n.result ≡ variable_count rec
+  variables-known = c.from-n.ensures ∙ c.variable_count.ensures
 
   pattern_known : c.state_of-pattern.result ≡ cells_at rec (at_pattern number)
   pattern_known = c.state_of-pattern.ensures ∙ ap state_cells c.pattern_cells.ensures ∙ sym (state_cells_whole (cells_at rec (at_pattern number)) (pattern_whole rec sound number below))
@@ -50,7 +50,7 @@ module _ (c : After-state_of-pattern) where
   unfolding Small
   few = all_at (λ x. state_count (task_of rec).sizes x ≤ 4096) (patterns_of rec) [] c.requires.1 number (rw (patterns_length rec) below)
 
-  states-known : state_count (take c.wide-n.result sizes) c.state_of-pattern.result ≡ state_count (task_of rec).sizes (get_or (patterns_of rec) number [])
+  states-known : state_count (take c.from-n.result sizes) c.state_of-pattern.result ≡ state_count (task_of rec).sizes (get_or (patterns_of rec) number [])
   states-known = ap₂ state_count (ap (λ k. take k sizes) variables-known ∙ sizes_taken rec sound sizes sixteen) (pattern_known ∙ sym (pattern_at rec number below))
 
 same-sized : (zs p q : List ℕ) (n m : ℕ) → p ≡ q → n ≡ m → Sized zs q m → Sized zs p n

@@ -5,19 +5,19 @@ use Rattle.task_record.proofs.Scanning.{gathered_next}
 use Rattle.tables.specs.Squeezed.{plain_cell}
 use Rattle.tables.proofs.words.all_plain.Goals as goal
 
-pub loop-i-init : goal.loop-i-init
+pub loop-x-init : goal.loop-x-init
 unfolding all_below
-loop-i-init c = (omega arith, refl)
+loop-x-init c = (omega arith, refl)
 
-pub loop-i-preserved : goal.loop-i-preserved
-loop-i-preserved c =
-    let l = c.loop-i in
+pub loop-x-preserved : goal.loop-x-preserved
+loop-x-preserved c =
+    let l = c.loop-x in
     let a = c.args in
-    (omega arith, gathered_next (λ k. plain_cell (get_or a.cells.now k 0)) l.i l.bad c.strange-bad.result c.strange-bad.ensures l.invariant.1)
+    (omega arith, gathered_next (λ k. plain_cell (get_or a.cells.now k 0)) l.x-index l.bad c.strange-bad.result c.strange-bad.ensures l.invariant.1)
 
 pub returns : goal.returns
 returns c =
-    let l = c.loop-i in
+    let l = c.loop-x in
     let a = c.args in
-    let e : l.i ≡ 16 = omega arith in
+    let e : l.x-index ≡ 16 = omega arith in
     l.invariant.1 ∙ ap (all_below (λ k. plain_cell (get_or a.cells.now k 0))) e

@@ -1,12 +1,17 @@
 -- `four`: the bytes one by one. Assumes nothing.
-use Rattle.std.proofs.Common.{arith}
+use Rattle.std.proofs.Common.{◌+◌, arith}
 use Rattle.tables.proofs.Squeezing.{four_bytes}
 use Rattle.tables.proofs.words.four.Goals as goal
 
 pub returns : goal.returns
 returns c = let q = four_bytes c.args.c.now c.args.at c.requires.0 in
-    let b = c.byte_of.ensures in
-    let b2 = c.byte_of-2.ensures in
-    let b3 = c.byte_of-3.ensures in
-    let b4 = c.byte_of-4.ensures in
-    (omega (arith, q, b.0, b2.0, b3.0, b4.0), omega (arith, b.1, b2.1, b3.1, b4.1))
+    let at = c.args.at in
+    let b = c.type_inv.c at in
+    let b2 = c.type_inv.c (at + 1) in
+    let b3 = c.type_inv.c (at + 2) in
+    let b4 = c.type_inv.c (at + 3) in
+    let e = c.from.ensures in
+    let e2 = c.from-2.ensures in
+    let e3 = c.from-3.ensures in
+    let e4 = c.from-4.ensures in
+    (omega (arith, q, e, e2, e3, e4), omega (arith, e, e2, e3, e4, b, b2, b3, b4))

@@ -1,0 +1,16 @@
+// What a search goes by, lent as one: the compiled task, the sets of actions that apply, the rows by digits and by bytes, the guide's numbers and the
+// tables. That the arrays are those of one task is known of every instance.
+ghost use Rattle.search.specs.Examination.{Guided};
+
+use crate::guide::Guide;
+
+#[derive(Clone, Copy)]
+pub(crate) struct Instance<'a> {
+    pub task: &'a [u64; 1282],
+    pub sets: &'a [u64; 2048],
+    pub places: &'a [u16; 4120],
+    pub rows: &'a [u16; 2048],
+    pub guide: Guide,
+    pub tables: &'a [u16],
+    ghost guided: { Guided task.now sets.now places.now rows.now guide },
+}

@@ -1,0 +1,39 @@
+// A record that has passed its check, as a type: what the calls ask of a record beyond its bytes.
+ghost use Rattle.std.specs.Prelude.{◌≡◌, ℕ, List};
+ghost use Rattle.task_record.specs.Record.{Sound};
+ghost use Rattle.task_record.specs.State.{judge_state};
+
+use crate::record::{check_record, judge_state};
+use crate::refusal::Refusal;
+use std::marker::Model;
+
+pub struct SoundRecord<'a> {
+    pub cells: &'a [u8],
+}
+
+impl<'a> Model for SoundRecord<'a> {
+    ghost Value = { List ℕ };
+
+    ghost view = { λ s. s.cells.now };
+
+    ghost invariant = { λ s. Sound s.cells.now };
+}
+
+impl<'a> SoundRecord<'a> {
+    ghost use Rattle.task_record.specs.SoundRecord.{sound_record};
+
+    // Tested before all else by each call that is lent a record.
+    pub fn new(rec: &'a [u8]) -> Result<SoundRecord<'a>, Refusal>
+        ensures { result ≡ sound_record rec.now }
+    {
+        check_record(rec)?;
+        Ok(SoundRecord { cells: rec })
+    }
+
+    // Whether `state` is a state of the record's task.
+    pub fn check_state(&self, state: &[u8]) -> Result<(), Refusal>
+        ensures { result ≡ judge_state self.now state.now }
+    {
+        judge_state(self.cells, state)
+    }
+}
