@@ -131,6 +131,7 @@ fn judge(t: &Trial<'_>, m: usize, i: usize, s: u64, e: u16) -> Verdict
 }
 
 // Whether entry e of state i, no goal, is what the actions of a set say of it. What is at most 1 is the least that an action can say.
+// Stays: a `for` over `Members` is no plainer to prove, since the loop's fact is one about what is left of the set.
 fn is_said(t: &Trial<'_>, set: u64, i: usize, s: u64, e: u16) -> bool
     requires { set ≡ set_from (counts t.now.space.now.task.now t.now.space.now.mask s) 0 t.now.space.now.actions }
     ensures { result ≡ true → Said (space_of t.now.space.now) t.now.entries.now s e }

@@ -3,7 +3,7 @@ ghost use Rattle.std.specs.Prelude.{◌<◌, ◌≤◌};
 
 use crate::incoming::Graph;
 use crate::offsets::{Numbers, Offsets, Span};
-use crate::places::Columns;
+use crate::places::{Columns, DIGITS};
 
 // The states that an edge leads from, for a state that it leads to: the one at its place, or those at the offsets of the lists of what this outcome
 // alone sets, and at each of them those of the lists of what every outcome sets.
@@ -63,7 +63,7 @@ struct Changes {
 
 // 15 in every digit that is not 0.
 fn spread(x: u64) -> u64 {
-    let low = (x | (x >> 1) | (x >> 2) | (x >> 3)) & 1229782938247303441;
+    let low = (x | (x >> 1) | (x >> 2) | (x >> 3)) & DIGITS;
     low | (low << 1) | (low << 2) | (low << 3)
 }
 

@@ -5,7 +5,7 @@
 ghost use Rattle.std.specs.Iterator.{at_most};
 
 // The lowest bit of every variable's digit.
-const DIGITS: u64 = 1229782938247303441;
+pub(crate) const DIGITS: u64 = 1229782938247303441;
 
 // The members of a set of bits, from the lowest on.
 #[derive(Drop)]

@@ -212,6 +212,7 @@ pub(crate) fn lively(task: &[u64; 1282], mask: u64, actions: usize) -> u64
 }
 
 // One pass with every action that counts.
+// Stays: a `for` over `Members` is no plainer to prove, since the loop's fact is one about what is left of the set.
 fn sweep(x: &Space<'_>, entries: &mut [u16]) -> bool
     requires { length entries.old ≡ x.now.count }
     ensures { Swept (space_of x.now) entries.old entries.new result }

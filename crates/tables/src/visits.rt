@@ -21,12 +21,12 @@ pub(crate) struct Worklist<'a> {
 
 impl Worklist<'_> {
     fn is_open(&self, place: u32) -> bool {
-        at_or(self.entries, index_in(place), 0) == 65535
+        at_or(self.entries, index_in(place), 0) == u16::MAX
     }
 
     // What an action that at worst leads to the state at a place says of a state before it.
     fn cost_before(&self, place: u32) -> u16 {
-        at_or(self.entries, index_in(place), 65534).wrapping_add(1)
+        at_or(self.entries, index_in(place), u16::MAX - 1).wrapping_add(1)
     }
 
     // The state gets its entry, and stands at the end of the queue.

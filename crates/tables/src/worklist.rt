@@ -120,7 +120,7 @@ pub(crate) fn candidate(
         entries.fill(0);
         return;
     }
-    entries.fill(65535);
+    entries.fill(u16::MAX);
     let columns = Columns::new(mask, weights, sizes);
     candidate_from(task, mask, &columns, actions, entries);
 }
