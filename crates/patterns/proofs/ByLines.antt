@@ -12,7 +12,7 @@ use Rattle.task_record.proofs.ByLines.{line-told, after_record_lem, after_after,
 use Rattle.patterns.specs.Space.{first_large, judge_tables, table_check}
 use Rattle.patterns.specs.Additivity.{additivity_of, additivity}
 use Rattle.patterns.specs.Estimate.{after_verdict, judge_estimate, estimate_check}
-use Rattle.patterns.specs.Answers.{large_pattern, table_entries, short_tables, unless_conflict, not_additive, table_numbers, conflict_numbers, additivity_numbers, estimate_numbers, tables_by_lines, estimate_by_lines, verdict_numbers, additivity_by_lines}
+use Rattle.patterns.specs.Answers.{large_pattern, table_entries, short_tables, unless_conflict, not_additive, conflict_numbers, tables_by_lines, estimate_by_lines, verdict_numbers, additivity_by_lines}
 
 -- Lines 7 and 8.
 pub after_tables_lem : {B : Type 0} → (f : B → Numbers) → (r : List ℕ) → (lent : ℕ) → (next : ℕ → Result B Refusal)
@@ -38,14 +38,14 @@ after_estimate_lem f r lent next = let v = verdict (task_of r) (patterns_of r) i
     ∙ after_tables_lem f r lent (λ n. after (after_verdict (additivity_of v)) next)
     ∙ ap (λ t. large_pattern r (short_tables r lent t)) (verdict-told f next v)
 
--- What each call says, line by line.
-pub tables_told : (r : List ℕ) (lent : ℕ) → tables_by_lines r lent ≡ table_numbers (table_check r lent)
+-- What each call says, line by line. The words of specs/Answers.antt on the cases are not named here, so that each call is held to them itself.
+pub tables_told : (r : List ℕ) (lent : ℕ) → tables_by_lines r lent ≡ answer_numbers (λ needed. answered 0 needed 0 0) (table_check r lent)
 unfolding tables_by_lines
 tables_told r lent = let f = (λ (n : ℕ). answered 0 n 0 0) in sym
     (after_record_lem f r (λ u. judge_tables (task_of r).sizes (patterns_of r) lent)
     ∙ ap (λ t. short_record r (bad_cell r t)) (told_alone f (judge_tables (task_of r).sizes (patterns_of r) lent) ∙ after_tables_lem f r lent (λ n. Ok n)))
 
-pub estimate_told : (r : List ℕ) (lent : ℕ) → estimate_by_lines r lent ≡ estimate_numbers (estimate_check r lent)
+pub estimate_told : (r : List ℕ) (lent : ℕ) → estimate_by_lines r lent ≡ answer_numbers (λ ready. answered 0 0 0 0) (estimate_check r lent)
 unfolding estimate_by_lines
 estimate_told r lent = let f = (λ (u : Unit {0}). answered 0 0 0 0) in sym
     (after_record_lem f r (λ u. judge_estimate r lent)
@@ -56,7 +56,7 @@ unfolding additivity_of verdict_numbers
 conflict_told additive = refl
 conflict_told (conflict m p q) = refl
 
-pub additivity_told : (r : List ℕ) → additivity_by_lines r ≡ additivity_numbers (additivity r)
+pub additivity_told : (r : List ℕ) → additivity_by_lines r ≡ answer_numbers conflict_numbers (additivity r)
 unfolding additivity_by_lines
 additivity_told r = let v = verdict (task_of r) (patterns_of r) in sym
     (after_record_lem conflict_numbers r (λ u. Ok (additivity_of v)) ∙ ap (λ t. short_record r (bad_cell r t)) (conflict_told v))

@@ -47,6 +47,12 @@ fn common_cell(rec: &[u8], at: usize) -> u8
     low
 }
 
+fn is_lone(set: u8) -> bool
+    ensures { result ≡ true → Lone set }
+{
+    set == 0 || set & (set - 1) == 0
+}
+
 // For each variable of a sound record the patterns that it is in, pattern 0 lowest.
 #[derive(Drop)]
 struct Members<'a> {
@@ -119,71 +125,62 @@ impl<'a> Members<'a> {
         }
         touched
     }
-}
 
-fn is_lone(set: u8) -> bool
-    ensures { result ≡ true → Lone set }
-{
-    set == 0 || set & (set - 1) == 0
-}
-
-// Whether each action affects at most one pattern, without the numbers of a conflict.
-fn is_additive(rec: &[u8]) -> bool
-    requires { Sound rec.now }
-    ensures { result ≡ true → verdict (task_of rec.now) (patterns_of rec.now) ≡ additive }
-{
-    if pattern_count(rec) < 2 {
-        return true;
-    }
-    let members = Members::of(rec);
-    for m in 0..action_count(rec) {
-        if !is_lone(members.touched_set(m)) {
-            return false;
+    // Whether each action affects at most one pattern, without the numbers of a conflict.
+    fn is_additive(&self) -> bool
+        ensures { result ≡ true → verdict (task_of self.now) (patterns_of self.now) ≡ additive }
+    {
+        if pattern_count(self.rec) < 2 {
+            return true;
         }
-    }
-    true
-}
-
-// The affected patterns of an action are found once; `left` holds those from the current pattern on. After the first that is affected the
-// next one makes the conflict, and where there is none there is no other pair.
-fn scan(rec: &[u8]) -> Option<Conflict>
-    requires { Sound rec.now }
-    ensures { result ≡ additivity_of (verdict (task_of rec.now) (patterns_of rec.now)) }
-{
-    let members = Members::of(rec);
-    let actions = action_count(rec);
-    let patterns = pattern_count(rec);
-    for m in 0..actions {
-        let mut left = members.affected_set(m);
-        for p in 0..patterns {
-            if left % 2 == 1 {
-                for q in p + 1..patterns {
-                    left = left / 2;
-                    if left % 2 == 1 {
-                        return Some(Conflict {
-                            action: u64::from(m),
-                            lower: u64::from(p),
-                            upper: u64::from(q),
-                        });
-                    }
-                }
-                break;
+        for m in 0..action_count(self.rec) {
+            if !is_lone(self.touched_set(m)) {
+                return false;
             }
-            left = left / 2;
         }
+        true
     }
-    None
+
+    // The affected patterns of an action are found once; `left` holds those from the current pattern on. After the first that is affected the
+    // next one makes the conflict, and where there is none there is no other pair.
+    fn scan(&self) -> Option<Conflict>
+        ensures { result ≡ additivity_of (verdict (task_of self.now) (patterns_of self.now)) }
+    {
+        let actions = action_count(self.rec);
+        let patterns = pattern_count(self.rec);
+        for m in 0..actions {
+            let mut left = self.affected_set(m);
+            for p in 0..patterns {
+                if left % 2 == 1 {
+                    for q in p + 1..patterns {
+                        left = left / 2;
+                        if left % 2 == 1 {
+                            return Some(Conflict {
+                                action: u64::from(m),
+                                lower: u64::from(p),
+                                upper: u64::from(q),
+                            });
+                        }
+                    }
+                    break;
+                }
+                left = left / 2;
+            }
+        }
+        None
+    }
 }
 
-// The same, scanned for a conflict only where there is one.
+// The first conflict, scanned for only where there is one.
 pub(crate) fn decide(rec: &[u8]) -> Option<Conflict>
     requires { Sound rec.now }
     ensures { result ≡ additivity_of (verdict (task_of rec.now) (patterns_of rec.now)) }
 {
-    if is_additive(rec) {
+    let members = Members::of(rec);
+    if members.is_additive() {
         return None;
     }
-    scan(rec)
+    members.scan()
 }
 
 // The first conflict of the task's patterns, or none where they are additive.
@@ -193,5 +190,5 @@ pub fn additive(rec: &[u8]) -> Result<Option<Conflict>, Refusal>
     ensures numbers { additivity_numbers result ≡ additivity_by_lines rec.now }
 {
     check_record(rec)?;
-    Ok(scan(rec))
+    Ok(Members::of(rec).scan())
 }

@@ -1,37 +1,22 @@
 -- What the search finds, the check passes: with the same record, the record's start and the first bytes of the buffer, as many as the search
 -- said, with the cost that it said. The calls of README's C example. Assumes nothing.
-use mathlib.Core.Path.{◌≡◌, refl, sym, ap, ◌∙◌}
-use mathlib.Core.List.{List}
-use Prim.Native.Nat.{ℕ, ◌-◌}
-use native.Mathlib.Omega.{arith}
-use lib.ListN.{length, take, replicate}
+use Rattle.std.proofs.Common.{◌≡◌, ℕ, ◌-◌, List, length, take, replicate, refl, sym, ap, ◌∙◌, Result, Ok}
 use lib.Seq.{take_at}
 use Rattle.planning.specs.Numbers.{answered}
 use Rattle.planning.specs.Plan.{encode}
 use Rattle.task_record.specs.Layout.{at_start}
 use Rattle.task_record.specs.TaskOf.{cells_at}
 use Rattle.patterns.specs.Estimate.{estimate_check}
-use Rattle.patterns.specs.declared.estimate.EstimateCheck.{EstimateCheck}
-use Rattle.patterns.specs.declared.estimate.EstimateCheck.TheVariants as of-estimate
-use Rattle.patterns.proofs.Refusals.{checked_ready}
-use Rattle.search.specs.Entry.{task_answer, search_of, after_estimate, search_answer, plan_after, search_numbers}
+use Rattle.patterns.proofs.Refusals.{after_ok, checked_ready}
+use Rattle.search.specs.Entry.{task_answer, search_of, search_answer, plan_after, search_numbers}
 use Rattle.search.specs.Optimal.{Optimal}
-use Rattle.search.specs.declared.entry.SearchAnswer.{SearchAnswer}
 use Rattle.search.specs.declared.entry.SearchAnswer.TheVariants as outcome
 use Rattle.search.proofs.Demand.{found_plan_optimal}
 use Rattle.plan_check.specs.Check.{answer_of, plan_check_of}
-use Rattle.plan_check.specs.ForC.{numbers_of}
-use Rattle.plan_check.specs.declared.check.PlanCheck.TheVariants as answer
-use Rattle.planner.specs.ForC.{five_numbers}
-use Rattle.planner.specs.declared.answer.PlannerAnswer.{PlannerAnswer}
+use Rattle.plan_check.specs.ForC.{numbers_of, five_numbers}
+use Rattle.plan_check.specs.declared.for_c.PlannerAnswer.{PlannerAnswer}
 use Rattle.planner.proofs.SearchNumbers.{zeros_mean_found}
 use Rattle.planner.proofs.StartChecked.{check_at_start}
-
--- A plan is found where 5 to 9 have passed.
-found_ready : (e : EstimateCheck) (searched : Unit {0} → SearchAnswer) (d c k : ℕ) → after_estimate e searched ≡ outcome.Found d c k → e ≡ of-estimate.Ready
-unfolding after_estimate
-found_ready of-estimate.Ready searched d c k h = refl
-found_ready (of-estimate.Refused n x) searched d c k h = let z : ◌≡◌ {A = ℕ} 0 1 = cc in absurd (omega arith)
 
 -- The first k bytes of a buffer in which an optimal plan of k bytes stands.
 plan_in_front : (r buffer : List ℕ) (d k : ℕ) (o : Optimal r buffer d k) → take k buffer ≡ encode o.plan
@@ -39,20 +24,20 @@ plan_in_front r buffer d k o = ap (take k) o.written ∙ take_at (encode o.plan)
 
 module _ (r tabs plan : List ℕ) where
   -- The check of the first k bytes.
-  pub found_plan_passes : (d c k : ℕ) → search_answer r (length tabs) (length plan) ≡ outcome.Found d c k →
-      plan_check_of r (cells_at r at_start) (take k (plan_after r (length tabs) plan)) ≡ answer.Passed d k
+  pub found_plan_passes : (d c k : ℕ) → search_answer r (length tabs) (length plan) ≡ Ok (outcome.Found d c k) →
+      plan_check_of r (cells_at r at_start) (take k (plan_after r (length tabs) plan)) ≡ Ok (record { cost = d; length = k })
   unfolding search_answer answer_of
   found_plan_passes d c k h =
-      let e = found_ready (estimate_check r (length tabs)) (λ u. search_of (length plan) (task_answer r)) d c k h in
+      let e = after_ok (estimate_check r (length tabs)) (λ ready. search_of (length plan) (task_answer r)) (outcome.Found d c k) h in
       let o = found_plan_optimal r tabs plan d c k h in
-      rw (plan_in_front r (plan_after r (length tabs) plan) d k o) (check_at_start r (checked_ready r (length tabs) e).0 (encode o.plan) ∙ ap answer_of o.passes)
+      rw (plan_in_front r (plan_after r (length tabs) plan) d k o) (check_at_start r (checked_ready r (length tabs) e.1).0 (encode o.plan) ∙ ap answer_of o.passes)
 
   -- As C sees it, where `a` is what planner_search answers and `b` what planner_check_plan then answers: `if (a.number == 0 && a.kind == 0)`
   -- the check of `a.third` bytes gives number 0 with `a.first` as the cost and `a.third` as the length.
   pub found_plan_passes_for_c : (a b : PlannerAnswer) → a ≡ five_numbers (search_numbers (search_answer r (length tabs) (length plan))) → a.number ≡ 0 → a.kind ≡ 0 →
       b ≡ five_numbers (numbers_of (plan_check_of r (cells_at r at_start) (take a.third (plan_after r (length tabs) plan)))) →
       b ≡ five_numbers (answered 0 a.first a.third 0)
-  unfolding five_numbers search_numbers numbers_of answered
+  unfolding five_numbers answered
   found_plan_passes_for_c a b search zero found check =
       let f = zeros_mean_found r (length tabs) (length plan) (sym (ap (λ x. x.number) search) ∙ zero) (sym (ap (λ x. x.kind) search) ∙ found) in
       let s = search ∙ ap (λ x. five_numbers (search_numbers x)) f.3 in

@@ -13,7 +13,7 @@ use Rattle.task_record.specs.Record.{Sound}
 use Rattle.task_record.specs.TaskOf.{cells_at, task_of, start_of}
 use Rattle.task_record.proofs.SoundTask.{variables_right}
 use Rattle.task_record.proofs.States.{start_good}
-use Rattle.plan_check.specs.Check.{answer_of, after_state, plan_check_of}
+use Rattle.plan_check.specs.Check.{answer_of, plan_check_of}
 use Rattle.plan_check.specs.Tower.{tower, values_of}
 use Rattle.plan_check.proofs.Answers.{good_checked}
 
@@ -23,5 +23,5 @@ module _ (r : List ℕ) (sound : Sound r) where
   start_values = take-take (variable_count r) 16 (drop at_start r) (variables_right r sound).1
 
   pub check_at_start : (plan : List ℕ) → plan_check_of r (cells_at r at_start) plan ≡ answer_of (check_plan (system (task_of r)) most_moves (start_of r) plan)
-  unfolding plan_check_of after_state tower
+  unfolding plan_check_of tower
   check_at_start plan = rw (good_checked r (cells_at r at_start) sound (start_good r sound), start_values)

@@ -1,3 +1,2 @@
--- The definition that the contracts cite beside those of the lower crates, and the examples of the plan check.
-pub mod ForC
+-- The examples of the plan check.
 pub mod Samples

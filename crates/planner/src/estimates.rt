@@ -6,22 +6,19 @@ ghost use Rattle.patterns.specs.Additivity.{additivity};
 ghost use Rattle.patterns.specs.Value.{state_value};
 ghost use Rattle.patterns.specs.Answers.{additivity_numbers, value_numbers};
 ghost use Rattle.tables.specs.Answers.{table_build_numbers, spread_numbers};
-ghost use Rattle.planner.specs.ForC.{five_numbers};
+ghost use Rattle.plan_check.specs.ForC.{five_numbers};
 
-use crate::answer::{PlannerAnswer, refuse, reply};
-use patterns::value::{StateValue, state_value};
-use patterns::verdict::{Additivity, additive};
-use tables::record_tables::{TableBuild, build_tables};
-use tables::spread::{TableSpread, spread};
+use crate::answer::{PlannerAnswer, in_numbers};
+use patterns::value::state_value;
+use patterns::verdict::additive;
+use tables::record_tables::build_tables;
+use tables::spread::spread;
 
 #[unsafe(no_mangle)]
 pub extern "C" fn planner_build_tables(rec: &[u8], tables: &mut [u16]) -> PlannerAnswer
     ensures { (result ≡ five_numbers (table_build_numbers (table_build rec.now (length tables.old)))) × (tables.new ≡ tables_built rec.now tables.old) }
 {
-    match build_tables(rec, tables) {
-        TableBuild::Refused(number, second) => refuse(number, second),
-        TableBuild::Built(entries) => reply(0, entries, 0, 0),
-    }
+    in_numbers(build_tables(rec, tables))
 }
 
 #[unsafe(no_mangle)]
@@ -33,30 +30,19 @@ pub extern "C" fn planner_spread(
 ) -> PlannerAnswer
     ensures { (result ≡ five_numbers (spread_numbers (table_spread rec.now pattern (length tables.old) (length row.old)))) × (tables.new ≡ tables_spread rec.now pattern tables.old (length row.old)) × (row.new ≡ row_spread rec.now pattern (length tables.old) row.old) }
 {
-    match spread(rec, pattern, tables, row) {
-        TableSpread::Refused(number, second) => refuse(number, second),
-        TableSpread::Counted(states) => reply(0, states, 0, 0),
-    }
+    in_numbers(spread(rec, pattern, tables, row))
 }
 
 #[unsafe(no_mangle)]
 pub extern "C" fn planner_additive(rec: &[u8]) -> PlannerAnswer
     ensures { result ≡ five_numbers (additivity_numbers (additivity rec.now)) }
 {
-    match additive(rec) {
-        Additivity::Refused(number, second) => refuse(number, second),
-        Additivity::Additive => reply(0, 0, 0, 0),
-        Additivity::Conflict(action, lower, upper) => reply(1, action, lower, upper),
-    }
+    in_numbers(additive(rec))
 }
 
 #[unsafe(no_mangle)]
 pub extern "C" fn planner_value(rec: &[u8], state: &[u8], tables: &[u16]) -> PlannerAnswer
     ensures { result ≡ five_numbers (value_numbers (state_value rec.now state.now tables.now)) }
 {
-    match state_value(rec, state, tables) {
-        StateValue::Refused(number, second) => refuse(number, second),
-        StateValue::Infinite => reply(1, 0, 0, 0),
-        StateValue::Finite(value) => reply(0, value, 0, 0),
-    }
+    in_numbers(state_value(rec, state, tables))
 }

@@ -6,7 +6,7 @@ ghost use Rattle.patterns.specs.Additivity.{additivity};
 ghost use Rattle.patterns.specs.Value.{state_value};
 ghost use Rattle.patterns.specs.Answers.{additivity_numbers, value_numbers};
 ghost use Rattle.tables.specs.Answers.{table_build_numbers, spread_numbers};
-ghost use Rattle.planner.specs.ForC.{five_numbers};
+ghost use Rattle.plan_check.specs.ForC.{five_numbers};
 
 use planner::answer::PlannerAnswer;
 use planner::estimates;

@@ -3,8 +3,7 @@ ghost use Rattle.std.specs.Prelude.{◌≡◌, length};
 ghost use Rattle.tables.specs.RecordTables.{tables_prepared};
 ghost use Rattle.search.specs.Entry.{search_answer, plan_after, search_numbers};
 ghost use Rattle.plan_check.specs.Check.{plan_check_of};
-ghost use Rattle.plan_check.specs.ForC.{numbers_of};
-ghost use Rattle.planner.specs.ForC.{five_numbers};
+ghost use Rattle.plan_check.specs.ForC.{numbers_of, five_numbers};
 
 use planner::answer::PlannerAnswer;
 use planner::plans;

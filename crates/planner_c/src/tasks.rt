@@ -5,7 +5,7 @@ ghost use Rattle.reader.specs.Answers.{read_numbers};
 ghost use Rattle.task_record.specs.Record.{record_check};
 ghost use Rattle.task_record.specs.State.{state_check};
 ghost use Rattle.task_record.specs.Answers.{record_numbers, state_numbers};
-ghost use Rattle.planner.specs.ForC.{five_numbers};
+ghost use Rattle.plan_check.specs.ForC.{five_numbers};
 
 use planner::answer::PlannerAnswer;
 use planner::tasks;

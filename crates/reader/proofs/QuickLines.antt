@@ -7,19 +7,19 @@ use native.Mathlib.Nat.{add_assoc, add-zero}
 use native.Mathlib.Omega.{arith}
 use lib.Dec.{eqb}
 use lib.ListN.{length, drop, get_or, set}
-use lib.Seq.{sets, drop-drop, drop-append_seam, get_or-set_same, get_or-set_other}
+use lib.Seq.{sets, drop-append_seam, get_or-set_same, get_or-set_other}
 use borrow.Author.Tests.{eqb-true, not-true}
 use Rattle.reader.specs.Text.{line_break, has_key, lines_of}
 use Rattle.reader.specs.Lists.{list_of, whole_list}
 use Rattle.reader.specs.Grammar.{go_on, next_due, take_line, take_list, number_line, list_line, read_from}
 use Rattle.reader.specs.Written.{decimal}
-use Rattle.reader.specs.Quick.{ListAt, NumberAt, Leads, good_so_far}
+use Rattle.reader.specs.Quick.{ListLine, NumberAt, NumberLine, Leads, good_so_far}
 use Rattle.reader.specs.declared.lists.Kind.{Kind}
 use Rattle.reader.specs.declared.order.Due.{Due}
 use Rattle.task_record.specs.Layout.{at_variables}
-use Rattle.task_record.proofs.Rest.{drop_step}
 use Rattle.task_record.proofs.Tests.{both_left, both_right}
 use Rattle.reader.proofs.Lines.{read_taken}
+use Rattle.reader.proofs.QuickNumbers.{first_byte}
 use Rattle.reader.proofs.QuickLists.{front_kept}
 use Rattle.reader.proofs.WrittenPieces.{lacks, decimal_lacks, line_parted}
 use Rattle.reader.proofs.WrittenLines.{key_had, number_line_read}
@@ -40,12 +40,11 @@ key_line (k ∷ ks) s l ls h e =
     rw (not-true (eqb k line_break) (both_left (not (eqb k line_break)) (lacks line_break ks) h), key_line ks s l ls (both_right (not (eqb k line_break)) (lacks line_break ks) h) e)
 
 -- Ways.
-pub leads_here : (t : List ℕ) (due : Due) (r : List ℕ) (at : ℕ) → Leads t due r at due r at
-leads_here t due r at = record { lines = 0; same = λ n. rw add-zero }
+pub leads_here : (due : Due) (r s : List ℕ) → Leads due r s due r s
+leads_here due r s = record { lines = 0; same = λ n. rw add-zero }
 
-pub leads_on : (t : List ℕ) (d₀ d₁ d₂ : Due) (r₀ r₁ r₂ : List ℕ) (a₀ a₁ a₂ : ℕ) → Leads t d₀ r₀ a₀ d₁ r₁ a₁ → Leads t d₁ r₁ a₁ d₂ r₂ a₂
-    → Leads t d₀ r₀ a₀ d₂ r₂ a₂
-leads_on t d₀ d₁ d₂ r₀ r₁ r₂ a₀ a₁ a₂ f g =
+pub leads_on : (d₀ d₁ d₂ : Due) (r₀ r₁ r₂ s₀ s₁ s₂ : List ℕ) → Leads d₀ r₀ s₀ d₁ r₁ s₁ → Leads d₁ r₁ s₁ d₂ r₂ s₂ → Leads d₀ r₀ s₀ d₂ r₂ s₂
+leads_on d₀ d₁ d₂ r₀ r₁ r₂ s₀ s₁ s₂ f g =
     record { lines = f.lines + g.lines; same = λ n. f.same n ∙ rw (add_assoc n f.lines g.lines) at (g.same (n + f.lines)) }
 
 list_line_good : (r : List ℕ) (due : Due) (key : List ℕ) (kind : Kind) (row : ℕ) (l : List ℕ) (last : ℕ) (cells : List ℕ)
@@ -55,54 +54,56 @@ unfolding list_line take_list
 list_line_good r due key kind row l last cells e w = rw (key_had key l, drop-append_seam key l, e, w)
 
 -- A line.
-module _ (t : List ℕ) (at end : ℕ) (key : List ℕ) (due : Due) (r : List ℕ) (plain : lacks line_break key ≡ true) (had : has_key key (drop at t) ≡ true) where
-  line_leads : (l : List ℕ) (r' : List ℕ) → lines_of (drop (at + length key) t) ≡ l ∷ lines_of (drop end t) → take_line r due (key ++ l) ≡ go_on due r'
-      → Leads t due r at (next_due r' due) r' end
-  line_leads l r' e k =
-      let split : drop at t ≡ key ++ drop (at + length key) t = key_split key (drop at t) had ∙ rw (drop-drop (length key) at t) in
+module _ (s rest key : List ℕ) (due : Due) (r r' : List ℕ) (plain : lacks line_break key ≡ true) where
+  line_leads : (value l : List ℕ) → s ≡ key ++ value → lines_of value ≡ l ∷ lines_of rest → take_line r due (key ++ l) ≡ go_on due r'
+      → Leads due r s (next_due r' due) r' rest
+  line_leads value l had e k =
       record {
         lines = 1;
         same =
-            λ n. ap (read_from n due r) (ap lines_of split ∙ key_line key (drop (at + length key) t) l (lines_of (drop end t)) plain e)
-            ∙ read_taken n due r (key ++ l) (lines_of (drop end t)) (next_due r' due) r' k;
+            λ n. ap (read_from n due r) (ap lines_of had ∙ key_line key value l (lines_of rest) plain e)
+            ∙ read_taken n due r (key ++ l) (lines_of rest) (next_due r' due) r' k;
       }
 
-  pub number_leads : (lo hi cell : ℕ) (r' : List ℕ) → hi ≤ 255 → ((l : List ℕ) → take_line r due l ≡ number_line r due l key lo hi cell)
-      → NumberAt t (at + length key) end lo hi r cell r' → Leads t due r at (next_due r' due) r' end
-  number_leads lo hi cell r' small is a =
-      let h = a.high in
-      line_leads (decimal a.number) r' a.line
-      (is (key ++ decimal a.number) ∙ number_line_read r due key lo hi cell a.number a.low a.high (omega arith) ∙ ap (go_on due) (sym a.stored))
+  pub number_leads : (lo hi cell : ℕ) → hi ≤ 255 → ((l : List ℕ) → take_line r due l ≡ number_line r due l key lo hi cell)
+      → NumberLine s key lo hi r cell r' rest → Leads due r s (next_due r' due) r' rest
+  number_leads lo hi cell small is z =
+      let a = z.stands in
+      let h = a.most in
+      line_leads z.value (decimal a.number) z.had a.line
+      (is (key ++ decimal a.number) ∙ number_line_read r due key lo hi cell a.number a.least a.most (omega arith) ∙ ap (go_on due) (sym a.stored))
 
-  pub list_leads : (kind : Kind) (row : ℕ) (r' : List ℕ) → ((l : List ℕ) → take_line r due l ≡ list_line r due l key kind row)
-      → ListAt t (at + length key) end kind r row r' → Leads t due r at (next_due r' due) r' end
-  list_leads kind row r' is a =
-      line_leads a.text r' a.line
+  pub list_leads : (kind : Kind) (row : ℕ) → ((l : List ℕ) → take_line r due l ≡ list_line r due l key kind row)
+      → ListLine s key kind r row r' rest → Leads due r s (next_due r' due) r' rest
+  list_leads kind row is z =
+      let a = z.list in
+      line_leads z.value a.text z.had a.line
       (is (key ++ a.text) ∙ list_line_good r due key kind row a.text a.last a.cells a.says a.whole ∙ ap (go_on due) (sym a.stored))
 
 -- a number at the end of its line
-pub number_at : (t : List ℕ) (at e lo hi : ℕ) (r : List ℕ) (cell n : ℕ) (r' : List ℕ) → drop at t ≡ decimal n ++ drop e t → n ≤ 255 → e < length t
-    → get_or t e 0 ≡ line_break → lo ≤ n → n ≤ hi → r' ≡ set r cell n → NumberAt t at (e + 1) lo hi r cell r'
-number_at t at e lo hi r cell n r' h small more b l u s =
+pub number_at : (s m : List ℕ) (lo hi : ℕ) (r : List ℕ) (cell n : ℕ) (r' : List ℕ) → s ≡ decimal n ++ m → n ≤ 255 → 0 < length m
+    → get_or m 0 0 ≡ line_break → lo ≤ n → n ≤ hi → r' ≡ set r cell n → NumberAt s lo hi r cell r' (drop 1 m)
+number_at s m lo hi r cell n r' h small more b l u e =
     record {
       number = n;
       line =
-          ap lines_of (h ∙ ap (λ (z : List ℕ). decimal n ++ z) (drop_step t e more ∙ rw b))
-          ∙ line_parted (decimal n) (drop (e + 1) t) (decimal_lacks line_break n (λ x a c q. omega arith) (omega arith));
-      low = l;
-      high = u;
-      stored = s;
+          ap lines_of (h ∙ ap (λ (z : List ℕ). decimal n ++ z) (first_byte m more ∙ ap (λ (c : ℕ). c ∷ drop 1 m) b))
+          ∙ line_parted (decimal n) (drop 1 m) (decimal_lacks line_break n (λ x a c q. omega arith) (omega arith));
+      least = l;
+      most = u;
+      stored = e;
     }
 
--- what a number or a list leaves of the record
-module _ (t : List ℕ) (at end lo hi : ℕ) (r : List ℕ) (cell : ℕ) (r' : List ℕ) (a : NumberAt t at end lo hi r cell r') where
+-- what a line with a number or a list leaves of the record
+module _ (s key : List ℕ) (lo hi : ℕ) (r : List ℕ) (cell : ℕ) (r' rest : List ℕ) (a : NumberLine s key lo hi r cell r' rest) where
   pub number_kept : (k : ℕ) → (k ≡ cell → ⊥) → get_or r' k 0 ≡ get_or r k 0
-  number_kept k h = rw a.stored (get_or-set_other r cell k a.number 0 h)
+  number_kept k h = rw a.stands.stored (get_or-set_other r cell k a.stands.number 0 h)
 
   pub number_range : cell < length r → (lo ≤ get_or r' cell 0) × (get_or r' cell 0 ≤ hi)
   number_range h =
-      let e : get_or r' cell 0 ≡ a.number = rw a.stored (get_or-set_same r cell a.number 0 h) in
-      rw e (a.low, a.high)
+      let e : get_or r' cell 0 ≡ a.stands.number = rw a.stands.stored (get_or-set_same r cell a.stands.number 0 h) in
+      rw e (a.stands.least, a.stands.most)
 
-pub list_kept : (t : List ℕ) (at end : ℕ) (kind : Kind) (r : List ℕ) (row : ℕ) (r' : List ℕ) → ListAt t at end kind r row r' → (k : ℕ) → k < row → get_or r' k 0 ≡ get_or r k 0
-list_kept t at end kind r row r' a k h = front_kept r r' row a.cells k a.stored h
+pub list_kept : (s key : List ℕ) (kind : Kind) (r : List ℕ) (row : ℕ) (r' rest : List ℕ) → ListLine s key kind r row r' rest → (k : ℕ) → k < row
+    → get_or r' k 0 ≡ get_or r k 0
+list_kept s key kind r row r' rest a k h = front_kept r r' row a.list.cells k a.list.stored h

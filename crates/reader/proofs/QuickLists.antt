@@ -14,8 +14,8 @@ use Rattle.reader.specs.Quick.{ItemAt, ListAt, good_so_far}
 use Rattle.reader.specs.declared.lists.Kind.{Kind}
 use Rattle.reader.specs.declared.lists.Kind.TheVariants.{Pairs, Values, Members}
 use Rattle.task_record.specs.Layout.{at_variables}
-use Rattle.task_record.proofs.Rest.{drop_step}
 use Rattle.reader.proofs.StoredCells.{outside_sets}
+use Rattle.reader.proofs.QuickNumbers.{first_byte}
 use Rattle.reader.proofs.Items.{step_kept, listed_some}
 use Rattle.reader.proofs.WrittenPieces.{lacks, lacks_append, line_parted, piece_parted, piece_last}
 use Rattle.reader.proofs.WrittenLists.{item_plain}
@@ -35,18 +35,18 @@ set_in_sets r vs at v x h l =
     ∙ ap (λ (z : List ℕ). z ++ drop (at + length vs) r) (set_append_add (take at r) vs v x)
     ∙ rw n)
 
--- What is known after some items: their text, with a comma after each, stands from the list's place on, and the cells that they gave are stored.
-pub record Listing (t : List ℕ) (at i : ℕ) (kind : Kind) (r : List ℕ) (row : ℕ) (r' : List ℕ) (next : ℕ) : Type 0 where
+-- What is known after some items: their text, with a comma after each, stands in front of what is left, and the cells that they gave are stored.
+pub record Listing (s : List ℕ) (kind : Kind) (r : List ℕ) (row : ℕ) (r' : List ℕ) (next : ℕ) (left : List ℕ) : Type 0 where
   pub front : List ℕ
   pub cells : List ℕ
-  pub stands : drop at t ≡ front ++ drop i t
+  pub stands : s ≡ front ++ left
   pub unbroken : lacks line_break front ≡ true
   pub sixteen : length cells ≡ 16
   pub stored : r' ≡ sets r row cells
-  pub rest : (s : List ℕ) → list_from r kind (no_items kind) (pieces comma (front ++ s)) ≡ list_from r kind (good_so_far next cells) (pieces comma s)
+  pub rest : (z : List ℕ) → list_from r kind (no_items kind) (pieces comma (front ++ z)) ≡ list_from r kind (good_so_far next cells) (pieces comma z)
 
-module _ (t : List ℕ) (at : ℕ) (kind : Kind) (r : List ℕ) (row : ℕ) where
-  pub list_begun : Listing t at at kind r row (sets r row (replicate 16 (unnamed kind))) 0
+module _ (s : List ℕ) (kind : Kind) (r : List ℕ) (row : ℕ) where
+  pub list_begun : Listing s kind r row (sets r row (replicate 16 (unnamed kind))) 0 s
   unfolding no_items lacks
   list_begun =
       record {
@@ -56,7 +56,7 @@ module _ (t : List ℕ) (at : ℕ) (kind : Kind) (r : List ℕ) (row : ℕ) wher
         unbroken = refl;
         sixteen = refl;
         stored = refl;
-        rest = λ s. refl;
+        rest = λ z. refl;
       }
 
   whole_none : (n : ℕ) (k : Kind) → is_values k ≡ false → whole_list n k 0 ≡ true
@@ -64,22 +64,22 @@ module _ (t : List ℕ) (at : ℕ) (kind : Kind) (r : List ℕ) (row : ℕ) wher
   whole_none n Values e = absurd (false≢true (sym e))
   whole_none n Members e = refl
 
-  pub list_empty : at < length t → get_or t at 0 ≡ line_break → is_values kind ≡ false → ListAt t at (at + 1) kind r row (sets r row (replicate 16 (unnamed kind)))
+  pub list_empty : 0 < length s → get_or s 0 0 ≡ line_break → is_values kind ≡ false → ListAt s kind r row (sets r row (replicate 16 (unnamed kind))) (drop 1 s)
   unfolding list_of list_from listed no_items lines_of
   list_empty h b e =
       record {
         text = [];
         last = 0;
         cells = replicate 16 (unnamed kind);
-        line = rw (drop_step t at h, b);
+        line = ap lines_of (first_byte s h ∙ ap (λ (c : ℕ). c ∷ drop 1 s) b);
         says = rw e;
         whole = whole_none (get_or r at_variables 0) kind e;
         sixteen = refl;
         stored = refl;
       }
 
-  module _ (i next v x e : ℕ) (r' : List ℕ) (l : Listing t at i kind r row r' next) (a : ItemAt t i kind next v x e)
-      (fits : pair_fits r next v x ≡ true) (small : v < 16) (room : row + 16 ≤ length r) (more : e < length t) where
+  module _ (i e : List ℕ) (next v x : ℕ) (r' : List ℕ) (l : Listing s kind r row r' next i) (a : ItemAt i kind next v x e)
+      (fits : pair_fits r next v x ≡ true) (small : v < 16) (room : row + 16 ≤ length r) (more : 0 < length e) where
     abbrev p : List ℕ
     p = item_text kind v x
 
@@ -92,30 +92,30 @@ module _ (t : List ℕ) (at : ℕ) (kind : Kind) (r : List ℕ) (row : ℕ) wher
     unfolding list_from
     item_taken ps = ap (λ g. list_from r kind g ps) (step_kept r (good_so_far next l.cells) (item_of kind next p) v x a.says fits)
 
-    pub list_more : get_or t e 0 ≡ comma → Listing t at (e + 1) kind r row (set r' (row + v) x) (v + 1)
+    pub list_more : get_or e 0 0 ≡ comma → Listing s kind r row (set r' (row + v) x) (v + 1) (drop 1 e)
     unfolding lacks
     list_more b =
         let q = item_plain kind v x (let s = a.small.0 in omega arith) (let s = a.small.1 in omega arith) in
         let n = length-set l.cells v x in
         let k = l.sixteen in
-        let seam : (s : List ℕ) → (l.front ++ (p ++ (comma ∷ []))) ++ s ≡ l.front ++ (p ++ (comma ∷ s)) =
-        λ s. append_assoc l.front (p ++ (comma ∷ [])) s ∙ ap (λ (z : List ℕ). l.front ++ z) (append_snoc p comma s) in
+        let seam : (y : List ℕ) → (l.front ++ (p ++ (comma ∷ []))) ++ y ≡ l.front ++ (p ++ (comma ∷ y)) =
+        λ y. append_assoc l.front (p ++ (comma ∷ [])) y ∙ ap (λ (z : List ℕ). l.front ++ z) (append_snoc p comma y) in
         record {
           front = l.front ++ (p ++ (comma ∷ []));
           cells = set l.cells v x;
           stands =
-              l.stands ∙ ap (λ (z : List ℕ). l.front ++ z) (a.stands ∙ ap (λ (z : List ℕ). p ++ z) (drop_step t e more ∙ rw b))
-              ∙ sym (seam (drop (e + 1) t));
+              l.stands ∙ ap (λ (z : List ℕ). l.front ++ z) (a.stands ∙ ap (λ (z : List ℕ). p ++ z) (first_byte e more ∙ ap (λ (c : ℕ). c ∷ drop 1 e) b))
+              ∙ sym (seam (drop 1 e));
           unbroken = lacks_append line_break l.front (p ++ (comma ∷ [])) l.unbroken (lacks_append line_break p (comma ∷ []) q.breaks refl);
           sixteen = omega arith;
           stored = cell_stored;
-          rest = λ s. ap (λ (z : List ℕ). list_from r kind (no_items kind) (pieces comma z)) (seam s)
-              ∙ l.rest (p ++ (comma ∷ s))
-              ∙ ap (λ (z : List (List ℕ)). list_from r kind (good_so_far next l.cells) z) (piece_parted comma p s q.commas)
-              ∙ item_taken (pieces comma s);
+          rest = λ y. ap (λ (z : List ℕ). list_from r kind (no_items kind) (pieces comma z)) (seam y)
+              ∙ l.rest (p ++ (comma ∷ y))
+              ∙ ap (λ (z : List (List ℕ)). list_from r kind (good_so_far next l.cells) z) (piece_parted comma p y q.commas)
+              ∙ item_taken (pieces comma y);
         }
 
-    pub list_done : get_or t e 0 ≡ line_break → whole_list (get_or r at_variables 0) kind (v + 1) ≡ true → ListAt t at (e + 1) kind r row (set r' (row + v) x)
+    pub list_done : get_or e 0 0 ≡ line_break → whole_list (get_or r at_variables 0) kind (v + 1) ≡ true → ListAt s kind r row (set r' (row + v) x) (drop 1 e)
     unfolding list_of list_from
     list_done b w =
         let q = item_plain kind v x (let s = a.small.0 in omega arith) (let s = a.small.1 in omega arith) in
@@ -128,9 +128,9 @@ module _ (t : List ℕ) (at : ℕ) (kind : Kind) (r : List ℕ) (row : ℕ) wher
           last = v + 1;
           cells = set l.cells v x;
           line =
-              ap lines_of (l.stands ∙ ap (λ (z : List ℕ). l.front ++ z) (a.stands ∙ ap (λ (z : List ℕ). p ++ z) (drop_step t e more ∙ rw b))
-              ∙ sym (append_assoc l.front p (line_break ∷ drop (e + 1) t)))
-              ∙ line_parted (l.front ++ p) (drop (e + 1) t) (lacks_append line_break l.front p l.unbroken q.breaks);
+              ap lines_of (l.stands ∙ ap (λ (z : List ℕ). l.front ++ z) (a.stands ∙ ap (λ (z : List ℕ). p ++ z) (first_byte e more ∙ ap (λ (c : ℕ). c ∷ drop 1 e) b))
+              ∙ sym (append_assoc l.front p (line_break ∷ drop 1 e)))
+              ∙ line_parted (l.front ++ p) (drop 1 e) (lacks_append line_break l.front p l.unbroken q.breaks);
           says =
               ap (λ (z : List (List ℕ)). list_from r kind (no_items kind) z) (listed_some (is_values kind) (l.front ++ p) (λ z. omega arith))
               ∙ l.rest p

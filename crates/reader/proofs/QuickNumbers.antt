@@ -1,9 +1,9 @@
 -- Numbers of one or two digits, by their bytes; and what the items of a list say by them. Assumes nothing.
-use mathlib.Core.Path.{◌≡◌, refl, sym, ap, subst, ◌∙◌}
-use mathlib.Core.List.{List, [], ◌∷◌, ◌++◌}
+use mathlib.Core.Path.{◌≡◌, sym, ap, ap₂, subst, ◌∙◌}
+use mathlib.Core.List.{List, [], ◌∷◌, ◌++◌, append_assoc}
 use Prim.Native.Nat.{ℕ, ◌+◌, ◌-◌, ◌*◌, ◌/◌, ◌%◌, ◌≤◌, ◌<◌}
 use native.Mathlib.Omega.{arith}
-use lib.ListN.{length, drop, get_or}
+use lib.ListN.{length, drop, get_or, length-append}
 use borrow.Author.Tests.{lt-ltb, le-ltb}
 use Rattle.reader.specs.Text.{colon}
 use Rattle.reader.specs.Lists.{item_of, pair_from}
@@ -23,52 +23,58 @@ two_written : (n : ℕ) → 10 ≤ n → n < 100 → decimal n ≡ (48 + n / 10)
 unfolding decimal digits_of
 two_written n l h = rw (le-ltb n 10 l, lt-ltb (n / 10) 10 (omega arith))
 
--- one digit stands at a place, or two of which the first is not 0
-module _ (t : List ℕ) (at a : ℕ) (first : get_or t at 0 ≡ a) (low : 48 ≤ a) (high : a < 58) where
-  pub one-digit : at < length t → drop at t ≡ decimal (a - 48) ++ drop (at + 1) t
-  one-digit h =
-      let e : 48 + (a - 48) ≡ get_or t at 0 = omega arith in
-      rw (drop_step t at h, one_written (a - 48) (omega arith), e)
+-- a text and its first byte
+pub first_byte : (s : List ℕ) → 0 < length s → s ≡ get_or s 0 0 ∷ drop 1 s
+first_byte s h = drop_step s 0 h
 
-  pub two_digits : (b : ℕ) → get_or t (at + 1) 0 ≡ b → 48 ≤ b → b < 58 → (a ≡ 48 → ⊥) → at + 1 < length t
-      → drop at t ≡ decimal (10 * (a - 48) + (b - 48)) ++ drop (at + 2) t
+-- what stands behind a part of a text is no longer than the text
+pub split_shorter : (s p rest : List ℕ) → s ≡ p ++ rest → length rest ≤ length s
+split_shorter s p rest e = let n = ap length e ∙ length-append p rest in omega arith
+
+-- one digit stands in front, or two of which the first is not 0
+module _ (s : List ℕ) (a : ℕ) (first : get_or s 0 0 ≡ a) (low : 48 ≤ a) (high : a < 58) where
+  pub one-digit : 0 < length s → s ≡ decimal (a - 48) ++ drop 1 s
+  one-digit h =
+      let e : get_or s 0 0 ≡ 48 + (a - 48) = omega arith in
+      first_byte s h ∙ ap (λ (x : ℕ). x ∷ drop 1 s) e ∙ ap (λ (z : List ℕ). z ++ drop 1 s) (sym (one_written (a - 48) (omega arith)))
+
+  pub two_digits : (b : ℕ) → get_or s 1 0 ≡ b → 48 ≤ b → b < 58 → (a ≡ 48 → ⊥) → 1 < length s
+      → s ≡ decimal (10 * (a - 48) + (b - 48)) ++ drop 2 s
   two_digits b second l k lead h =
       let n = 10 * (a - 48) + (b - 48) in
-      let e : 48 + n / 10 ≡ get_or t at 0 = omega arith in
-      let f : 48 + n % 10 ≡ get_or t (at + 1) 0 = omega arith in
-      let two : at + 1 + 1 ≡ at + 2 = omega arith in
-      rw (drop_step t at (omega arith), drop_step t (at + 1) h, two_written n (omega arith) (omega arith), e, f, two)
+      let e : get_or s 0 0 ≡ 48 + n / 10 = omega arith in
+      let f : get_or s 1 0 ≡ 48 + n % 10 = omega arith in
+      first_byte s (omega arith)
+      ∙ ap (λ (z : List ℕ). get_or s 0 0 ∷ z) (drop_step s 1 h)
+      ∙ ap₂ (λ (x y : ℕ). x ∷ (y ∷ drop 2 s)) e f
+      ∙ ap (λ (z : List ℕ). z ++ drop 2 s) (sym (two_written n (omega arith) (omega arith)))
 
 -- two of which the first is 1
-pub teen_digits : (t : List ℕ) (at b : ℕ) → get_or t at 0 ≡ 49 → get_or t (at + 1) 0 ≡ b → 48 ≤ b → b < 58 → at + 1 < length t
-    → drop at t ≡ decimal (b - 38) ++ drop (at + 2) t
-teen_digits t at b first second l k h =
+pub teen_digits : (s : List ℕ) (b : ℕ) → get_or s 0 0 ≡ 49 → get_or s 1 0 ≡ b → 48 ≤ b → b < 58 → 1 < length s → s ≡ decimal (b - 38) ++ drop 2 s
+teen_digits s b first second l k h =
     let e : 10 * (49 - 48) + (b - 48) ≡ b - 38 = omega arith in
-    subst (λ (n : ℕ). drop at t ≡ decimal n ++ drop (at + 2) t) e
-    (two_digits t at 49 first (omega arith) (omega arith) b second l k (λ z. omega arith) h)
+    subst (λ (n : ℕ). s ≡ decimal n ++ drop 2 s) e (two_digits s 49 first (omega arith) (omega arith) b second l k (λ z. omega arith) h)
 
 -- a pair, a value of the variable that comes next, a member
-module _ (t : List ℕ) (at : ℕ) where
-  pub pair_at : (next v x k end : ℕ) → v < 100 → x < 100 → drop at t ≡ decimal v ++ drop k t → k < length t → get_or t k 0 ≡ colon
-      → drop (k + 1) t ≡ decimal x ++ drop end t → ItemAt t at Pairs next v x end
+module _ (s rest : List ℕ) where
+  pub pair_at : (next v x : ℕ) (m : List ℕ) → v < 100 → x < 100 → s ≡ decimal v ++ m → 0 < length m → get_or m 0 0 ≡ colon
+      → drop 1 m ≡ decimal x ++ rest → ItemAt s Pairs next v x rest
   unfolding item_text item_of
-  pair_at next v x k end a b first h mark second =
+  pair_at next v x m a b front h mark second =
       record {
-        stands = first ∙ ap (λ s. decimal v ++ s) (drop_step t k h ∙ rw (mark, second)) ∙ sym (append_cons (decimal v) colon (decimal x) (drop end t));
+        stands =
+            front ∙ ap (λ (z : List ℕ). decimal v ++ z) (first_byte m h ∙ ap (λ (c : ℕ). c ∷ drop 1 m) mark ∙ ap (λ (z : List ℕ). colon ∷ z) second)
+            ∙ sym (append_assoc (decimal v) (colon ∷ decimal x) rest);
         says = pair_read v x (omega arith) (omega arith);
         small = (omega arith, omega arith);
       }
-    where
-      append_cons : (p : List ℕ) (c : ℕ) (q s : List ℕ) → (p ++ (c ∷ q)) ++ s ≡ p ++ (c ∷ (q ++ s))
-      append_cons [] c q s = refl
-      append_cons (y ∷ ys) c q s = ap (λ z. y ∷ z) (append_cons ys c q s)
 
-  pub value_at : (next x end : ℕ) → next < 256 → x < 100 → drop at t ≡ decimal x ++ drop end t → ItemAt t at Values next next x end
+  pub value_at : (next x : ℕ) → next < 256 → x < 100 → s ≡ decimal x ++ rest → ItemAt s Values next next x rest
   unfolding item_text item_of
-  value_at next x end a b h =
+  value_at next x a b h =
       record { stands = h; says = ap (λ (d : Option ℕ). pair_from (Some next) d) (number_read x (omega arith)); small = (a, omega arith) }
 
-  pub member_at : (next v end : ℕ) → v < 100 → drop at t ≡ decimal v ++ drop end t → ItemAt t at Members next v 1 end
+  pub member_at : (next v : ℕ) → v < 100 → s ≡ decimal v ++ rest → ItemAt s Members next v 1 rest
   unfolding item_text item_of
-  member_at next v end a h =
+  member_at next v a h =
       record { stands = h; says = ap (λ (d : Option ℕ). pair_from d (Some 1)) (number_read v (omega arith)); small = (omega arith, omega arith) }

@@ -5,7 +5,10 @@ ghost use Rattle.reader.specs.Stores.{all_unnamed, clear_actions};
 
 use crate::places::{at_action, at_pattern};
 use crate::store::{fill, put};
-use task_record::layout::AT_GOAL;
+use task_record::layout::{AT_GOAL, RECORD_SIZE};
+
+// The record that is filled, before it is copied out.
+pub type Record = [u8; RECORD_SIZE];
 
 // The outcome numbers of the first n actions are 0.
 fn clear_actions(r: &mut [u8], n: u8)

@@ -1,5 +1,5 @@
-// Where a text is parted, and whether a line has a key. Assumes nothing but room for the key where the text is looked at in place.
-ghost use Rattle.std.specs.Prelude.{◌≡◌, ◌+◌, ◌≤◌, eqb, length, drop};
+// Where a text is parted, and whether it begins with a key that it has room for. Assumes nothing else.
+ghost use Rattle.std.specs.Prelude.{◌≡◌, ◌≤◌, eqb, length};
 ghost use Rattle.reader.specs.Text.{index_of, index_of_either, has_key};
 
 pub const LINE_BREAK: u8 = b'\n';
@@ -45,16 +45,14 @@ fn differs(x: u8, y: u8) -> u8
     1
 }
 
-// Whether the key stands at a place of a text that has room for it.
-pub(crate) fn key_at(text: &[u8], at: usize, key: &[u8]) -> bool
-    requires { at + length key.now ≤ length text.now }
-    ensures { result ≡ has_key key.now (drop at text.now) }
+// Whether a text that has room for the key begins with it.
+pub(crate) fn begins(s: &[u8], key: &[u8]) -> bool
+    requires { length key.now ≤ length s.now }
+    ensures { result ≡ has_key key.now s.now }
 {
-    let mut bad = 0u8;
-    let mut i = 0;
-    while i < key.len() {
-        bad = bad | differs(text[at + i], key[i]);
-        i += 1;
+    let mut bad = 0;
+    for (i, k) in key.iter().enumerate() {
+        bad |= differs(s[i], *k);
     }
     bad == 0
 }

@@ -1,194 +1,122 @@
-// The lines of a good text in their order, each read once. Every function answers the place of the next line, or 0 where it does not know the
-// lines for good; then the record may hold anything. Assumes a record of full length, and that the counts it cites are read.
-ghost use Rattle.std.specs.Prelude.{◌≡◌, true, ◌+◌, ◌<◌, ◌≤◌, length, get_or};
-ghost use Rattle.task_record.specs.Layout.{record_size, at_action};
+// The lines of a good text in their order, each read once. Every function answers what stands behind its lines, or nothing where it does not know
+// them for good; then the record may hold anything. Assumes that the counts it is given are the record's.
+ghost use Rattle.std.specs.Prelude.{◌≡◌, true, ◌+◌, ◌<◌, ◌≤◌, length, get_or, IfSome};
+ghost use Rattle.task_record.specs.Layout.{at_action};
 ghost use Rattle.reader.specs.Text.{lines_of, number_of};
 ghost use Rattle.reader.specs.Grammar.{action_from, pattern_from, go_on, take_budget, read_from, complete};
 ghost use Rattle.reader.specs.Quick.{Leads};
 
+use crate::blank::Record;
 use crate::decimal::number;
 use crate::grammar::put_budget;
 use crate::lists::Kind;
 use crate::order::Due;
-use crate::pieces::{LINE_BREAK, key_at};
-use crate::places::{at_action, at_outcome, at_pattern, at_precondition};
-use crate::quick_lines::{behind, quick_list_line, quick_number_line, quick_pairs};
+use crate::pieces::{LINE_BREAK, begins};
+use crate::places::{Field, at_action, at_outcome, at_pattern, at_precondition};
+use crate::quick_lines::{quick_list_line, quick_number_line, quick_pair_line};
 use task_record::layout::{
     AT_ACTION_COUNT, AT_GOAL, AT_LIMIT, AT_PATTERN_COUNT, AT_SIZES, AT_START, AT_VARIABLES,
 };
 
 // The sizes of n variables.
-fn quick_sizes(text: &[u8], at: usize, rec: &mut [u8], n: usize) -> usize
-    requires { (at ≤ length text.now) × (length rec.old ≡ record_size) × (n ≡ get_or rec.old 0 0) × (1 ≤ n) × (n ≤ 16) }
-    ensures upper_bound { result ≤ length text.now }
-    ensures rec_after { 0 < result → (get_or rec.new 0 0 ≡ n) × Leads text.now (Due.Size 0) rec.old at Due.Moves rec.new result }
+fn quick_sizes<'a>(s: &'a [u8], rec: &mut Record, n: usize) -> Option<&'a [u8]>
+    requires { (n ≡ get_or rec.old 0 0) × (1 ≤ n) × (n ≤ 16) }
+    ensures { IfSome result (λ e. (get_or rec.new 0 0 ≡ n) × Leads (Due.Size 0) rec.old s.now Due.Moves rec.new e.now) }
 {
-    let mut i = 0;
-    let mut k = at;
-    while i < n {
-        k = quick_number_line(text, k, rec, b"size=", 2, 16, AT_SIZES + i);
-        if k == 0 {
-            return 0;
-        }
-        i += 1;
+    let mut rest = s;
+    for i in 0..n {
+        rest = quick_number_line(rest, rec, b"size=", Field::new(2, 16, AT_SIZES + i))?;
     }
-    k
+    Some(rest)
 }
 
 // The outcomes of action m, of which there are `count`.
-fn quick_outcomes(text: &[u8], at: usize, rec: &mut [u8], n: usize, m: u8, count: usize) -> usize
-    requires { (at ≤ length text.now) × (length rec.old ≡ record_size) × (n ≡ get_or rec.old 0 0) × (n ≤ 16) × (m < 64) × (count ≡ get_or rec.old (at_action m) 0) × (1 ≤ count) × (count ≤ 8) }
-    ensures upper_bound { result ≤ length text.now }
-    ensures rec_after { 0 < result → (get_or rec.new 0 0 ≡ n) × (get_or rec.new 1 0 ≡ get_or rec.old 1 0) × Leads text.now (Due.Eff m 0) rec.old at (action_from rec.new (m + 1)) rec.new result }
+fn quick_outcomes<'a>(s: &'a [u8], rec: &mut Record, n: usize, m: u8, count: u8) -> Option<&'a [u8]>
+    requires { (n ≡ get_or rec.old 0 0) × (n ≤ 16) × (m < 64) × (count ≡ get_or rec.old (at_action m) 0) × (1 ≤ count) × (count ≤ 8) }
+    ensures { IfSome result (λ e. (get_or rec.new 0 0 ≡ n) × (get_or rec.new 1 0 ≡ get_or rec.old 1 0) × Leads (Due.Eff m 0) rec.old s.now (action_from rec.new (m + 1)) rec.new e.now) }
 {
-    let mut o = 0u8;
-    let mut k = at;
-    while usize::from(o) < count {
-        let a = behind(text, k, b"eff=");
-        if a == 0 {
-            return 0;
-        }
-        k = quick_pairs(text, a, rec, n, at_outcome(m, o));
-        if k == 0 {
-            return 0;
-        }
-        o += 1;
+    let mut rest = s;
+    for k in 0..count {
+        rest = quick_pair_line(rest, rec, b"eff=", n, at_outcome(m, k))?;
     }
-    k
+    Some(rest)
 }
 
 // The three kinds of line of action m.
-fn quick_action(text: &[u8], at: usize, rec: &mut [u8], n: usize, m: u8) -> usize
-    requires { (at ≤ length text.now) × (length rec.old ≡ record_size) × (n ≡ get_or rec.old 0 0) × (n ≤ 16) × (m < 64) }
-    ensures upper_bound { result ≤ length text.now }
-    ensures rec_after { 0 < result → (get_or rec.new 0 0 ≡ n) × (get_or rec.new 1 0 ≡ get_or rec.old 1 0) × Leads text.now (Due.Need m) rec.old at (action_from rec.new (m + 1)) rec.new result }
+fn quick_action<'a>(s: &'a [u8], rec: &mut Record, n: usize, m: u8) -> Option<&'a [u8]>
+    requires { (n ≡ get_or rec.old 0 0) × (n ≤ 16) × (m < 64) }
+    ensures { IfSome result (λ e. (get_or rec.new 0 0 ≡ n) × (get_or rec.new 1 0 ≡ get_or rec.old 1 0) × Leads (Due.Need m) rec.old s.now (action_from rec.new (m + 1)) rec.new e.now) }
 {
-    let need = behind(text, at, b"need=");
-    if need == 0 {
-        return 0;
-    }
-    let a = quick_pairs(text, need, rec, n, at_precondition(m));
-    if a == 0 {
-        return 0;
-    }
-    let b = quick_number_line(text, a, rec, b"outcomes=", 1, 8, at_action(m));
-    if b == 0 {
-        return 0;
-    }
-    let count = usize::from(rec[at_action(m)]);
-    quick_outcomes(text, b, rec, n, m, count)
+    let a = quick_pair_line(s, rec, b"need=", n, at_precondition(m))?;
+    let b = quick_number_line(a, rec, b"outcomes=", Field::new(1, 8, at_action(m)))?;
+    let count = rec[at_action(m)];
+    quick_outcomes(b, rec, n, m, count)
 }
 
 // The lines of all actions, of which there are `count`.
-fn quick_actions(text: &[u8], at: usize, rec: &mut [u8], n: usize, count: usize) -> usize
-    requires { (at ≤ length text.now) × (length rec.old ≡ record_size) × (n ≡ get_or rec.old 0 0) × (n ≤ 16) × (count ≡ get_or rec.old 1 0) × (count ≤ 64) }
-    ensures upper_bound { result ≤ length text.now }
-    ensures rec_after { 0 < result → (get_or rec.new 0 0 ≡ n) × Leads text.now (action_from rec.old 0) rec.old at Due.Goal rec.new result }
+fn quick_actions<'a>(s: &'a [u8], rec: &mut Record, n: usize, count: u8) -> Option<&'a [u8]>
+    requires { (n ≡ get_or rec.old 0 0) × (n ≤ 16) × (count ≡ get_or rec.old 1 0) × (count ≤ 64) }
+    ensures { IfSome result (λ e. (get_or rec.new 0 0 ≡ n) × Leads (action_from rec.old 0) rec.old s.now Due.Goal rec.new e.now) }
 {
-    let mut m = 0u8;
-    let mut k = at;
-    while usize::from(m) < count {
-        k = quick_action(text, k, rec, n, m);
-        if k == 0 {
-            return 0;
-        }
-        m += 1;
+    let mut rest = s;
+    for m in 0..count {
+        rest = quick_action(rest, rec, n, m)?;
     }
-    k
+    Some(rest)
 }
 
 // The lines of all patterns, of which there are `count`.
-fn quick_patterns(text: &[u8], at: usize, rec: &mut [u8], n: usize, count: usize) -> usize
-    requires { (at ≤ length text.now) × (length rec.old ≡ record_size) × (n ≡ get_or rec.old 0 0) × (n ≤ 16) × (count ≡ get_or rec.old 2 0) × (count ≤ 8) }
-    ensures upper_bound { result ≤ length text.now }
-    ensures leads { 0 < result → Leads text.now (pattern_from rec.old 0) rec.old at Due.Limit rec.new result }
+fn quick_patterns<'a>(s: &'a [u8], rec: &mut Record, n: usize, count: u8) -> Option<&'a [u8]>
+    requires { (n ≡ get_or rec.old 0 0) × (n ≤ 16) × (count ≡ get_or rec.old 2 0) × (count ≤ 8) }
+    ensures { IfSome result (λ e. Leads (pattern_from rec.old 0) rec.old s.now Due.Limit rec.new e.now) }
 {
-    let mut p = 0u8;
-    let mut k = at;
-    while usize::from(p) < count {
-        k = quick_list_line(text, k, rec, b"pattern=", Kind::Members, n, at_pattern(p));
-        if k == 0 {
-            return 0;
-        }
-        p += 1;
+    let mut rest = s;
+    for p in 0..count {
+        rest = quick_list_line(rest, rec, b"pattern=", Kind::Members, n, at_pattern(p))?;
     }
-    k
+    Some(rest)
 }
 
 // The lines up to the last action.
-fn quick_front(text: &[u8], rec: &mut [u8]) -> usize
-    requires { length rec.old ≡ record_size }
-    ensures upper_bound { result ≤ length text.now }
-    ensures rec_bound { 0 < result → (get_or rec.new 0 0 ≤ 16) × Leads text.now Due.Vars rec.old 0 Due.Goal rec.new result }
+fn quick_front<'a>(s: &'a [u8], rec: &mut Record) -> Option<&'a [u8]>
+    ensures { IfSome result (λ e. (get_or rec.new 0 0 ≤ 16) × Leads Due.Vars rec.old s.now Due.Goal rec.new e.now) }
 {
-    let a = quick_number_line(text, 0, rec, b"vars=", 1, 16, AT_VARIABLES);
-    if a == 0 {
-        return 0;
-    }
+    let a = quick_number_line(s, rec, b"vars=", Field::new(1, 16, AT_VARIABLES))?;
     let n = usize::from(rec[AT_VARIABLES]);
-    let b = quick_sizes(text, a, rec, n);
-    if b == 0 {
-        return 0;
-    }
-    let c = quick_number_line(text, b, rec, b"moves=", 0, 64, AT_ACTION_COUNT);
-    if c == 0 {
-        return 0;
-    }
-    let count = usize::from(rec[AT_ACTION_COUNT]);
-    quick_actions(text, c, rec, n, count)
+    let b = quick_sizes(a, rec, n)?;
+    let c = quick_number_line(b, rec, b"moves=", Field::new(0, 64, AT_ACTION_COUNT))?;
+    let count = rec[AT_ACTION_COUNT];
+    quick_actions(c, rec, n, count)
 }
 
 // The lines of the goal and of the start.
-fn quick_states(text: &[u8], at: usize, rec: &mut [u8], n: usize) -> usize
-    requires { (at ≤ length text.now) × (length rec.old ≡ record_size) × (n ≡ get_or rec.old 0 0) × (n ≤ 16) }
-    ensures upper_bound { result ≤ length text.now }
-    ensures rec_after { 0 < result → (get_or rec.new 0 0 ≡ n) × Leads text.now Due.Goal rec.old at Due.Patterns rec.new result }
+fn quick_states<'a>(s: &'a [u8], rec: &mut Record, n: usize) -> Option<&'a [u8]>
+    requires { (n ≡ get_or rec.old 0 0) × (n ≤ 16) }
+    ensures { IfSome result (λ e. (get_or rec.new 0 0 ≡ n) × Leads Due.Goal rec.old s.now Due.Patterns rec.new e.now) }
 {
-    let goal = behind(text, at, b"goal=");
-    if goal == 0 {
-        return 0;
-    }
-    let a = quick_pairs(text, goal, rec, n, AT_GOAL);
-    if a == 0 {
-        return 0;
-    }
-    quick_list_line(text, a, rec, b"start=", Kind::Values, n, AT_START)
+    let a = quick_pair_line(s, rec, b"goal=", n, AT_GOAL)?;
+    quick_list_line(a, rec, b"start=", Kind::Values, n, AT_START)
 }
 
 // The lines from the number of patterns to the limit.
-fn quick_tail(text: &[u8], at: usize, rec: &mut [u8], n: usize) -> usize
-    requires { (at ≤ length text.now) × (length rec.old ≡ record_size) × (n ≡ get_or rec.old 0 0) × (n ≤ 16) }
-    ensures upper_bound { result ≤ length text.now }
-    ensures leads { 0 < result → Leads text.now Due.Patterns rec.old at Due.Budget rec.new result }
+fn quick_tail<'a>(s: &'a [u8], rec: &mut Record, n: usize) -> Option<&'a [u8]>
+    requires { (n ≡ get_or rec.old 0 0) × (n ≤ 16) }
+    ensures { IfSome result (λ e. Leads Due.Patterns rec.old s.now Due.Budget rec.new e.now) }
 {
-    let a = quick_number_line(text, at, rec, b"patterns=", 0, 8, AT_PATTERN_COUNT);
-    if a == 0 {
-        return 0;
-    }
-    let count = usize::from(rec[AT_PATTERN_COUNT]);
-    let b = quick_patterns(text, a, rec, n, count);
-    if b == 0 {
-        return 0;
-    }
-    quick_number_line(text, b, rec, b"limit=", 0, 32, AT_LIMIT)
+    let a = quick_number_line(s, rec, b"patterns=", Field::new(0, 8, AT_PATTERN_COUNT))?;
+    let count = rec[AT_PATTERN_COUNT];
+    let b = quick_patterns(a, rec, n, count)?;
+    quick_number_line(b, rec, b"limit=", Field::new(0, 32, AT_LIMIT))
 }
 
 // The lines before the last.
-fn quick_lines(text: &[u8], rec: &mut [u8]) -> usize
-    requires { length rec.old ≡ record_size }
-    ensures upper_bound { result ≤ length text.now }
-    ensures leads { 0 < result → Leads text.now Due.Vars rec.old 0 Due.Budget rec.new result }
+fn quick_lines<'a>(s: &'a [u8], rec: &mut Record) -> Option<&'a [u8]>
+    ensures { IfSome result (λ e. Leads Due.Vars rec.old s.now Due.Budget rec.new e.now) }
 {
-    let a = quick_front(text, rec);
-    if a == 0 {
-        return 0;
-    }
+    let a = quick_front(s, rec)?;
     let n = usize::from(rec[AT_VARIABLES]);
-    let b = quick_states(text, a, rec, n);
-    if b == 0 {
-        return 0;
-    }
-    quick_tail(text, b, rec, n)
+    let b = quick_states(a, rec, n)?;
+    quick_tail(b, rec, n)
 }
 
 // The place where the last line of a text ends: before the line break at the text's end, or there.
@@ -204,7 +132,7 @@ fn last_end(text: &[u8]) -> usize
 }
 
 // Whether a budget stands there; then the record has it.
-fn quick_budget(rec: &mut [u8], s: &[u8]) -> bool
+fn quick_budget(rec: &mut Record, s: &[u8]) -> bool
     ensures { result ≡ true → take_budget rec.old Due.Budget (number_of s.now) ≡ go_on Due.Budget rec.new }
 {
     match number(s) {
@@ -220,20 +148,18 @@ fn quick_budget(rec: &mut [u8], s: &[u8]) -> bool
 }
 
 // Whether the text is known for good; then the record is what it says.
-pub(crate) fn is_good(text: &[u8], rec: &mut [u8]) -> bool
-    requires { length rec.old ≡ record_size }
+pub(crate) fn is_good(text: &[u8], rec: &mut Record) -> bool
     ensures { result ≡ true → read_from 1 Due.Vars rec.old (lines_of text.now) ≡ complete rec.new }
 {
-    let at = quick_lines(text, rec);
-    if at == 0 {
+    let Some(last) = quick_lines(text, rec) else {
+        return false;
+    };
+    if last.len() < 8 {
         return false;
     }
-    if text.len() < at + 8 {
+    if !begins(last, b"budget=") {
         return false;
     }
-    if !key_at(text, at, b"budget=") {
-        return false;
-    }
-    let end = last_end(text);
-    quick_budget(rec, &text[at + 7..end])
+    let end = last_end(last);
+    quick_budget(rec, &last[7..end])
 }

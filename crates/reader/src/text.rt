@@ -5,7 +5,7 @@ ghost use Rattle.reader.specs.Text.{lines_of};
 ghost use Rattle.reader.specs.Grammar.{read_from, whole_of, read_answer, read_leaves};
 ghost use Rattle.reader.specs.Answers.{read_numbers, text_by_lines};
 
-use crate::blank::clear_record;
+use crate::blank::{Record, clear_record};
 use crate::grammar::take_line;
 use crate::order::{Due, is_end};
 use crate::pieces::{LINE_BREAK, find};
@@ -43,8 +43,8 @@ fn read_lines(text: &[u8], rec: &mut [u8]) -> Result<(), Refusal>
 
 // The same, into a lent record that has room. The record is filled apart, in `local`, and copied out once the whole text is good, so a refusal leaves
 // the lent one as found.
-fn read_slowly(text: &[u8], local: &mut [u8], record: &mut [u8]) -> Result<(), Refusal>
-    requires { (record_size ≤ length «record».old) × (length local.old ≡ record_size) }
+fn read_slowly(text: &[u8], local: &mut Record, record: &mut [u8]) -> Result<(), Refusal>
+    requires { record_size ≤ length «record».old }
     ensures { (result ≡ read_answer text.now «record».old) × («record».new ≡ read_leaves text.now «record».old) }
 {
     fill(local, 0, RECORD_SIZE, UNNAMED);

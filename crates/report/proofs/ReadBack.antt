@@ -10,7 +10,7 @@ use borrow.Author.Tests.{le-leb, ne_eqb}
 use lib.Dec.{leb, eqb}
 use lib.ListN.{length, get_or, length-append, get_or-append}
 use Rattle.reader.specs.Text.{digit, digits, value, well_formed, number_of}
-use Rattle.reader.specs.declared.decimal.Decimal.TheVariants.{Value}
+use Rattle.std.proofs.Common.{Some}
 use Rattle.task_record.proofs.Tests.{both_left, both_right}
 use Rattle.report.specs.Decimal.{decimal}
 use Rattle.report.proofs.Decimals.{decimal_of_digit, decimal_of_more, decimal-length, tens}
@@ -103,6 +103,6 @@ well_formed_lem n l =
     lead (yes d) = rw (decimal_of_digit n d)
     lead (no d) = either (leb (length (decimal n)) 1) _ (rw (first_not_zero n (omega arith)))
 
-pub decimal_reads_back : (n : ℕ) → n < 10000000 → number_of (decimal n) ≡ Value n
+pub decimal_reads_back : (n : ℕ) → n < 10000000 → number_of (decimal n) ≡ Some n
 unfolding number_of
 decimal_reads_back n l = rw (well_formed_lem n l, decimal_says n)

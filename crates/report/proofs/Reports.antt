@@ -8,102 +8,94 @@ use lib.Dec.{leb}
 use lib.ListN.{length, take, replicate, drop_of_length-le}
 use lib.Seq.{take-take, take_at}
 use Rattle.planning.specs.Extended.{ℕ∞, fin, inf}
+use Rattle.planning.specs.Numbers.{refusal}
 use Rattle.planning.specs.Plan.{Plan, encode}
 use Rattle.planning.specs.Search.{found, over, spent, none, plan_bytes, plan_buffer}
 use Rattle.planning.specs.Search as planning
 use Rattle.planning.specs.Table.{estimate}
 use Rattle.planning.proofs.Test.{by_test}
+use Rattle.std.proofs.Common.{Result, Ok, Err, Option, Some, None as nothing}
 use Rattle.reader.specs.Bytes.{bytes}
 use Rattle.reader.specs.Grammar.{Whole, complete, refused, read_whole, answer_of, read_answer, read_leaves}
 use Rattle.task_record.specs.Layout.{record_size, at_start}
 use Rattle.task_record.specs.Numbers.{budget_of, limit_of}
+use Rattle.task_record.specs.Refusals.{refusal_numbers}
 use Rattle.task_record.specs.TaskOf.{cells_at, task_of, patterns_of, start_of}
-use Rattle.reader.specs.declared.text.Reading.TheVariants as of-text
+use Rattle.task_record.specs.declared.refusal.Refusal.{Refusal}
+use Rattle.task_record.specs.declared.refusal.Refusal.TheVariants.{ShortPlan}
 use Rattle.reader.proofs.ReadSound.{answered_record, read_leaves_lem}
 use Rattle.patterns.specs.Estimate.{estimate_check}
 use Rattle.patterns.specs.Value.{value_of, state_value}
-use Rattle.patterns.specs.declared.estimate.EstimateCheck.{EstimateCheck}
-use Rattle.patterns.specs.declared.estimate.EstimateCheck.TheVariants as of-estimate
-use Rattle.patterns.specs.declared.value.StateValue.TheVariants as of-value
+use Rattle.patterns.proofs.Refusals.{after_ok}
 use Rattle.tables.specs.RecordTables.{tables_prepared}
 use Rattle.search.specs.Answer.{buffer_of}
-use Rattle.search.specs.Entry.{task_answer, search_of, after_estimate, search_answer, buffer_after, plan_after}
+use Rattle.search.specs.Entry.{task_answer, search_of, search_answer, plan_after}
 use Rattle.search.specs.declared.entry.SearchAnswer.{SearchAnswer}
-use Rattle.search.specs.declared.entry.SearchAnswer.TheVariants.{Found, Over, Spent, None, Refused}
+use Rattle.search.specs.declared.entry.SearchAnswer.TheVariants.{Found, Over, Spent, None}
 use Rattle.report.specs.Lines.{line, number_line}
-use Rattle.report.specs.Report.{refusal_lines, value_line, found_lines, spent_lines, over_lines, none_lines, answer_lines, record_lines, lines_of, printed, tables_of, plan_of, tables_left, plan_left}
+use Rattle.report.specs.Report.{refusal_lines, refused_lines, value_line, found_lines, spent_lines, over_lines, none_lines, answer_lines, record_lines, lines_of, printed, tables_of, plan_of, tables_left, plan_left}
 use Rattle.report.proofs.PlanLengths.{found_plan_short}
 use Rattle.report.proofs.StartValues.{ready_budget, value_of-start}
 
+-- The lines of a refusal, by its two numbers.
+pub refusal_told : (e : Refusal) (n x : ℕ) → refusal n x ≡ refusal_numbers e → refused_lines e ≡ refusal_lines n x
+unfolding refused_lines refusal
+refusal_told e n x h = rw (← h)
+
 -- The line of a value.
-pub finite_line : (v : ℕ∞) (n : ℕ) → of-value.Finite n ≡ value_of v → value_line v ≡ number_line (bytes "value=") n
+pub finite_line : (v : ℕ∞) (n : ℕ) (x : Option ℕ) → x ≡ Some n → ◌≡◌ {A = Result (Option ℕ) Refusal} (Ok x) (Ok (value_of v)) → value_line v ≡ number_line (bytes "value=") n
 unfolding value_of value_line
-finite_line (fin w) n e = let a : w ≡ n = cc in ap (number_line (bytes "value=")) a
-finite_line inf n e = let z : ◌≡◌ {A = ℕ} 0 1 = cc in absurd (omega arith)
+finite_line (fin w) n x h e = let a : w ≡ n = cc in ap (number_line (bytes "value=")) a
+finite_line inf n x h e = let z : ◌≡◌ {A = ℕ} 0 1 = cc in absurd (omega arith)
 
-pub infinite_line : (v : ℕ∞) → of-value.Infinite ≡ value_of v → value_line v ≡ line (bytes "value=infinite")
+pub infinite_line : (v : ℕ∞) (x : Option ℕ) → x ≡ nothing → ◌≡◌ {A = Result (Option ℕ) Refusal} (Ok x) (Ok (value_of v)) → value_line v ≡ line (bytes "value=infinite")
 unfolding value_of value_line
-infinite_line (fin w) e = let z : ◌≡◌ {A = ℕ} 0 1 = cc in absurd (omega arith)
-infinite_line inf e = refl
+infinite_line (fin w) x h e = let z : ◌≡◌ {A = ℕ} 0 1 = cc in absurd (omega arith)
+infinite_line inf x h e = refl
 
-pub value_not_refused : {A : Type 0} (v : ℕ∞) (n x : ℕ) → of-value.Refused n x ≡ value_of v → A
-unfolding value_of
-value_not_refused (fin w) n x e = let z : ◌≡◌ {A = ℕ} 0 1 = cc in absurd (omega arith)
-value_not_refused inf n x e = let z : ◌≡◌ {A = ℕ} 0 1 = cc in absurd (omega arith)
+pub value_not_refused : {A : Type 0} (v : ℕ∞) (x : Refusal) → ◌≡◌ {A = Result (Option ℕ) Refusal} (Err x) (Ok (value_of v)) → A
+value_not_refused v x e = let z : ◌≡◌ {A = ℕ} 0 1 = cc in absurd (omega arith)
 
--- The answers that are no refusal.
-pub data Answered : SearchAnswer → Type 0 where
-  is_found : (d c k : ℕ) → Answered (Found d c k)
-  is_over_lem : (c : ℕ) → Answered (Over c)
-  is_spent : (d c : ℕ) → Answered (Spent d c)
-  is_none : (c : ℕ) → Answered (None c)
+-- An answer that a pattern has taken apart.
+pub answer_told : (x a : SearchAnswer) (w s : Result SearchAnswer Refusal) → x ≡ a → w ≡ Ok x → w ≡ s → Ok a ≡ s
+answer_told x a w s h i j = ap (λ (t : SearchAnswer). Ok t) (sym h) ∙ sym i ∙ j
 
-not_refused : {A : Type 0} {a : SearchAnswer} (n x : ℕ) → Answered a → a ≡ Refused n x → A
-not_refused n x (is_found d c k) e = let z : ◌≡◌ {A = ℕ} 0 1 = cc in absurd (omega arith)
-not_refused n x (is_over_lem c) e = let z : ◌≡◌ {A = ℕ} 0 1 = cc in absurd (omega arith)
-not_refused n x (is_spent d c) e = let z : ◌≡◌ {A = ℕ} 0 1 = cc in absurd (omega arith)
-not_refused n x (is_none c) e = let z : ◌≡◌ {A = ℕ} 0 1 = cc in absurd (omega arith)
-
-after_ready : (e : EstimateCheck) (k : Unit {0} → SearchAnswer) {a : SearchAnswer} → Answered a → a ≡ after_estimate e k → (e ≡ of-estimate.Ready) × (a ≡ k tt)
-unfolding after_estimate
-after_ready of-estimate.Ready k is h = (refl, h)
-after_ready (of-estimate.Refused n x) k is h = not_refused n x is h
-
-module _ (r : List ℕ) (lent n : ℕ) {a : SearchAnswer} (is : Answered a) (e : a ≡ search_answer r lent n) where
-  answered_ready : estimate_check r lent ≡ of-estimate.Ready
+-- An answer that is no refusal: the tables can be built, and it is what the search answers.
+module _ (r : List ℕ) (lent n : ℕ) {a : SearchAnswer} (e : Ok a ≡ search_answer r lent n) where
+  answered_ready : estimate_check r lent ≡ Ok tt
   unfolding search_answer
-  answered_ready = (after_ready (estimate_check r lent) _ is e).0
+  answered_ready = (after_ok (estimate_check r lent) (λ ready. search_of n (task_answer r)) a (sym e)).1
 
-  answered-search : a ≡ search_of n (task_answer r)
+  answered-search : Ok a ≡ search_of n (task_answer r)
   unfolding search_answer
-  answered-search = (after_ready (estimate_check r lent) _ is e).1
+  answered-search = sym (after_ok (estimate_check r lent) (λ ready. search_of n (task_answer r)) a (sym e)).2
 
 -- The value of the start that is printed.
 unfoldable pub start_value : List ℕ → ℕ∞
 start_value r = estimate (task_of r) (patterns_of r) (start_of r)
 
-pub start-value-told : (r tabs after : List ℕ) (n : ℕ) {a : SearchAnswer} → Answered a → a ≡ search_answer r (length tabs) n → after ≡ tables_prepared r tabs →
-    state_value r (cells_at r at_start) after ≡ value_of (start_value r)
+pub start-value-told : (r tabs after : List ℕ) (n : ℕ) {a : SearchAnswer} → Ok a ≡ search_answer r (length tabs) n → after ≡ tables_prepared r tabs →
+    state_value r (cells_at r at_start) after ≡ Ok (value_of (start_value r))
 unfolding start_value
-start-value-told r tabs after n is e q = rw q (value_of-start r tabs (answered_ready r (length tabs) n is e))
+start-value-told r tabs after n e q = rw q (value_of-start r tabs (answered_ready r (length tabs) n e))
 
 -- A found plan: its bytes stand at the start of the buffer.
-found-fits : (n : ℕ) (x : planning.Answer) (d c k : ℕ) → Found d c k ≡ search_of n x → (p : Plan) × (x ≡ found p d c) × (k ≡ length (encode p)) × (k ≤ n)
+found-fits : (n : ℕ) (x : planning.Answer) (d c k : ℕ) → Ok (Found d c k) ≡ search_of n x → (p : Plan) × (x ≡ found p d c) × (k ≡ length (encode p)) × (k ≤ n)
 unfolding search_of
 found-fits n (found p i j) d c k e =
     by_test (leb (length (encode p)) n)
     (λ t.
-    let g : Found d c k ≡ Found i j (length (encode p)) = e ∙ rw t in
+    let g : ◌≡◌ {A = Result SearchAnswer Refusal} (Ok (Found d c k)) (Ok (Found i j (length (encode p)))) = e ∙ rw t in
     let l : k ≡ length (encode p) = cc in
     (p, cc, l, rw l (leb-true (length (encode p)) n t)))
-    (λ t. let g : Found d c k ≡ Refused 11 (length (encode p)) = e ∙ rw t in let z : ◌≡◌ {A = ℕ} 0 1 = cc in absurd (omega arith))
+    (λ t. let g : ◌≡◌ {A = Result SearchAnswer Refusal} (Ok (Found d c k)) (Err (ShortPlan (length (encode p)))) = e ∙ rw t in let z : ◌≡◌ {A = ℕ} 0 1 = cc in absurd (omega arith))
 found-fits n (over i) d c k e = let z : ◌≡◌ {A = ℕ} 0 1 = cc in absurd (omega arith)
 found-fits n (spent i j) d c k e = let z : ◌≡◌ {A = ℕ} 0 1 = cc in absurd (omega arith)
 found-fits n (none i) d c k e = let z : ◌≡◌ {A = ℕ} 0 1 = cc in absurd (omega arith)
 
-module _ (r tabs plan : List ℕ) (d c k : ℕ) (e : Found d c k ≡ search_answer r (length tabs) (length plan)) where
+module _ (r tabs plan : List ℕ) (d c k : ℕ) (e : Ok (Found d c k) ≡ search_answer r (length tabs) (length plan)) where
   the_plan : (p : Plan) × (task_answer r ≡ found p d c) × (k ≡ length (encode p)) × (k ≤ length plan)
-  the_plan = found-fits (length plan) (task_answer r) d c k (answered-search r (length tabs) (length plan) (is_found d c k) e)
+  the_plan = found-fits (length plan) (task_answer r) d c k (answered-search r (length tabs) (length plan) e)
 
   pub found_within : k ≤ length plan
   found_within = the_plan.3
@@ -113,13 +105,13 @@ module _ (r tabs plan : List ℕ) (d c k : ℕ) (e : Found d c k ≡ search_answ
   found_short =
       let f = the_plan in
       let s = found_plan_short (task_of r) (patterns_of r) (budget_of r) (limit_of r) (start_of r) f.0 d c f.1 in
-      omega (arith, f.2, s.0, s.1, ready_budget r (length tabs) (answered_ready r (length tabs) (length plan) (is_found d c k) e))
+      omega (arith, f.2, s.0, s.1, ready_budget r (length tabs) (answered_ready r (length tabs) (length plan) e))
 
   found-bytes : take k (plan_after r (length tabs) plan) ≡ plan_bytes (task_answer r)
-  unfolding plan_after buffer_after buffer_of plan_buffer plan_bytes
+  unfolding plan_after buffer_of plan_buffer plan_bytes
   found-bytes =
       let f = the_plan in
-      rw (answered_ready r (length tabs) (length plan) (is_found d c k) e, f.1, le-leb (length (encode f.0)) (length plan) (omega (arith, f.2, f.3)))
+      rw (answered_ready r (length tabs) (length plan) e, f.1, le-leb (length (encode f.0)) (length plan) (omega (arith, f.2, f.3)))
       (take-take k (length plan) (encode f.0 ++ replicate (length plan) 255) f.3 ∙ take_at (encode f.0) (replicate (length plan) 255) k (sym f.2))
 
   pub found-told : (m : ℕ) (after : List ℕ) → m ≡ k → after ≡ plan_after r (length tabs) plan → record_lines (length tabs) (length plan) r ≡ value_line (start_value r) ++ found_lines d c (take m after)
@@ -128,35 +120,35 @@ module _ (r tabs plan : List ℕ) (d c k : ℕ) (e : Found d c k ≡ search_answ
 
 -- The other answers.
 module _ (r : List ℕ) (lent n : ℕ) where
-  pub over-told : (c : ℕ) → Over c ≡ search_answer r lent n → record_lines lent n r ≡ value_line (start_value r) ++ over_lines c
+  pub over-told : (c : ℕ) → Ok (Over c) ≡ search_answer r lent n → record_lines lent n r ≡ value_line (start_value r) ++ over_lines c
   unfolding record_lines answer_lines start_value
   over-told c e = rw (← e)
 
-  pub spent-told : (d c : ℕ) → Spent d c ≡ search_answer r lent n → record_lines lent n r ≡ value_line (start_value r) ++ spent_lines d c
+  pub spent-told : (d c : ℕ) → Ok (Spent d c) ≡ search_answer r lent n → record_lines lent n r ≡ value_line (start_value r) ++ spent_lines d c
   unfolding record_lines answer_lines start_value
   spent-told d c e = rw (← e)
 
-  pub none_told : (c : ℕ) → None c ≡ search_answer r lent n → record_lines lent n r ≡ value_line (start_value r) ++ none_lines c
+  pub none_told : (c : ℕ) → Ok (None c) ≡ search_answer r lent n → record_lines lent n r ≡ value_line (start_value r) ++ none_lines c
   unfolding record_lines answer_lines start_value
   none_told c e = rw (← e)
 
-  pub refusal-told : (number second : ℕ) → Refused number second ≡ search_answer r lent n → record_lines lent n r ≡ refusal_lines number second
+  pub refusal-told : (x : Refusal) → Err x ≡ search_answer r lent n → record_lines lent n r ≡ refused_lines x
   unfolding record_lines answer_lines
-  refusal-told number second e = rw (← e)
+  refusal-told x e = rw (← e)
 
 -- A text that is read into a record of 9,464 bytes, or refused.
 whole_answer : (text record₀ : List ℕ) → length record₀ ≡ record_size → read_answer text record₀ ≡ answer_of (read_whole text)
 unfolding read_answer
 whole_answer text record₀ whole = rw (le-ltb (length record₀) record_size (omega arith))
 
-refused_whole : (w : Whole) (number second : ℕ) → of-text.Refused number second ≡ answer_of w → w ≡ refused number second
-refused_whole (complete r) number second e = let z : ◌≡◌ {A = ℕ} 0 1 = cc in absurd (omega arith)
-refused_whole (refused i j) number second e = let a : i ≡ number = cc in let b : j ≡ second = cc in rw (a, b)
+refused_whole : (w : Whole) (x : Refusal) → Err x ≡ answer_of w → w ≡ refused x
+refused_whole (complete r) x e = let z : ◌≡◌ {A = ℕ} 0 1 = cc in absurd (omega arith)
+refused_whole (refused y) x e = let a : y ≡ x = cc in rw a
 
-pub text_refused : (text record₀ : List ℕ) (number second : ℕ) → of-text.Refused number second ≡ read_answer text record₀ → length record₀ ≡ record_size → read_whole text ≡ refused number second
-text_refused text record₀ number second e whole = refused_whole (read_whole text) number second (e ∙ whole_answer text record₀ whole)
+pub text_refused : (text record₀ : List ℕ) (x : Refusal) → Err x ≡ read_answer text record₀ → length record₀ ≡ record_size → read_whole text ≡ refused x
+text_refused text record₀ x e whole = refused_whole (read_whole text) x (e ∙ whole_answer text record₀ whole)
 
-pub text_read : (text record₀ : List ℕ) → of-text.Read ≡ read_answer text record₀ → length record₀ ≡ record_size → read_whole text ≡ complete (read_leaves text record₀)
+pub text_read : (text record₀ : List ℕ) → Ok tt ≡ read_answer text record₀ → length record₀ ≡ record_size → read_whole text ≡ complete (read_leaves text record₀)
 text_read text record₀ e whole =
     let w = answered_record (read_whole text) (sym (e ∙ whole_answer text record₀ whole)) in
     let l = read_leaves_lem text record₀ w.0 (omega arith) w.1 in
@@ -164,10 +156,10 @@ text_read text record₀ e whole =
 
 -- What is printed and left, by what the text says.
 module _ (text : List ℕ) (lent n : ℕ) (tabs plan : List ℕ) where
-  pub printed-refusal : (number second : ℕ) → read_whole text ≡ refused number second →
-      (printed lent n text ≡ refusal_lines number second) × (tables_left text tabs ≡ tabs) × (plan_left text lent plan ≡ plan)
+  pub printed-refusal : (x : Refusal) → read_whole text ≡ refused x →
+      (printed lent n text ≡ refused_lines x) × (tables_left text tabs ≡ tabs) × (plan_left text lent plan ≡ plan)
   unfolding printed lines_of tables_left tables_of plan_left plan_of
-  printed-refusal number second e = (rw e, rw e, rw e)
+  printed-refusal x e = (rw e, rw e, rw e)
 
   pub printed_record : (r after : List ℕ) → read_whole text ≡ complete r → after ≡ r →
       (printed lent n text ≡ record_lines lent n after) × (tables_left text tabs ≡ tables_prepared after tabs) × (plan_left text lent plan ≡ plan_after after lent plan)

@@ -1,6 +1,6 @@
 -- The value of the start on the tables that a search leaves: the value call refuses nothing there and answers the summed estimate.
 -- Assumes nothing.
-use mathlib.Core.Path.{◌≡◌, refl, ap, ◌∙◌}
+use mathlib.Core.Path.{◌≡◌, ap, ◌∙◌}
 use mathlib.Core.List.{List}
 use Prim.Native.Nat.{ℕ, ◌≤◌}
 use native.Mathlib.Nat.{zero-add, sub-zero}
@@ -11,49 +11,38 @@ use lib.Seq.{take-take}
 use Rattle.planning.specs.Pattern.{Additive}
 use Rattle.planning.specs.Table.{estimate, Small}
 use Rattle.planning.proofs.Verdict.{verdict-additive}
+use Rattle.std.proofs.Common.{Ok}
 use Rattle.task_record.specs.Layout.{at_start, at_budget}
 use Rattle.task_record.specs.Numbers.{variable_count, budget_of}
 use Rattle.task_record.specs.Record.{head_ok, cell_ok, state_cell_ok, record_check, Sound}
 use Rattle.task_record.specs.State.{first_bad_value, judge_state, state_check, GoodState}
-use Rattle.task_record.specs.State as of-states
 use Rattle.task_record.specs.TaskOf.{cells_at, task_of, patterns_of, start_of}
-use Rattle.task_record.specs.declared.record.RecordCheck.{RecordCheck}
-use Rattle.task_record.specs.declared.record.RecordCheck.TheVariants as of-record
-use Rattle.task_record.specs.declared.record.StateCheck.TheVariants as of-state
 use Rattle.task_record.proofs.Scanning.{first_none}
 use Rattle.task_record.proofs.Soundness.{sound_cell}
 use Rattle.task_record.proofs.SoundTask.{variables_right}
 use Rattle.task_record.proofs.States.{start_good}
 use Rattle.patterns.specs.Space.{entries_needed}
-use Rattle.patterns.specs.Estimate.{after_record, judge_estimate, estimate_check}
+use Rattle.patterns.specs.Estimate.{judge_estimate, estimate_check}
 use Rattle.patterns.specs.Value.{value_of, values_of, state_value}
-use Rattle.patterns.specs.declared.estimate.EstimateCheck.{EstimateCheck}
-use Rattle.patterns.specs.declared.estimate.EstimateCheck.TheVariants as of-estimate
 use Rattle.patterns.proofs.Built.{call_on_built}
-use Rattle.patterns.proofs.Refusals.{ready_means}
+use Rattle.patterns.proofs.Refusals.{after_ok, ready_means}
 use Rattle.patterns.proofs.Room.{fits_small}
-use Rattle.tables.specs.RecordTables.{built_over, where_ready, tables_prepared}
+use Rattle.tables.specs.RecordTables.{built_over, tables_prepared}
 
 -- A state that is good passes the check.
-good_passes : (r s : List ℕ) → GoodState r s → judge_state r s ≡ of-state.Good
+good_passes : (r s : List ℕ) → GoodState r s → judge_state r s ≡ Ok tt
 unfolding judge_state first_bad_value state_cell_ok
 good_passes r s g =
     let e = first_none (state_cell_ok r s 0) 0 16 (λ i l. rw (zero-add, sub-zero) (g.cell i l)) in
     rw (eq-eqb (length s) 16 g.whole, e)
 
-both_ready : (a : RecordCheck) (j : EstimateCheck) → after_record a j ≡ of-estimate.Ready → (a ≡ of-record.Sound) × (j ≡ of-estimate.Ready)
-unfolding after_record
-both_ready of-record.Sound j h = (refl, h)
-both_ready (of-record.Refused n x) j h = let z : ◌≡◌ {A = ℕ} 0 1 = cc in absurd (omega arith)
-
-module _ (r : List ℕ) (lent : ℕ) (ready : estimate_check r lent ≡ of-estimate.Ready) where
+module _ (r : List ℕ) (lent : ℕ) (ready : estimate_check r lent ≡ Ok tt) where
   pub ready_sound : Sound r
-  unfolding estimate_check Sound
-  ready_sound = (both_ready (record_check r) (judge_estimate r lent) ready).0
+  unfolding Sound
+  ready_sound = (after_ok (record_check r) (λ u. judge_estimate r lent) tt ready).1
 
-  ready_judged : judge_estimate r lent ≡ of-estimate.Ready
-  unfolding estimate_check
-  ready_judged = (both_ready (record_check r) (judge_estimate r lent) ready).1
+  ready_judged : judge_estimate r lent ≡ Ok tt
+  ready_judged = (after_ok (record_check r) (λ u. judge_estimate r lent) tt ready).2
 
   ready_small : Small (task_of r) (patterns_of r)
   unfolding Small
@@ -62,8 +51,8 @@ module _ (r : List ℕ) (lent : ℕ) (ready : estimate_check r lent ≡ of-estim
   ready_additive : Additive (task_of r) (patterns_of r)
   ready_additive = (verdict-additive (task_of r) (patterns_of r)).0 (ready_means r lent ready_judged).1
 
-  start_checked : state_check r (cells_at r at_start) ≡ of-state.Good
-  unfolding state_check of-states.after_record Sound
+  start_checked : state_check r (cells_at r at_start) ≡ Ok tt
+  unfolding Sound
   start_checked = rw (ready_sound) (good_passes r (cells_at r at_start) (start_good r ready_sound))
 
   start_values : values_of r (cells_at r at_start) ≡ start_of r
@@ -74,10 +63,10 @@ module _ (r : List ℕ) (lent : ℕ) (ready : estimate_check r lent ≡ of-estim
   unfolding cell_ok head_ok
   ready_budget = leb-true (budget_of r) 1000000 (sound_cell r ready_sound at_budget (omega arith))
 
-pub value_of-start : (r tabs : List ℕ) → estimate_check r (length tabs) ≡ of-estimate.Ready →
-    state_value r (cells_at r at_start) (tables_prepared r tabs) ≡ value_of (estimate (task_of r) (patterns_of r) (start_of r))
-unfolding tables_prepared where_ready built_over
+pub value_of-start : (r tabs : List ℕ) → estimate_check r (length tabs) ≡ Ok tt →
+    state_value r (cells_at r at_start) (tables_prepared r tabs) ≡ Ok (value_of (estimate (task_of r) (patterns_of r) (start_of r)))
+unfolding built_over
 value_of-start r tabs ready =
     rw ready
     (call_on_built r (cells_at r at_start) (drop (entries_needed (task_of r).sizes (patterns_of r)) tabs) (start_checked r (length tabs) ready) (ready_small r (length tabs) ready) (ready_additive r (length tabs) ready)
-    ∙ ap (λ (s : List ℕ). value_of (estimate (task_of r) (patterns_of r) s)) (start_values r (length tabs) ready))
+    ∙ ap (λ (s : List ℕ). Ok (value_of (estimate (task_of r) (patterns_of r) s))) (start_values r (length tabs) ready))

@@ -1,5 +1,5 @@
 // The lines of an answer: a refusal, the value of the start, and what the search found. Asks that places stay small.
-ghost use Rattle.std.specs.Prelude.{◌≡◌, ◌+◌, ◌*◌, ◌≤◌, length};
+ghost use Rattle.std.specs.Prelude.{◌≡◌, ◌+◌, ◌*◌, ◌≤◌, length, Ok};
 ghost use Rattle.planning.specs.Extended.{ℕ∞};
 ghost use Rattle.task_record.specs.Layout.{at_start};
 ghost use Rattle.task_record.specs.TaskOf.{cells_at};
@@ -8,36 +8,38 @@ ghost use Rattle.report.specs.Report.{refusal_lines, value_line, found_lines, sp
 ghost use Rattle.report.specs.Writing.{Puts};
 
 use crate::lines::Lines;
-use patterns::value::{StateValue, state_value};
+use patterns::value::state_value;
 use task_record::cells::start_cells;
+use task_record::refusal::Refusal;
 
-pub(crate) fn put_refusal(lines: &mut Lines<'_>, number: u64, second: u64)
+// Number and second number of a refusal.
+pub(crate) fn put_refusal(lines: &mut Lines<'_>, numbers: (u64, u64))
     requires { lines.old.at ≤ 53 }
-    ensures written { Puts (refusal_lines number second) lines.old lines.new }
+    ensures written { Puts (refusal_lines numbers.0 numbers.1) lines.old lines.new }
     ensures short { lines.new.at ≤ lines.old.at + 106 }
 {
-    lines.put_number_line(b"refused=", number);
-    lines.put_number_line(b"at=", second)
+    lines.put_number_line(b"refused=", numbers.0);
+    lines.put_number_line(b"at=", numbers.1)
 }
 
 // A value that was refused has no line: the caller has seen that it is not.
-fn put_value(lines: &mut Lines<'_>, value: StateValue)
+fn put_value(lines: &mut Lines<'_>, value: Result<Option<u64>, Refusal>)
     requires { lines.old.at ≤ 53 }
-    ensures written { (v : ℕ∞) → value ≡ value_of v → Puts (value_line v) lines.old lines.new }
+    ensures written { (v : ℕ∞) → value ≡ Ok (value_of v) → Puts (value_line v) lines.old lines.new }
     ensures short { lines.new.at ≤ lines.old.at + 53 }
     ensures same { lines.new.out.ghost_name ≡ lines.old.out.ghost_name }
 {
     match value {
-        StateValue::Finite(v) => lines.put_number_line(b"value=", v),
-        StateValue::Infinite => lines.put_line(b"value=infinite"),
-        StateValue::Refused(_, _) => {}
+        Ok(Some(v)) => lines.put_number_line(b"value=", v),
+        Ok(None) => lines.put_line(b"value=infinite"),
+        Err(_) => {}
     }
 }
 
 // The value of the start, from tables that a search left.
 pub(crate) fn put_start_value(lines: &mut Lines<'_>, rec: &[u8], tables: &[u16])
     requires { lines.old.at ≡ 0 }
-    ensures written { (v : ℕ∞) → state_value rec.now (cells_at rec.now at_start) tables.now ≡ value_of v → Puts (value_line v) lines.old lines.new }
+    ensures written { (v : ℕ∞) → state_value rec.now (cells_at rec.now at_start) tables.now ≡ Ok (value_of v) → Puts (value_line v) lines.old lines.new }
     ensures short { lines.new.at ≤ 53 }
     ensures same { lines.new.out.ghost_name ≡ lines.old.out.ghost_name }
 {
@@ -74,6 +76,7 @@ pub(crate) fn put_over(lines: &mut Lines<'_>, count: u64)
     lines.put_number_line(b"count=", count)
 }
 
+// Stays: one function with `put_over` would take the word that tells them apart, and its two lines are no fewer.
 pub(crate) fn put_none(lines: &mut Lines<'_>, count: u64)
     requires { lines.old.at ≤ 53 }
     ensures written { Puts (none_lines count) lines.old lines.new }

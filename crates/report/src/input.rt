@@ -5,6 +5,7 @@ use std::io;
 use std::io::Read;
 
 // Reads until the buffer is full or the input ends. Answers how many bytes there are.
+// Stays: the library's read_exact fails where the input is shorter than the buffer, and its read_to_end allocates.
 pub fn read_full<R: Read>(input: &mut R, buffer: &mut [u8]) -> io::Result<usize>
     ensures { IfOk result (λ n. n ≤ length buffer.new) }
 {

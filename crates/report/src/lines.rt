@@ -58,6 +58,7 @@ impl<'a> Lines<'a> {
     }
 
     // Most significant digit first, so the digits before the last are written first.
+    // Stays: the library's digits go into a buffer of their own, and are copied from there; these go where they stand.
     fn put_decimal(&mut self, n: u64)
         requires { self.old.at ≤ 3000000000 }
         ensures { Puts (decimal n) self.old self.new }

@@ -7,7 +7,7 @@ ghost use Rattle.report.specs.Writing.{Puts, overwritten};
 
 use crate::answers::{put_found, put_none, put_over, put_refusal, put_spent, put_start_value};
 use crate::lines::Lines;
-use reader::text::{Reading, read_text};
+use reader::text::read_text;
 use search::entry::{SearchAnswer, search};
 use task_record::layout::RECORD_SIZE;
 
@@ -20,20 +20,20 @@ fn report_record(rec: &[u8], tables: &mut [u16], plan: &mut [u8], lines: &mut Li
     ensures short { lines.new.at ≤ 4 * length plan.old + 256 }
 {
     match search(rec, tables, plan) {
-        SearchAnswer::Refused(number, second) => put_refusal(lines, number, second),
-        SearchAnswer::Found(cost, count, bytes) => {
+        Err(refused) => put_refusal(lines, refused.numbers()),
+        Ok(SearchAnswer::Found(cost, count, bytes)) => {
             put_start_value(lines, rec, tables);
             put_found(lines, cost, count, &plan[..bytes as usize])
         }
-        SearchAnswer::Over(count) => {
+        Ok(SearchAnswer::Over(count)) => {
             put_start_value(lines, rec, tables);
             put_over(lines, count)
         }
-        SearchAnswer::Spent(round, count) => {
+        Ok(SearchAnswer::Spent(round, count)) => {
             put_start_value(lines, rec, tables);
             put_spent(lines, round, count)
         }
-        SearchAnswer::None(count) => {
+        Ok(SearchAnswer::None(count)) => {
             put_start_value(lines, rec, tables);
             put_none(lines, count)
         }
@@ -50,8 +50,8 @@ fn report_lines(text: &[u8], tables: &mut [u16], plan: &mut [u8], lines: &mut Li
 {
     let mut rec = [0u8; RECORD_SIZE];
     match read_text(text, &mut rec) {
-        Reading::Refused(number, line) => put_refusal(lines, number, line),
-        Reading::Read => report_record(&rec, tables, plan, lines),
+        Ok(()) => report_record(&rec, tables, plan, lines),
+        Err(refusal) => put_refusal(lines, refusal.numbers()),
     }
 }
 

@@ -4,7 +4,7 @@ use Rattle.std.proofs.Common.{◌≡◌, ℕ, zero, suc, ◌+◌, ◌-◌, ◌*�
 use native.Mathlib.Nat.{pow-succ', div-div-eq-div-mul}
 use Rattle.tables.proofs.ApplyingSets.{upper_digit}
 use Rattle.search.specs.Value.{row_entry, packed_index}
-use Rattle.search.specs.ByteRows.{digit_adds, byte_adds, block_sum, SpanAt, BytesOf}
+use Rattle.search.specs.ByteRows.{digit_adds, byte_adds, block_sum, SpanAt}
 
 -- What n digits from v on add.
 unfoldable pub digit_sum : (ℕ → ℕ → ℕ) → ℕ → ℕ → ℕ → ℕ
@@ -69,11 +69,6 @@ module _ (rows : List ℕ) (p variables : ℕ) (places : List ℕ) (first count 
       let skipped = rw (e, z) at (sum_skips (digit_adds rows variables p) 0 (2 * first) (16 - 2 * first) s (λ u x l. g.below u x (omega arith))) in
       let summed = rw (a, b) at (span_sum 0 count (s / 16 ^ (2 * first)) (omega arith)) in
       rw (shift_bytes first) (sym (index_sum rows p variables s few ∙ skipped ∙ summed))
-
--- What is read of a pattern that has blocks, and its index.
-module _ (rows : List ℕ) (patterns variables : ℕ) (places : List ℕ) (b : BytesOf rows patterns variables places) (p : ℕ) (l : p < patterns) (some : get_or places (4097 + 3 * p) 0 ≡ 0 → ⊥) where
-  pub span_here : SpanAt rows variables p places (get_or places (4096 + 3 * p) 0) (get_or places (4097 + 3 * p) 0) (get_or places (4098 + 3 * p) 0)
-  span_here = b.span p l some
 
 pub blocks_start : (places : List ℕ) (at n s : ℕ) → block_sum places at n s ≡ 0 + block_sum places (at + 256 * 0) (n - 0) s
 blocks_start places at n s = let a : at + 256 * 0 ≡ at = omega arith in let m : n - 0 ≡ n = omega arith in rw (a, m) (omega arith)

@@ -15,7 +15,7 @@ use Rattle.tables.specs.Packed.{packed_system}
 use Rattle.search.specs.declared.instance.Instance.{Instance}
 use Rattle.search.specs.declared.entry.SearchAnswer.TheVariants as outcome
 use Rattle.search.specs.Buffer.{Holds, filled}
-use Rattle.search.specs.Value.{value_of}
+use Rattle.patterns.specs.Value.{value_of}
 use Rattle.search.specs.Packed.{guided_examination, guided_value}
 use Rattle.search.specs.Examination.{plan_size, plan_head}
 use Rattle.search.specs.Answer.{guided_rounds, answer_of, buffer_of, Replied, FoundBy, Left}

@@ -1,9 +1,11 @@
 -- Filling the blocks: sixteen sums, a block, the blocks of a pattern, and those of every pattern. Assumes nothing.
-use Rattle.std.proofs.Common.{◌≡◌, ℕ, ◌+◌, ◌-◌, ◌*◌, ◌/◌, ◌%◌, ◌<◌, ◌≤◌, Bool, true, false, ltb, ◌⊎◌, List, length, get_or, set, sym, refl, ap, ◌∙◌, inl, inr, ⊎_elim, true≢false, mul-le-mul_right, mod-eq_of_lt, arith, ltb→lt, length-set, get_or-set_other, get_or-set_same}
+use Rattle.std.proofs.Common.{◌≡◌, ℕ, ◌+◌, ◌-◌, ◌*◌, ◌/◌, ◌%◌, ◌<◌, ◌≤◌, Bool, true, false, ltb, ◌⊎◌, List, Option, Some, None, length, get_or, set, sym, refl, ap, ◌∙◌, inl, inr, ⊎_elim, true≢false, mul-le-mul_right, mod-eq_of_lt, arith, ltb→lt, length-set, get_or-set_other, get_or-set_same}
 use native.Mathlib.Decide.{ℕ_discrete}
 use Rattle.planning.proofs.Test.{by_test}
 use Rattle.search.specs.Value.{row_entry}
 use Rattle.search.specs.Rows.{RowsOf}
+use Rattle.search.specs.declared.byte_rows.Places.{Places}
+use Rattle.search.specs.declared.byte_rows.Span.{Span}
 use Rattle.search.specs.ByteRows.{digit_adds, byte_adds, BlockAt, SpanAt, BytesOf, Linear, SumsFilled, BlockFilled, SpanFilled, PatternPlaced}
 
 -- Values below x are taken.
@@ -22,19 +24,19 @@ taking_goes_on {f} {r} {x} w t l e = record { taken = λ y. taken-after t l e y 
 
 -- Sums below l are written.
 pub record Summing (low : List ℕ) (high : ℕ) (old new : List ℕ) (at l : ℕ) : Type 0 where
-  pub long : length new ≡ 4120
+  pub long : length new ≡ 4096
   pub sums : (k : ℕ) → k < l → get_or new (at + k) 0 ≡ (get_or low k 0 + high) % 65536
   pub kept : (i : ℕ) → (i < at) ⊎ (at + 16 ≤ i) → get_or new i 0 ≡ get_or old i 0
 
-pub summing_starts : (low : List ℕ) (high : ℕ) (old : List ℕ) (at : ℕ) → length old ≡ 4120 → Summing low high old old at 0
+pub summing_starts : (low : List ℕ) (high : ℕ) (old : List ℕ) (at : ℕ) → length old ≡ 4096 → Summing low high old old at 0
 summing_starts low high old at h = record { long = h; sums = λ k l. absurd (omega arith); kept = λ i l. refl }
 
 module _ {low old new : List ℕ} {high at l : ℕ} (s : Summing low high old new at l) (w : ℕ) where
-  sums_after : at + l < 4120 → w ≡ (get_or low l 0 + high) % 65536 → (k : ℕ) → Dec (k ≡ l) → k < l + 1 → get_or (set new (at + l) w) (at + k) 0 ≡ (get_or low k 0 + high) % 65536
+  sums_after : at + l < 4096 → w ≡ (get_or low l 0 + high) % 65536 → (k : ℕ) → Dec (k ≡ l) → k < l + 1 → get_or (set new (at + l) w) (at + k) 0 ≡ (get_or low k 0 + high) % 65536
   sums_after b e k (yes q) h = rw q (get_or-set_same new (at + l) w 0 (omega (arith, s.long)) ∙ e)
   sums_after b e k (no q) h = get_or-set_other new (at + l) (at + k) w 0 (λ z. q (omega arith)) ∙ s.sums k (omega arith)
 
-  pub summing_goes_on : l < 16 → at + l < 4120 → w ≡ (get_or low l 0 + high) % 65536 → Summing low high old (set new (at + l) w) at (l + 1)
+  pub summing_goes_on : l < 16 → at + l < 4096 → w ≡ (get_or low l 0 + high) % 65536 → Summing low high old (set new (at + l) w) at (l + 1)
   summing_goes_on m b e = record {
     long = length-set new (at + l) w ∙ s.long;
     sums = λ k. sums_after b e k (ℕ_discrete k l);
@@ -46,11 +48,11 @@ summing_ends s h = record { sums = λ k i. s.sums k (omega arith); kept = s.kept
 
 -- Rows below h of a block are written.
 pub record Blocking (low high old new : List ℕ) (at h : ℕ) : Type 0 where
-  pub long : length new ≡ 4120
+  pub long : length new ≡ 4096
   pub sums : (k l : ℕ) → k < h → l < 16 → get_or new (at + 16 * k + l) 0 ≡ (get_or low l 0 + get_or high k 0) % 65536
   pub kept : (i : ℕ) → (i < at) ⊎ (at + 256 ≤ i) → get_or new i 0 ≡ get_or old i 0
 
-pub blocking_starts : (low high old : List ℕ) (at : ℕ) → length old ≡ 4120 → Blocking low high old old at 0
+pub blocking_starts : (low high old : List ℕ) (at : ℕ) → length old ≡ 4096 → Blocking low high old old at 0
 blocking_starts low high old at h = record { long = h; sums = λ k l m. absurd (omega arith); kept = λ i l. refl }
 
 module _ {low high old new : List ℕ} {at h : ℕ} (s : Blocking low high old new at h) where
@@ -110,11 +112,11 @@ module _ (rows : List ℕ) (variables p : ℕ) (linear : (v x : ℕ) → v < var
 
 -- Blocks below j of a span are written.
 pub record Spanning (rows : List ℕ) (variables p first count : ℕ) (old new : List ℕ) (at j : ℕ) : Type 0 where
-  pub long : length new ≡ 4120
+  pub long : length new ≡ 4096
   pub blocks : (k : ℕ) → k < j → BlockAt rows variables p (first + k) new (at + 256 * k)
   pub kept : (i : ℕ) → (i < at) ⊎ (at + 256 * count ≤ i) → get_or new i 0 ≡ get_or old i 0
 
-pub spanning_starts : (rows : List ℕ) (variables p first count : ℕ) (old : List ℕ) (at : ℕ) → length old ≡ 4120 → Spanning rows variables p first count old old at 0
+pub spanning_starts : (rows : List ℕ) (variables p first count : ℕ) (old : List ℕ) (at : ℕ) → length old ≡ 4096 → Spanning rows variables p first count old old at 0
 spanning_starts rows variables p first count old at h = record { long = h; blocks = λ k l. absurd (omega arith); kept = λ i l. refl }
 
 module _ {rows old new : List ℕ} {variables p first count at j : ℕ} (s : Spanning rows variables p first count old new at j) where
@@ -147,73 +149,50 @@ module _ {rows old new : List ℕ} {variables p first count at j : ℕ} (s : Spa
   pub spanning_ends : count ≤ j → SpanFilled rows variables p first count old new at true
   spanning_ends l = record { blocks = λ e k h. s.blocks k (omega arith); kept = s.kept }
 
--- The three numbers of pattern p are written into a list of 4,120, and nothing else.
-pub record Numbered (old new : List ℕ) (p first count at : ℕ) : Type 0 where
-  pub first_is : get_or new (4096 + 3 * p) 0 ≡ first
-  pub count_is : get_or new (4097 + 3 * p) 0 ≡ count
-  pub at_is : get_or new (4098 + 3 * p) 0 ≡ at
-  pub others : (i : ℕ) → (i < 4096 + 3 * p) → get_or new i 0 ≡ get_or old i 0
-
-pub numbers_put : (old new : List ℕ) (p first count at : ℕ) → length old ≡ 4120 → p < 8 → new ≡ set (set (set old (4096 + 3 * p) first) (4097 + 3 * p) count) (4098 + 3 * p) at → Numbered old new p first count at
-numbers_put old new p first count at l h e =
-    let a = set old (4096 + 3 * p) first in let b = set a (4097 + 3 * p) count in
-    let m : length a ≡ 4120 = length-set old (4096 + 3 * p) first ∙ l in let n : length b ≡ 4120 = length-set a (4097 + 3 * p) count ∙ m in rw e (record {
-      first_is = get_or-set_other b (4098 + 3 * p) (4096 + 3 * p) at 0 (λ z. absurd (omega arith)) ∙ get_or-set_other a (4097 + 3 * p) (4096 + 3 * p) count 0 (λ z. absurd (omega arith)) ∙ get_or-set_same old (4096 + 3 * p) first 0 (omega arith);
-      count_is = get_or-set_other b (4098 + 3 * p) (4097 + 3 * p) at 0 (λ z. absurd (omega arith)) ∙ get_or-set_same a (4097 + 3 * p) count 0 (omega arith);
-      at_is = get_or-set_same b (4098 + 3 * p) at 0 (omega arith);
-      others = λ i k. get_or-set_other b (4098 + 3 * p) i at 0 (λ z. absurd (omega arith)) ∙ get_or-set_other a (4097 + 3 * p) i count 0 (λ z. absurd (omega arith)) ∙ get_or-set_other old (4096 + 3 * p) i first 0 (λ z. absurd (omega arith));
-    })
-
 -- A pattern whose blocks were written.
-module _ {rows old mid new : List ℕ} {variables p at first count : ℕ} where
-  pub placed : ((v x : ℕ) → v < variables → x < 16 → row_entry rows v x p ≡ x * row_entry rows v 1 p) → SpanFilled rows variables p first count old mid at true → Numbered mid new p first count at →
-      first + count ≤ 8 → at + 256 * count ≤ 4096 → ((v : ℕ) → v < 2 * first → v < variables → row_entry rows v 1 p ≡ 0) → ((v : ℕ) → 2 * (first + count) ≤ v → v < variables → row_entry rows v 1 p ≡ 0) →
-      PatternPlaced rows variables p old new at (at + 256 * count)
-  placed linear f g w r below above = record {
-    span = λ n. rw (g.first_is, g.count_is, g.at_is) (
+module _ {rows old mid : List ℕ} {variables p at first count : ℕ} where
+  pub placed : ((v x : ℕ) → v < variables → x < 16 → row_entry rows v x p ≡ x * row_entry rows v 1 p) → SpanFilled rows variables p first count old mid at true →
+      1 ≤ count → first + count ≤ 8 → at + 256 * count ≤ 4096 → ((v : ℕ) → v < 2 * first → v < variables → row_entry rows v 1 p ≡ 0) → ((v : ℕ) → 2 * (first + count) ≤ v → v < variables → row_entry rows v 1 p ≡ 0) →
+      PatternPlaced rows variables p old mid at (Some (record { first = first; count = count; at = at })) (at + 256 * count)
+  placed linear f s w r below above = record {
+    span = λ v e. let k : record { first = first; count = count; at = at } ≡ v = cc in rw (← k) (
       record {
+        some = s;
         within = w;
         room = r;
         below = λ v x l h. adds_none rows variables p linear v x (below v l) h;
         above = λ v x l h. adds_none rows variables p linear v x (above v l) h;
-        blocks = λ j l. record { block = λ x h. g.others (at + 256 * j + x) (omega arith) ∙ (f.blocks refl j l).block x h };
+        blocks = λ j l. f.blocks refl j l;
       },
       omega arith,
     );
-    kept = λ i o. ⊎_elim (λ q. g.others i (omega arith) ∙ f.kept i (inl q)) (λ q. g.others i q.1 ∙ f.kept i (inr (omega (arith, q.0)))) o;
+    kept = λ i h. f.kept i (inl h);
     grows = omega arith;
     room = r;
   }
 
 -- A pattern without blocks.
-pub not_placed : {rows old mid new : List ℕ} {variables p at first : ℕ} → ((i : ℕ) → (i < at) ⊎ (4096 ≤ i) → get_or mid i 0 ≡ get_or old i 0) → Numbered mid new p first 0 at → at ≤ 4096 →
-    PatternPlaced rows variables p old new at at
-not_placed k g l = record {
-  span = λ n. absurd (n g.count_is);
-  kept = λ i o. ⊎_elim (λ q. g.others i (omega arith) ∙ k i (inl q)) (λ q. g.others i q.1 ∙ k i (inr q.0)) o;
+pub not_placed : {rows old mid : List ℕ} {variables p at : ℕ} → ((i : ℕ) → i < at → get_or mid i 0 ≡ get_or old i 0) → at ≤ 4096 → PatternPlaced rows variables p old mid at None at
+not_placed k l = record {
+  span = λ w e. let z : ◌≡◌ {A = ℕ} 0 1 = cc in absurd (omega arith);
+  kept = k;
   grows = omega arith;
   room = l;
 }
 
--- A pattern whose blocks were begun and given up.
-pub given_up : {rows old mid new : List ℕ} {variables p at first count begin : ℕ} {r : Bool} → SpanFilled rows variables p first count old mid at r → Numbered mid new p begin 0 at →
-    at + 256 * count ≤ 4096 → PatternPlaced rows variables p old new at at
-given_up f g l = not_placed (λ i o. f.kept i (⊎_elim (λ q. inl q) (λ q. inr (omega arith)) o)) g (omega arith)
-
--- Patterns below p have their numbers and blocks, all below `at`.
-pub record Placing (rows : List ℕ) (variables : ℕ) (new : List ℕ) (at p : ℕ) : Type 0 where
-  pub spans : (q : ℕ) → q < p → (get_or new (4097 + 3 * q) 0 ≡ 0 → ⊥) →
-      (SpanAt rows variables q new (get_or new (4096 + 3 * q) 0) (get_or new (4097 + 3 * q) 0) (get_or new (4098 + 3 * q) 0) ×
-      (get_or new (4098 + 3 * q) 0 + 256 * get_or new (4097 + 3 * q) 0 ≤ at))
+-- Patterns below p have their blocks, all below `at`.
+pub record Placing (rows : List ℕ) (variables : ℕ) (places : Places) (at p : ℕ) : Type 0 where
+  pub spans : (q : ℕ) → q < p → (w : Span) → get_or places.spans q None ≡ Some w → SpanAt rows variables q places.sums w.first w.count w.at × (w.at + 256 * w.count ≤ at)
   pub room : at ≤ 4096
 
-pub placing_starts : (rows : List ℕ) (variables : ℕ) (new : List ℕ) → Placing rows variables new 0 0
-placing_starts rows variables new = record { spans = λ q h. absurd (omega arith); room = omega arith }
+pub placing_starts : (rows : List ℕ) (variables : ℕ) (places : Places) → Placing rows variables places 0 0
+placing_starts rows variables places = record { spans = λ q h. absurd (omega arith); room = omega arith }
 
 -- Blocks that are kept stay the blocks of their pattern.
 span_stays : {rows old new : List ℕ} {variables q first count at : ℕ} (end : ℕ) → SpanAt rows variables q old first count at → at + 256 * count ≤ end → ((i : ℕ) → i < end → get_or new i 0 ≡ get_or old i 0) →
     SpanAt rows variables q new first count at
 span_stays end s l k = record {
+  some = s.some;
   within = s.within;
   room = s.room;
   below = s.below;
@@ -221,17 +200,13 @@ span_stays end s l k = record {
   blocks = λ j h. record { block = λ x i. k _ (omega arith) ∙ (s.blocks j h).block x i };
 }
 
-module _ {rows old new : List ℕ} {variables at end p : ℕ} (f : Placing rows variables old at p) (g : PatternPlaced rows variables p old new at end) where
-  spans_after : (q : ℕ) → Dec (q ≡ p) → q < p + 1 → (get_or new (4097 + 3 * q) 0 ≡ 0 → ⊥) →
-      (SpanAt rows variables q new (get_or new (4096 + 3 * q) 0) (get_or new (4097 + 3 * q) 0) (get_or new (4098 + 3 * q) 0) ×
-      (get_or new (4098 + 3 * q) 0 + 256 * get_or new (4097 + 3 * q) 0 ≤ end))
-  spans_after q (yes e) h some = rw e (g.span (rw e at some))
-  spans_after q (no n) h some = let l : q < p = omega arith in let m = g.grows in
-      let a = g.kept (4096 + 3 * q) (inr (omega arith, omega arith)) in let b = g.kept (4097 + 3 * q) (inr (omega arith, omega arith)) in let c = g.kept (4098 + 3 * q) (inr (omega arith, omega arith)) in
-      let z = f.spans q l (λ e. some (b ∙ e)) in rw (a, b, c) (span_stays at z.0 z.1 (λ i k. g.kept i (inl k)), omega (arith, z.1))
+module _ {rows new : List ℕ} {variables at end p : ℕ} {places : Places} {r : Option Span} (f : Placing rows variables places at p) (g : PatternPlaced rows variables p places.sums new at r end) (l : p < length places.spans) where
+  spans_after : (q : ℕ) → Dec (q ≡ p) → q < p + 1 → (w : Span) → get_or (set places.spans p r) q None ≡ Some w → SpanAt rows variables q new w.first w.count w.at × (w.at + 256 * w.count ≤ end)
+  spans_after q (yes e) h w t = rw e (g.span w (sym (get_or-set_same places.spans p r None l) ∙ rw e at t))
+  spans_after q (no n) h w t = let z = f.spans q (omega arith) w (sym (get_or-set_other places.spans p q r None n) ∙ t) in let m = g.grows in (span_stays at z.0 z.1 g.kept, omega (arith, z.1))
 
-  pub placing_goes_on : Placing rows variables new end (p + 1)
+  pub placing_goes_on : Placing rows variables (record { sums = new; spans = set places.spans p r }) end (p + 1)
   placing_goes_on = record { spans = λ q. spans_after q (ℕ_discrete q p); room = g.room }
 
-pub placing_ends : {rows new : List ℕ} {variables at p : ℕ} (patterns : ℕ) → Placing rows variables new at p → patterns ≤ p → BytesOf rows patterns variables new
-placing_ends patterns f l = record { span = λ q h n. (f.spans q (omega arith) n).0 }
+pub placing_ends : {rows : List ℕ} {places : Places} {variables at p : ℕ} (patterns : ℕ) → Placing rows variables places at p → patterns ≤ p → BytesOf rows patterns variables places
+placing_ends patterns f l = record { span = λ q h w e. (f.spans q (omega arith) w e).0 }

@@ -1,7 +1,9 @@
 -- The index of a state in a pattern's table by the bytes of its word: a block of 256 entries for each byte that the pattern has says what
 -- the two digits of that byte add. Assumes nothing.
-use Rattle.std.specs.Prelude.{◌≡◌, ℕ, zero, suc, ◌+◌, ◌*◌, ◌/◌, ◌%◌, ◌<◌, ◌≤◌, Bool, true, cond, ◌⊎◌, List, nat_lt, slice_index, ◌≢◌}
+use Rattle.std.specs.Prelude.{◌≡◌, ℕ, zero, suc, ◌+◌, ◌*◌, ◌/◌, ◌%◌, ◌<◌, ◌≤◌, Bool, true, cond, ◌⊎◌, List, Option, Some, None, nat_lt, slice_index, slice_index_or}
 use Rattle.search.specs.Value.{row_entry}
+use Rattle.search.specs.declared.byte_rows.Places.{Places}
+use Rattle.search.specs.declared.byte_rows.Span.{Span}
 
 -- What value x of variable v adds to the index in pattern p; nothing beyond the last variable.
 unfoldable pub digit_adds : List ℕ → ℕ → ℕ → ℕ → ℕ → ℕ
@@ -22,16 +24,16 @@ block_sum places at (suc n) s = slice_index places (at + s % 256) + block_sum pl
 
 -- The blocks of `count` bytes from byte `first` on follow each other from `at` on, and no variable of another byte adds anything.
 pub record SpanAt (rows : List ℕ) (variables p : ℕ) (places : List ℕ) (first count at : ℕ) : Type 0 where
+  pub some : 1 ≤ count
   pub within : first + count ≤ 8
   pub room : at + 256 * count ≤ 4096
   pub below : (v x : ℕ) → v < 2 * first → x < 16 → digit_adds rows variables p v x ≡ 0
   pub above : (v x : ℕ) → 2 * (first + count) ≤ v → x < 16 → digit_adds rows variables p v x ≡ 0
   pub blocks : (j : ℕ) → j < count → BlockAt rows variables p (first + j) places (at + 256 * j)
 
--- For each pattern three numbers after the 16 blocks: first byte, count and place of its blocks. Count 0: it has no blocks.
-pub record BytesOf (rows : List ℕ) (patterns variables : ℕ) (places : List ℕ) : Type 0 where
-  pub span : (p : ℕ) → p < patterns → (slice_index places (4097 + 3 * p) ≢ 0) →
-      SpanAt rows variables p places (slice_index places (4096 + 3 * p)) (slice_index places (4097 + 3 * p)) (slice_index places (4098 + 3 * p))
+-- Every pattern that has blocks has them as its span says.
+pub record BytesOf (rows : List ℕ) (patterns variables : ℕ) (places : Places) : Type 0 where
+  pub span : (p : ℕ) → p < patterns → (w : Span) → slice_index_or places.spans p None ≡ Some w → SpanAt rows variables p places.sums w.first w.count w.at
 
 -- Rows that hold weights: a value adds so many times what value 1 adds.
 pub record Linear (rows : List ℕ) (patterns variables : ℕ) : Type 0 where
@@ -52,12 +54,9 @@ pub record SpanFilled (rows : List ℕ) (variables p first count : ℕ) (old new
   pub blocks : r ≡ true → (j : ℕ) → j < count → BlockAt rows variables p (first + j) new (at + 256 * j)
   pub kept : (i : ℕ) → (i < at) ⊎ (at + 256 * count ≤ i) → slice_index new i ≡ slice_index old i
 
--- Pattern p has its numbers, and blocks between `at` and `end` if it has any. What stands below `at` and the numbers of lower patterns
--- are as they were.
-pub record PatternPlaced (rows : List ℕ) (variables p : ℕ) (old new : List ℕ) (at end : ℕ) : Type 0 where
-  pub span : (slice_index new (4097 + 3 * p) ≢ 0) →
-      (SpanAt rows variables p new (slice_index new (4096 + 3 * p)) (slice_index new (4097 + 3 * p)) (slice_index new (4098 + 3 * p)) ×
-      (slice_index new (4098 + 3 * p) + 256 * slice_index new (4097 + 3 * p) ≤ end))
-  pub kept : (i : ℕ) → (i < at) ⊎ ((4096 ≤ i) × (i < 4096 + 3 * p)) → slice_index new i ≡ slice_index old i
+-- Pattern p has blocks between `at` and `end` if it has any. What stands below `at` is as it was.
+pub record PatternPlaced (rows : List ℕ) (variables p : ℕ) (old new : List ℕ) (at : ℕ) (r : Option Span) (end : ℕ) : Type 0 where
+  pub span : (w : Span) → r ≡ Some w → SpanAt rows variables p new w.first w.count w.at × (w.at + 256 * w.count ≤ end)
+  pub kept : (i : ℕ) → i < at → slice_index new i ≡ slice_index old i
   pub grows : at ≤ end
   pub room : end ≤ 4096

@@ -1,5 +1,5 @@
 -- The estimate of a packed state from rows: what each value of each variable adds to the index in each pattern's table. Assumes nothing.
-use Rattle.std.specs.Prelude.{◌≡◌, ℕ, zero, suc, ◌+◌, ◌-◌, ◌*◌, ◌/◌, ◌%◌, ◌<◌, cond, List, Option, Some, None, nat_le, nat_lt, slice_index, slice_index_or}
+use Rattle.std.specs.Prelude.{◌≡◌, ℕ, zero, suc, ◌+◌, ◌-◌, ◌*◌, ◌/◌, ◌%◌, ◌<◌, cond, List, nat_le, nat_lt, slice_index, slice_index_or}
 use Rattle.planning.specs.Extended.{ℕ∞, fin, inf, add∞, ◌≤?◌}
 use Rattle.planning.specs.Table.{cost_of}
 
@@ -36,8 +36,3 @@ module _ (rows offsets tables : List ℕ) where
 pub record Estimated (h : ℕ∞) (v : ℕ) : Type 0 where
   pub within : (d : ℕ) → d < 65535 → (h ≤? d) ≡ nat_le v d
   pub exact : v < 65535 → h ≡ fin v
-
--- The code's word for a value: an infinite one is none.
-unfoldable pub value_of : ℕ∞ → Option ℕ
-value_of (fin n) = Some n
-value_of inf = None

@@ -16,9 +16,7 @@ pub(crate) fn put(plan: &mut [u8], at: usize, b: u8)
 pub(crate) fn fill(plan: &mut [u8], from: usize, x: u8)
     ensures { plan.new ≡ filled from x plan.old }
 {
-    let mut i = from;
-    while i < plan.len() {
+    for i in from..plan.len() {
         plan[i] = x;
-        i += 1;
     }
 }

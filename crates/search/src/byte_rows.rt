@@ -8,6 +8,21 @@ ghost use Rattle.search.specs.ByteRows.{digit_adds, block_sum, BytesOf, Linear, 
 use crate::estimate::index_of;
 use crate::instance::Instance;
 
+// The blocks of a pattern: those of `count` bytes from number `first` on, which follow each other from `at` on.
+#[derive(Clone, Copy)]
+pub(crate) struct Span {
+    pub first: usize,
+    pub count: usize,
+    pub at: usize,
+}
+
+// Room for 16 blocks of 256 entries, and which of them each pattern has, if any.
+#[derive(Clone, Copy)]
+pub(crate) struct Places {
+    pub sums: [u16; 4096],
+    pub spans: [Option<Span>; 8],
+}
+
 fn lowest_byte(s: u64) -> usize
     ensures { (result ≡ s % 256) × (result < 256) }
 {
@@ -22,14 +37,14 @@ fn from_bit(s: u64, shift: usize) -> u64
 }
 
 // What the bytes of a word add, from blocks that follow each other.
-fn sum_blocks(places: &[u16; 4120], at: usize, count: usize, s: u64) -> usize
+fn sum_blocks(sums: &[u16; 4096], at: usize, count: usize, s: u64) -> usize
     requires { (count ≤ 8) × (at + 256 * count ≤ 4096) }
-    ensures { (result ≡ block_sum places.now at count s) × (result ≤ 65535 * 16) }
+    ensures { (result ≡ block_sum sums.now at count s) × (result ≤ 65535 * 16) }
 {
     let mut i = 0usize;
     let mut rest = s;
     for j in 0..count {
-        i = i + usize::from(places[at + 256 * j + lowest_byte(rest)]);
+        i = i + usize::from(sums[at + 256 * j + lowest_byte(rest)]);
         rest = rest / 256;
     }
     i
@@ -40,14 +55,13 @@ pub(crate) fn index_by_bytes(instance: &Instance, s: u64, p: usize) -> usize
     requires { p < instance.now.guide.patterns }
     ensures { (result ≡ packed_index instance.now.rows.now p 0 instance.now.guide.variables s) × (result ≤ 65535 * 16) }
 {
-    let places = instance.places;
-    let count = usize::from(places[4097 + 3 * p]);
-    if count == 0 {
-        return index_of(instance.rows, s, p, instance.guide.variables);
+    match instance.places.spans[p] {
+        None => index_of(instance.rows, s, p, instance.guide.variables),
+        Some(span) => {
+            let rest = from_bit(s, 8 * span.first);
+            sum_blocks(&instance.places.sums, span.at, span.count, rest)
+        }
     }
-    let first = usize::from(places[4096 + 3 * p]);
-    let at = usize::from(places[4098 + 3 * p]);
-    sum_blocks(places, at, count, from_bit(s, 8 * first))
 }
 
 // What value x of variable v adds; nothing beyond the last variable.
@@ -67,30 +81,28 @@ fn values_of(rows: &[u16; 2048], p: usize, variables: usize, v: usize) -> [u16; 
     ensures { (x : ℕ) → x < 16 → slice_index result x ≡ digit_adds rows.now variables p v x }
 {
     let mut r = [0u16; 16];
-    let mut x = 0usize;
-    while x < 16 {
+    for x in 0..16usize {
         r[x] = digit_adds(rows, p, variables, v, x);
-        x += 1;
     }
     r
 }
 
 // The entries of a block whose upper digit adds `high`.
-fn fill_sums(places: &mut [u16], at: usize, low: [u16; 16], high: u16)
-    requires { (length places.old ≡ 4120) × (at + 16 ≤ 4096) }
-    ensures { SumsFilled low high places.old places.new at }
+fn fill_sums(sums: &mut [u16], at: usize, low: [u16; 16], high: u16)
+    requires { (length sums.old ≡ 4096) × (at + 16 ≤ 4096) }
+    ensures { SumsFilled low high sums.old sums.new at }
 {
     for l in 0..16usize {
-        places[at + l] = std::num::wrapping_add_u16(low[l], high);
+        sums[at + l] = low[l].wrapping_add(high);
     }
 }
 
-fn fill_block(places: &mut [u16], at: usize, low: [u16; 16], high: [u16; 16])
-    requires { (length places.old ≡ 4120) × (at + 256 ≤ 4096) }
-    ensures { BlockFilled low high places.old places.new at }
+fn fill_block(sums: &mut [u16], at: usize, low: [u16; 16], high: [u16; 16])
+    requires { (length sums.old ≡ 4096) × (at + 256 ≤ 4096) }
+    ensures { BlockFilled low high sums.old sums.new at }
 {
     for h in 0..16usize {
-        fill_sums(places, at + 16 * h, low, high[h]);
+        fill_sums(sums, at + 16 * h, low, high[h]);
     }
 }
 
@@ -99,28 +111,24 @@ fn first_used(rows: &[u16; 2048], p: usize, variables: usize) -> usize
     requires { (p < 8) × (variables ≤ 16) }
     ensures { (result ≤ variables) × ((v : ℕ) → v < result → row_entry rows.now v 1 p ≡ 0) }
 {
-    let mut v = 0usize;
-    while v < variables {
+    for v in 0..variables {
         if rows[(16 * v + 1) * 8 + p] != 0 {
             return v;
         }
-        v += 1;
     }
-    v
+    variables
 }
 
 fn end_used(rows: &[u16; 2048], p: usize, variables: usize) -> usize
     requires { (p < 8) × (variables ≤ 16) }
     ensures { (result ≤ variables) × ((v : ℕ) → result ≤ v → v < variables → row_entry rows.now v 1 p ≡ 0) }
 {
-    let mut v = variables;
-    while v > 0 {
-        if rows[(16 * (v - 1) + 1) * 8 + p] != 0 {
-            return v;
+    for v in (0..variables).rev() {
+        if rows[(16 * v + 1) * 8 + p] > 0 {
+            return v + 1;
         }
-        v -= 1;
     }
-    v
+    0
 }
 
 // Whether the most that a byte adds is an entry.
@@ -136,15 +144,15 @@ fn is_entry(low: u16, high: u16) -> bool
 // The blocks of `count` bytes from number `first` on; false if an entry would be too large.
 fn fill_span(
     rows: &[u16; 2048],
-    places: &mut [u16],
+    sums: &mut [u16],
     p: usize,
     variables: usize,
     first: usize,
     count: usize,
     at: usize,
 ) -> bool
-    requires { (length places.old ≡ 4120) × (p < 8) × (variables ≤ 16) × (first + count ≤ 8) × (at + 256 * count ≤ 4096) × ((v x : ℕ) → v < variables → x < 16 → row_entry rows.now v x p ≡ x * row_entry rows.now v 1 p) }
-    ensures { SpanFilled rows.now variables p first count places.old places.new at result }
+    requires { (length sums.old ≡ 4096) × (p < 8) × (variables ≤ 16) × (first + count ≤ 8) × (at + 256 * count ≤ 4096) × ((v x : ℕ) → v < variables → x < 16 → row_entry rows.now v x p ≡ x * row_entry rows.now v 1 p) }
+    ensures { SpanFilled rows.now variables p first count sums.old sums.new at result }
 {
     for j in 0..count {
         let v = 2 * (first + j);
@@ -153,58 +161,51 @@ fn fill_span(
         if !is_entry(low[15], high[15]) {
             return false;
         }
-        fill_block(places, at + 256 * j, low, high);
+        fill_block(sums, at + 256 * j, low, high);
     }
     true
-}
-
-// The three numbers of pattern p.
-fn put_numbers(places: &mut [u16], p: usize, first: usize, count: usize, at: usize)
-    requires { (length places.old ≡ 4120) × (p < 8) × (first < 65536) × (count < 65536) × (at < 65536) }
-    ensures { places.new ≡ slice_set (slice_set (slice_set places.old (4096 + 3 * p) first) (4097 + 3 * p) count) (4098 + 3 * p) at }
-{
-    places[4096 + 3 * p] = first as u16;
-    places[4097 + 3 * p] = count as u16;
-    places[4098 + 3 * p] = at as u16;
 }
 
 // The blocks of pattern p from `at` on, if there is room for them, and where the next ones begin.
 fn place_pattern(
     rows: &[u16; 2048],
-    places: &mut [u16],
+    sums: &mut [u16],
     p: usize,
     variables: usize,
     at: usize,
-) -> usize
-    requires { (length places.old ≡ 4120) × (p < 8) × (variables ≤ 16) × (at ≤ 4096) × ((v x : ℕ) → v < variables → x < 16 → row_entry rows.now v x p ≡ x * row_entry rows.now v 1 p) }
-    ensures { PatternPlaced rows.now variables p places.old places.new at result }
+) -> (Option<Span>, usize)
+    requires { (length sums.old ≡ 4096) × (p < 8) × (variables ≤ 16) × (at ≤ 4096) × ((v x : ℕ) → v < variables → x < 16 → row_entry rows.now v x p ≡ x * row_entry rows.now v 1 p) }
+    ensures { PatternPlaced rows.now variables p sums.old sums.new at result.0 result.1 }
 {
     let first = first_used(rows, p, variables) / 2;
     let end = (end_used(rows, p, variables) + 1) / 2;
     if end <= first {
-        put_numbers(places, p, 0, 0, at);
-        return at;
+        return (None, at);
     }
     let count = end - first;
     if at + 256 * count > 4096 {
-        put_numbers(places, p, 0, 0, at);
-        return at;
+        return (None, at);
     }
-    if !fill_span(rows, places, p, variables, first, count, at) {
-        put_numbers(places, p, 0, 0, at);
-        return at;
+    if !fill_span(rows, sums, p, variables, first, count, at) {
+        return (None, at);
     }
-    put_numbers(places, p, first, count, at);
-    at + 256 * count
+    (Some(Span { first, count, at }), at + 256 * count)
 }
 
 // The blocks of every pattern.
-pub(crate) fn fill_places(rows: &[u16; 2048], patterns: usize, variables: usize, places: &mut [u16])
-    requires { (length places.old ≡ 4120) × (patterns ≤ 8) × (variables ≤ 16) × (Linear rows.now patterns variables) }
+pub(crate) fn fill_places(
+    rows: &[u16; 2048],
+    patterns: usize,
+    variables: usize,
+    places: &mut Places,
+)
+    requires { (patterns ≤ 8) × (variables ≤ 16) × (Linear rows.now patterns variables) }
     ensures { BytesOf rows.now patterns variables places.new }
 {
     let mut at = 0usize;
     for p in 0..patterns {
-        at = place_pattern(rows, places, p, variables, at);
+        let (span, end) = place_pattern(rows, &mut places.sums, p, variables, at);
+        places.spans[p] = span;
+        at = end;
     }
 }

@@ -5,7 +5,7 @@ ghost use Rattle.tables.specs.RecordTables.{tables_prepared};
 ghost use Rattle.search.specs.Answer.{answer_of, buffer_of};
 ghost use Rattle.search.specs.Entry.{Prepared, answer_within, search_answer, plan_after, search_numbers, search_by_lines};
 
-use crate::byte_rows::fill_places;
+use crate::byte_rows::{Places, fill_places};
 use crate::guide::guide_of;
 use crate::instance::Instance;
 use crate::rounds::{TooLong, run_rounds};
@@ -37,7 +37,10 @@ fn search_built(
     ensures answer { result ≡ answer_of (length plan.old) (answer_within budget rec.now) }
     ensures buffer { plan.new ≡ buffer_of (length plan.old) (answer_within budget rec.now) }
 {
-    let mut places = [0u16; 4120];
+    let mut places = Places {
+        sums: [0; 4096],
+        spans: [None; 8],
+    };
     let mut rows = [0u16; 2048];
     let mut offsets = [0u32; 8];
     fill_rows(rec, &mut rows, &mut offsets);

@@ -1,7 +1,8 @@
 // The estimate of a packed state from rows: its index in a pattern's table, the entry there, and its value.
 // Asks for at most 8 patterns and 16 variables; the tables may be any.
 ghost use Rattle.std.specs.Prelude.{◌≡◌, ◌+◌, ◌*◌, ◌%◌, ◌<◌, ◌≤◌, slice_index, slice_index_or};
-ghost use Rattle.search.specs.Value.{packed_index, value_of};
+ghost use Rattle.patterns.specs.Value.{value_of};
+ghost use Rattle.search.specs.Value.{packed_index};
 ghost use Rattle.search.specs.Packed.{guided_value};
 
 use crate::instance::Instance;

@@ -41,7 +41,7 @@ pub(crate) struct Visit {
 }
 
 // What is decided at once about a state of a value: with no depth left it is a goal or cut.
-pub(crate) fn open_state(instance: &Instance, v: Visit) -> Opening
+fn open_state(instance: &Instance, v: Visit) -> Opening
     requires { (v.d < 65535) × (Estimated (guided_value instance.now v.s) v.value) }
     ensures { result ≡ guided_opening instance.now v.d v.s v.count }
 {
@@ -69,14 +69,14 @@ fn number_of(m: usize) -> u8
 }
 
 // The lowest number in a set that is not empty, and the set without it.
-pub(crate) fn lowest(set: u64) -> usize
+fn lowest(set: u64) -> usize
     requires { set ≡ 0 → ⊥ }
     ensures { result ≡ count_trailing_zeros 64 set }
 {
     u64::trailing_zeros(set) as usize
 }
 
-pub(crate) fn without_lowest(set: u64) -> u64
+fn without_lowest(set: u64) -> u64
     requires { set ≡ 0 → ⊥ }
     ensures { (result ≡ bit_and set (set - 1)) × (result < set) }
 {
@@ -104,7 +104,7 @@ fn look(instance: &Instance, memory: &[Slot], v: Visit) -> Option<Ending>
 
 // Examines a state that opens: the actions that apply are tried by number, and the first that succeeds wins.
 #[cycle(examine_outcomes)]
-pub(crate) fn examine(instance: &Instance, memory: &mut [Slot], v: Visit) -> Ending
+fn examine(instance: &Instance, memory: &mut [Slot], v: Visit) -> Ending
     requires { Openable instance.now memory.old v.s v.value v.d v.count }
     ensures { Examines plan_size plan_head (guided_examination instance.now) instance.now.guide.budget (guided_examination instance.now v.d v.s v.count) v.count memory.new result }
 {
@@ -134,7 +134,7 @@ pub(crate) fn examine(instance: &Instance, memory: &mut [Slot], v: Visit) -> End
 // Examines the states after an action's outcomes, in order, up to the first that does not succeed, with the depth that the action leaves. Only a
 // state that opens is a call: most do not. The endings are taken apart in each arm, since a joined one would go through memory.
 #[cycle(examine_outcomes)]
-pub(crate) fn outcomes(instance: &Instance, memory: &mut [Slot], m: usize, v: Visit) -> Ending
+fn outcomes(instance: &Instance, memory: &mut [Slot], m: usize, v: Visit) -> Ending
     requires { (Examinable instance.now memory.old v.s v.value v.d v.count) × (m < instance.now.guide.actions) × (v.value < 256) }
     ensures { Examines plans_size plans_head (guided_examination instance.now) instance.now.guide.budget (guided_outcomes instance.now v.d v.s m v.count) v.count memory.new result }
 {

@@ -2,13 +2,14 @@
 // tables. That the arrays are those of one task is known of every instance.
 ghost use Rattle.search.specs.Examination.{Guided};
 
+use crate::byte_rows::Places;
 use crate::guide::Guide;
 
 #[derive(Clone, Copy)]
 pub(crate) struct Instance<'a> {
     pub task: &'a [u64; 1282],
     pub sets: &'a [u64; 2048],
-    pub places: &'a [u16; 4120],
+    pub places: &'a Places,
     pub rows: &'a [u16; 2048],
     pub guide: Guide,
     pub tables: &'a [u16],

@@ -29,9 +29,7 @@ fn mask_in(cells: &[u8]) -> u64
     ensures { result ≡ pack_by picking cells.now }
 {
     let mut mask = 0u64;
-    let mut v = cells.len();
-    while v > 0 {
-        v -= 1;
+    for v in (0..cells.len()).rev() {
         mask = mask * 16 + picked(cells[v]);
     }
     mask

@@ -8,7 +8,8 @@ ghost use Rattle.planning.specs.Plan.{Plan, encode};
 ghost use Rattle.planning.specs.Search.{succeeded};
 ghost use Rattle.search.specs.Buffer.{Holds};
 ghost use Rattle.search.specs.Examination.{plan_size};
-ghost use Rattle.search.specs.Value.{Estimated, value_of};
+ghost use Rattle.patterns.specs.Value.{value_of};
+ghost use Rattle.search.specs.Value.{Estimated};
 ghost use Rattle.search.specs.Packed.{guided_examination};
 ghost use Rattle.search.specs.Written.{Names, Succeeding, Starts, Writable, Writes};
 

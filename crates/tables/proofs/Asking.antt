@@ -4,7 +4,7 @@ use native.Mathlib.Decide.{ℕ_discrete, dec_lt}
 use lib.Bits.{bit_and, and_zero_r}
 use lib.ListN.{get_or-eq_default}
 use Rattle.tables.specs.Packed.{outcome_count, action_weight}
-use Rattle.tables.specs.Steps.{Space, weigh, after, worst, raised, outcome_entry, offer, offer_at, permitted_at, none, more}
+use Rattle.tables.specs.Steps.{Space, weigh, worst, raised, outcome_entry, offer, offer_at, permitted_at, none, more}
 use Rattle.tables.specs.Waiting.{index_after, Waits, Heard, low, later}
 use Rattle.tables.specs.Queue.{Queue, Put}
 use Rattle.tables.specs.Edges.{edge_action, edge_weight, edge_lanes, edge_free, edge_first, edge_end, lane_weight, lane_sum, lane_after, way_back, Before, EdgesOf}

@@ -23,6 +23,7 @@ pub mod Law
 pub mod Visiting
 pub mod Asking
 pub mod Walks
+pub mod Graphs
 pub mod Ring
 pub mod Starting
 pub mod Making

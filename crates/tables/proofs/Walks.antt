@@ -132,9 +132,6 @@ module _ (x : Space) (v free i : ℕ) where
   free_none : (free ≡ 0) ⊎ (length x.weights ≤ v) → of_free ≡ 0
   free_none = ⊎_elim (weigh_apart (drop v x.weights) rest free) (weigh-over x.weights v (bit_and rest free))
 
-  free_skip : free % 16 ≡ 0 → of_free ≡ of_next
-  free_skip e = free_step ∙ rw (e, and_zero_r (rest % 16)) (omega arith)
-
   abbrev pub choice : ℕ
   choice = bit_and (rest % 16) (free % 16)
 
@@ -144,9 +141,6 @@ module _ (x : Space) (v free i : ℕ) where
 module _ {x : Space} {es : List ℕ} {e j v free at : ℕ} {t marks new q d : List ℕ} {h c k : ℕ} where
   pub freed_none : (free ≡ 0) ⊎ (length x.weights ≤ v) → Laned x es e j at t marks c new q d h k → Freed x es e j v free at t marks c new q d h k
   freed_none n a = record { going = a.going; heard = λ i b f g l m r. let z = free_none x v free i n in a.heard i b f g l m (omega (arith, r, z)) }
-
-  pub freed_skip : free % 16 ≡ 0 → Freed x es e j (v + 1) (free / 16) at t marks c new q d h k → Freed x es e j v free at t marks c new q d h k
-  freed_skip n a = record { going = a.going; heard = λ i b f g l m r. let z = free_skip x v free i n in a.heard i b f g l m (omega (arith, r, z)) }
 
 -- The values of digit v below z were gone through.
 pub record Choosing (x : Space) (es : List ℕ) (e j v free at z : ℕ) (t marks : List ℕ) (c : ℕ) (new q₁ marks₁ : List ℕ) (h d : ℕ) : Type 0 where
@@ -169,7 +163,7 @@ module _ {x : Space} {es : List ℕ} {e j v free at z : ℕ} {t marks u p b : Li
       either i b₁ f g m n l r (no o) = let n₁ : choice x v free i ≡ z = omega arith in
           let r₁ = rw n₁ at (free_step x v free i) in a.heard i b₁ f g m n (omega (arith, r, s, r₁))
 
-  pub choosing_end : (sizes : List ℕ) → (free % 16 ≡ 0 → ⊥) → Choices x.states sizes (length t) v free → ((d : ℕ) → d < 16 → d < get_or sizes v 0 → d < z) → Freed x es e j v free at t marks c u p b h k
+  choosing_end : (sizes : List ℕ) → (free % 16 ≡ 0 → ⊥) → Choices x.states sizes (length t) v free → ((d : ℕ) → d < 16 → d < get_or sizes v 0 → d < z) → Freed x es e j v free at t marks c u p b h k
   choosing_end sizes f o g = record { going = w.going; heard = λ i b₁ f₁ g₁ m n r. w.heard i b₁ f₁ g₁ m n (g (choice x v free i) (small i) (below i (omega (arith, w.going.moved.long, b₁)))) r }
     where
       small : (i : ℕ) → choice x v free i < 16
@@ -178,6 +172,17 @@ module _ {x : Space} {es : List ℕ} {e j v free at z : ℕ} {t marks u p b : Li
       below : (i : ℕ) → i < length t → choice x v free i < get_or sizes v 0
       below i l = let z₁ : v + 0 ≡ v = omega arith in let y : free / 16 ^ 0 ≡ free = omega arith in
           let d : rest x v free i % 16 < get_or sizes v 0 = rw z₁ at (o.bound 0 i l (λ q. f (sym (ap (λ y. y % 16) y) ∙ q))) in omega (arith, d, choice_low x v free i)
+
+  -- A digit that is not free has the value 0.
+  choosing_skip : free % 16 ≡ 0 → 1 ≤ z → Freed x es e j v free at t marks c u p b h k
+  choosing_skip f g = record { going = w.going; heard = λ i b₁ f₁ g₁ m n r. let y : choice x v free i ≡ 0 = rw f (and_zero_r (rest x v free i % 16)) in w.heard i b₁ f₁ g₁ m n (omega (arith, y, g)) r }
+
+  pub choosing_over : (sizes : List ℕ) → (free % 16 ≡ 0 → 1 ≤ z) → (1 ≤ free % 16 → (d : ℕ) → d < 16 → d < get_or sizes v 0 → d < z) → Choices x.states sizes (length t) v free → Freed x es e j v free at t marks c u p b h k
+  choosing_over sizes f g o = either (ℕ_discrete (free % 16) 0)
+    where
+      either : Dec (free % 16 ≡ 0) → Freed x es e j v free at t marks c u p b h k
+      either (yes q) = choosing_skip q (f q)
+      either (no q) = choosing_end sizes q o (g (omega (arith, q)))
 
 -- One edge.
 module _ {x : Space} {ts es : List ℕ} {e j at : ℕ} {t marks new q d : List ℕ} {h c k : ℕ} (a : at ≡ way_back es e j) where

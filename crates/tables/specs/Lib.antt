@@ -13,6 +13,8 @@ pub mod Edges
 pub mod Incoming
 pub mod Made
 pub mod Visits
+pub mod Patterned
+pub mod Graph
 pub mod Builder
 pub mod Built
 pub mod Compiling

@@ -23,6 +23,7 @@ fn number_of(piece: &[u8]) -> usize {
 }
 
 // The numbers of a list.
+// Stays: with no heap they stand in an array, with their count.
 #[derive(Drop)]
 pub(crate) struct Numbers {
     cells: [usize; 64],

@@ -1,10 +1,8 @@
 // The table of one pattern. Arrays are cleared, which is most of what a small table costs: there are several sizes of them.
-ghost use Rattle.std.specs.Prelude.{◌≡◌, ◌*◌, ◌/◌, ◌<◌, ◌≤◌, not, length, take, slice_index};
+ghost use Rattle.std.specs.Prelude.{◌≡◌, ◌*◌, ◌/◌, ◌≤◌, length, take};
 ghost use Rattle.planning.specs.Table.{state_count};
 ghost use Rattle.tables.specs.Packed.{pack_by, picking};
-ghost use Rattle.tables.specs.Sets.{set_from};
-ghost use Rattle.tables.specs.Steps.{idles, Readable, Sized};
-ghost use Rattle.tables.specs.Queue.{Queue};
+ghost use Rattle.tables.specs.Steps.{Readable, Sized};
 ghost use Rattle.tables.specs.Edges.{outcomes_from, Walkable};
 ghost use Rattle.tables.specs.Incoming.{SetsRoom};
 ghost use Rattle.tables.specs.Built.{Built};
@@ -15,266 +13,99 @@ use crate::proved_worklist::parts::parts_of;
 use crate::proved_worklist::worklist::settle;
 use crate::ranking::{fill_states, weights_of};
 use crate::sweep::{lively, start};
+use std::marker::Model;
 
-// The table, with room for so many edges in the arrays that are lent.
-fn build_within(
-    task: &[u64; 1282],
+// A pattern of a compiled task: its mask, and the actions that leave no state of it as it is.
+#[derive(Drop)]
+struct Pattern<'a> {
+    task: &'a [u64; 1282],
     actions: usize,
     n: usize,
     sizes: [u8; 16],
-    pattern: [u8; 16],
+    picked: [u8; 16],
     mask: u64,
     live: u64,
-    room: usize,
-    states: &mut [u64],
-    tests: &mut [u64],
-    edges: &mut [u64],
-    sets: &mut [u64],
-    queue: &mut [u16],
-    marks: &mut [u8],
+}
+
+impl<'a> Model for Pattern<'a> {
+    ghost use Rattle.tables.specs.Patterned.{Patterned, Buildable};
+
+    ghost Value = { Patterned };
+
+    ghost view = { λ p. record { task = p.task.now; actions = p.actions; variables = p.n; sizes = p.sizes; picked = p.picked; mask = p.mask; live = p.live } };
+
+    ghost invariant = { λ p. Buildable (record { task = p.task.now; actions = p.actions; variables = p.n; sizes = p.sizes; picked = p.picked; mask = p.mask; live = p.live }) };
+}
+
+// The table, with room for so many states, twice as many tests as edges, and so many sets; with no room for sets the edges are tested one by one.
+fn build_within<const STATES: usize, const TESTS: usize, const EDGES: usize, const SETS: usize>(
+    pattern: &Pattern,
     entries: &mut [u16],
 )
-    requires { (Readable task.now actions) × (Walkable task.now mask actions n sizes pattern) × (Sized sizes pattern n) × (mask ≡ pack_by picking pattern) × (live ≡ set_from (λ m. not (idles task.now mask m)) 0 actions) × (length entries.old ≡ state_count (take n sizes) pattern) × (length entries.old ≤ length states.old) × (slice_index states.old 0 ≡ 0) × (2 * room ≤ length tests.old) × (4 * room ≤ length edges.old) × (outcomes_from task.now mask 0 actions ≤ room) × (room ≤ 512) × (Queue (length entries.old) queue.old marks.old 0 0) × (length queue.old ≤ 4096) × (SetsRoom (length entries.old) room (length sets.old)) }
-    ensures { Built task.now actions n sizes pattern entries.new }
+    requires { (length entries.old ≡ state_count (take pattern.now.variables pattern.now.sizes) pattern.now.picked) × (length entries.old ≤ STATES) × (1 ≤ STATES) × (STATES ≤ 4096) × (outcomes_from pattern.now.task pattern.now.mask 0 pattern.now.actions ≤ TESTS / 2) × (TESTS ≤ 1024) × (4 * (TESTS / 2) ≤ EDGES) × (EDGES ≤ 2048) × (SetsRoom (length entries.old) (TESTS / 2) SETS) × (SETS ≤ 8704) }
+    ensures { Built pattern.now.task pattern.now.actions pattern.now.variables pattern.now.sizes pattern.now.picked entries.new }
 {
-    fill_states(sizes, pattern, n, states);
-    let weights = weights_of(sizes, pattern, n);
-    let parts = parts_of(sizes, pattern, n, mask);
-    settle(
-        task,
-        mask,
+    let mut states = [0u64; STATES];
+    let mut tests = [0u64; TESTS];
+    let mut edges = [0u64; EDGES];
+    let mut sets = [0u64; SETS];
+    fill_states(pattern.sizes, pattern.picked, pattern.n, &mut states);
+    let weights = weights_of(pattern.sizes, pattern.picked, pattern.n);
+    let parts = parts_of(pattern.sizes, pattern.picked, pattern.n, pattern.mask);
+    settle::<STATES>(
+        pattern.task,
+        pattern.mask,
         &weights,
-        states,
-        actions,
-        sizes,
-        live,
+        &states,
+        pattern.actions,
+        pattern.sizes,
+        pattern.live,
         parts.low,
         parts.lower,
-        room,
-        tests,
-        edges,
-        sets,
-        queue,
-        marks,
+        TESTS / 2,
+        &mut tests,
+        &mut edges,
+        &mut sets,
         entries,
     );
 }
 
 // Where every action may leave each state as it is, only the goals count.
-fn build_goals(
-    task: &[u64; 1282],
-    actions: usize,
-    n: usize,
-    sizes: [u8; 16],
-    pattern: [u8; 16],
-    mask: u64,
-    live: u64,
-    entries: &mut [u16],
-)
-    requires { (Readable task.now actions) × (Sized sizes pattern n) × (mask ≡ pack_by picking pattern) × (live ≡ set_from (λ m. not (idles task.now mask m)) 0 actions) × (live ≡ 0) × (length entries.old ≡ state_count (take n sizes) pattern) }
-    ensures { Built task.now actions n sizes pattern entries.new }
+fn build_goals(pattern: &Pattern, entries: &mut [u16])
+    requires { (pattern.now.live ≡ 0) × (length entries.old ≡ state_count (take pattern.now.variables pattern.now.sizes) pattern.now.picked) }
+    ensures { Built pattern.now.task pattern.now.actions pattern.now.variables pattern.now.sizes pattern.now.picked entries.new }
 {
-    let mut states = [0u64; 4096];
-    fill_states(sizes, pattern, n, &mut states);
-    start(task, mask, &states, entries);
-}
-
-// At most 32 states and 64 edges, which are tested one by one: the index is not split.
-fn build_tiny(
-    task: &[u64; 1282],
-    actions: usize,
-    n: usize,
-    sizes: [u8; 16],
-    pattern: [u8; 16],
-    mask: u64,
-    live: u64,
-    entries: &mut [u16],
-)
-    requires { (Readable task.now actions) × (Walkable task.now mask actions n sizes pattern) × (Sized sizes pattern n) × (mask ≡ pack_by picking pattern) × (live ≡ set_from (λ m. not (idles task.now mask m)) 0 actions) × (length entries.old ≡ state_count (take n sizes) pattern) × (outcomes_from task.now mask 0 actions ≤ 64) × (length entries.old ≤ 32) }
-    ensures { Built task.now actions n sizes pattern entries.new }
-{
-    let mut states = [0u64; 32];
-    let mut tests = [0u64; 128];
-    let mut edges = [0u64; 256];
-    let mut sets = [0u64; 0];
-    let mut queue = [0u16; 32];
-    let mut marks = [0u8; 32];
-    fill_states(sizes, pattern, n, &mut states);
-    let weights = weights_of(sizes, pattern, n);
-    settle(
-        task, mask, &weights, &states, actions, sizes, live, 0, 1, 64, &mut tests, &mut edges,
-        &mut sets, &mut queue, &mut marks, entries,
-    );
-}
-
-// At most 1,024 states and 128 edges.
-fn build_medium(
-    task: &[u64; 1282],
-    actions: usize,
-    n: usize,
-    sizes: [u8; 16],
-    pattern: [u8; 16],
-    mask: u64,
-    live: u64,
-    entries: &mut [u16],
-)
-    requires { (Readable task.now actions) × (Walkable task.now mask actions n sizes pattern) × (Sized sizes pattern n) × (mask ≡ pack_by picking pattern) × (live ≡ set_from (λ m. not (idles task.now mask m)) 0 actions) × (length entries.old ≡ state_count (take n sizes) pattern) × (outcomes_from task.now mask 0 actions ≤ 128) × (length entries.old ≤ 1024) }
-    ensures { Built task.now actions n sizes pattern entries.new }
-{
-    let mut states = [0u64; 1024];
-    let mut tests = [0u64; 256];
-    let mut edges = [0u64; 512];
-    let mut sets = [0u64; 2176];
-    let mut queue = [0u16; 1024];
-    let mut marks = [0u8; 1024];
-    build_within(
-        task,
-        actions,
-        n,
-        sizes,
-        pattern,
-        mask,
-        live,
-        128,
-        &mut states,
-        &mut tests,
-        &mut edges,
-        &mut sets,
-        &mut queue,
-        &mut marks,
-        entries,
-    );
-}
-
-// At most 4,096 states and 128 edges.
-fn build_wide(
-    task: &[u64; 1282],
-    actions: usize,
-    n: usize,
-    sizes: [u8; 16],
-    pattern: [u8; 16],
-    mask: u64,
-    live: u64,
-    entries: &mut [u16],
-)
-    requires { (Readable task.now actions) × (Walkable task.now mask actions n sizes pattern) × (Sized sizes pattern n) × (mask ≡ pack_by picking pattern) × (live ≡ set_from (λ m. not (idles task.now mask m)) 0 actions) × (length entries.old ≡ state_count (take n sizes) pattern) × (outcomes_from task.now mask 0 actions ≤ 128) }
-    ensures { Built task.now actions n sizes pattern entries.new }
-{
-    let mut states = [0u64; 4096];
-    let mut tests = [0u64; 256];
-    let mut edges = [0u64; 512];
-    let mut sets = [0u64; 2176];
-    let mut queue = [0u16; 4096];
-    let mut marks = [0u8; 4096];
-    build_within(
-        task,
-        actions,
-        n,
-        sizes,
-        pattern,
-        mask,
-        live,
-        128,
-        &mut states,
-        &mut tests,
-        &mut edges,
-        &mut sets,
-        &mut queue,
-        &mut marks,
-        entries,
-    );
-}
-
-// At most 4,096 states and 512 edges.
-fn build_large(
-    task: &[u64; 1282],
-    actions: usize,
-    n: usize,
-    sizes: [u8; 16],
-    pattern: [u8; 16],
-    mask: u64,
-    live: u64,
-    entries: &mut [u16],
-)
-    requires { (Readable task.now actions) × (Walkable task.now mask actions n sizes pattern) × (Sized sizes pattern n) × (mask ≡ pack_by picking pattern) × (live ≡ set_from (λ m. not (idles task.now mask m)) 0 actions) × (length entries.old ≡ state_count (take n sizes) pattern) × (outcomes_from task.now mask 0 actions ≤ 512) }
-    ensures { Built task.now actions n sizes pattern entries.new }
-{
-    let mut states = [0u64; 4096];
-    let mut tests = [0u64; 1024];
-    let mut edges = [0u64; 2048];
-    let mut sets = [0u64; 8704];
-    let mut queue = [0u16; 4096];
-    let mut marks = [0u8; 4096];
-    build_within(
-        task,
-        actions,
-        n,
-        sizes,
-        pattern,
-        mask,
-        live,
-        512,
-        &mut states,
-        &mut tests,
-        &mut edges,
-        &mut sets,
-        &mut queue,
-        &mut marks,
-        entries,
-    );
+    let mut words = [0u64; 4096];
+    fill_states(pattern.sizes, pattern.picked, pattern.n, &mut words);
+    start(pattern.task, pattern.mask, &words, entries);
 }
 
 // The table, with arrays of the least size that will do, from size number `size` on. It calls itself for a larger size: a function makes room for
 // all its arrays where it begins, those of functions compiled into it among them, and one with a large array is not compiled into one that calls
 // itself. So a small table touches no page of the large arrays.
-fn build_sized(
-    task: &[u64; 1282],
-    actions: usize,
-    n: usize,
-    sizes: [u8; 16],
-    pattern: [u8; 16],
-    mask: u64,
-    live: u64,
-    edges: usize,
-    size: usize,
-    entries: &mut [u16],
-)
-    requires { (Readable task.now actions) × (Walkable task.now mask actions n sizes pattern) × (Sized sizes pattern n) × (mask ≡ pack_by picking pattern) × (live ≡ set_from (λ m. not (idles task.now mask m)) 0 actions) × (length entries.old ≡ state_count (take n sizes) pattern) × (outcomes_from task.now mask 0 actions ≤ edges) × (edges ≤ 512) }
-    ensures { Built task.now actions n sizes pattern entries.new }
+fn build_sized(pattern: &Pattern, edges: usize, size: usize, entries: &mut [u16])
+    requires { (length entries.old ≡ state_count (take pattern.now.variables pattern.now.sizes) pattern.now.picked) × (outcomes_from pattern.now.task pattern.now.mask 0 pattern.now.actions ≤ edges) × (edges ≤ 512) }
+    ensures { Built pattern.now.task pattern.now.actions pattern.now.variables pattern.now.sizes pattern.now.picked entries.new }
 {
-    if live == 0 {
-        build_goals(task, actions, n, sizes, pattern, mask, live, entries);
-        return;
+    if pattern.live == 0 {
+        return build_goals(pattern, entries);
     }
     if size == 0 {
-        if entries.len() <= 32 {
-            if edges <= 64 {
-                build_tiny(task, actions, n, sizes, pattern, mask, live, entries);
-                return;
-            }
+        if entries.len() <= 32 && edges <= 64 {
+            return build_within::<32, 128, 256, 0>(pattern, entries);
         }
-        build_sized(
-            task, actions, n, sizes, pattern, mask, live, edges, 1, entries,
-        );
-        return;
+        return build_sized(pattern, edges, 1, entries);
     }
     if size == 1 {
-        if entries.len() <= 1024 {
-            if edges <= 128 {
-                build_medium(task, actions, n, sizes, pattern, mask, live, entries);
-                return;
-            }
+        if entries.len() <= 1024 && edges <= 128 {
+            return build_within::<1024, 256, 512, 2176>(pattern, entries);
         }
-        build_sized(
-            task, actions, n, sizes, pattern, mask, live, edges, 2, entries,
-        );
-        return;
+        return build_sized(pattern, edges, 2, entries);
     }
     if edges <= 128 {
-        build_wide(task, actions, n, sizes, pattern, mask, live, entries);
-        return;
+        return build_within::<4096, 256, 512, 2176>(pattern, entries);
     }
-    build_large(task, actions, n, sizes, pattern, mask, live, entries);
+    build_within::<4096, 1024, 2048, 8704>(pattern, entries)
 }
 
 // Fills `entries` with the table of the pattern.
@@ -292,7 +123,14 @@ pub(crate) fn build_table(
     let mask = pack(PICKING, &pattern);
     let live = lively(task, mask, actions);
     let edges = edge_count(task, mask, actions, live);
-    build_sized(
-        task, actions, n, sizes, pattern, mask, live, edges, 0, entries,
-    );
+    let known = Pattern {
+        task,
+        actions,
+        n,
+        sizes,
+        picked: pattern,
+        mask,
+        live,
+    };
+    build_sized(&known, edges, 0, entries);
 }

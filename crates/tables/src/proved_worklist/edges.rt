@@ -1,6 +1,6 @@
 // The edges of a pattern's abstraction: for each outcome of an action the test of a state after it, two words, and the way back to the states
 // before it, four words (specs/Edges has their layout). Outcomes of one action that do the same within the pattern share an edge.
-ghost use Rattle.std.specs.Prelude.{◌≡◌, ℕ, ◌+◌, ◌*◌, ◌<◌, ◌≤◌, min, true, not, length, bit_and};
+ghost use Rattle.std.specs.Prelude.{◌≡◌, ℕ, ◌+◌, ◌*◌, ◌<◌, ◌≤◌, true, not, length, bit_and};
 ghost use Rattle.tables.specs.Packed.{outcome_count, keep_mask, set_value};
 ghost use Rattle.tables.specs.Sets.{set_from};
 ghost use Rattle.tables.specs.Steps.{space, idles, Readable};
@@ -8,20 +8,45 @@ ghost use Rattle.tables.specs.Edges.{outcomes_from, EdgesOf, Regular};
 ghost use Rattle.tables.specs.Incoming.{Tests};
 ghost use Rattle.tables.specs.Made.{LaneOf, back_of, Untouched, EdgePut, Spanned, ActionPut};
 
-use crate::sweep::{index_of, wide};
+use crate::sweep::index_of;
+use std::marker::Model;
+
+// The abstract states of a pattern with the edges between them: what the build works on, the tests and words of the edges, and for each state the
+// edges that lead into it, by the lower and the upper part of its index.
+#[derive(Drop)]
+pub(crate) struct Graph<'a> {
+    pub(crate) task: &'a [u64; 1282],
+    pub(crate) mask: u64,
+    pub(crate) weights: &'a [u16; 16],
+    pub(crate) states: &'a [u64],
+    pub(crate) actions: usize,
+    pub(crate) sizes: [u8; 16],
+    pub(crate) n: usize,
+    pub(crate) tests: &'a [u64],
+    pub(crate) edges: &'a [u64],
+    pub(crate) k: usize,
+    pub(crate) sets: &'a [u64],
+    pub(crate) lower: usize,
+    pub(crate) upper: usize,
+    pub(crate) inverse: usize,
+}
+
+impl<'a> Model for Graph<'a> {
+    ghost use Rattle.tables.specs.Steps.{space};
+    ghost use Rattle.tables.specs.Graph.{Graphed, Walked};
+
+    ghost Value = { Graphed };
+
+    ghost view = { λ g. record { space = space g.task.now g.mask g.weights.now g.states.now g.actions; sizes = g.sizes; number = g.n; tests = g.tests.now; edges = g.edges.now; edge_number = g.k; sets = g.sets.now; lower = g.lower; upper = g.upper; inverse = g.inverse } };
+
+    ghost invariant = { λ g. Walked (record { space = space g.task.now g.mask g.weights.now g.states.now g.actions; sizes = g.sizes; number = g.n; tests = g.tests.now; edges = g.edges.now; edge_number = g.k; sets = g.sets.now; lower = g.lower; upper = g.upper; inverse = g.inverse }) };
+}
 
 // A free digit as a lane, and the free digits without it.
 #[derive(Clone, Copy)]
 struct Lane {
     lane: u64,
     rest: u64,
-}
-
-// How many values a digit has.
-fn count_of(size: u8) -> u64
-    ensures { (result ≡ size) × (result < 256) }
-{
-    size as u64
 }
 
 // A lane of the lowest free digit: its weight, its place in a word and its number of values. Where there is none it has one value, and adds nothing.
@@ -36,7 +61,7 @@ fn lane_of(weights: &[u16; 16], sizes: [u8; 16], free: u64) -> Lane
             rest: free,
         };
     }
-    let lane = wide(weights[u]) as u64 + 65536 * (4 * u) as u64 + 16777216 * count_of(sizes[u]);
+    let lane = u64::from(weights[u]) + 65536 * (4 * u) as u64 + 16777216 * u64::from(sizes[u]);
     Lane {
         lane: lane,
         rest: free - 15 * place,
@@ -48,24 +73,12 @@ fn is_twin(task: &[u64; 1282], mask: u64, m: usize, o: usize, kept: u64, sets: u
     requires { (m < 64) × (o ≤ 8) }
     ensures { result ≡ true → (p : ℕ) × (p < o) × (bit_and (keep_mask task.now m p) mask ≡ kept) × (bit_and (set_value task.now m p) mask ≡ sets) }
 {
-    let mut p = 0usize;
-    while p < o {
+    for p in 0..o {
         if task[20 * m + 4 + 2 * p] & mask == kept && task[20 * m + 5 + 2 * p] & mask == sets {
             return true;
         }
-        p += 1;
     }
     false
-}
-
-// A weight in 16 bits: 65,535 and more make every sum infinite.
-fn cut(w: u64) -> u64
-    ensures { result ≡ min w 65535 }
-{
-    if w < 65535 {
-        return w;
-    }
-    65535
 }
 
 // How the index changes on the way back, modulo 65,536.
@@ -101,7 +114,7 @@ fn put_edge(
     let back = way_back(index_of(weights, value & names), index_of(weights, sets));
     let one = lane_of(weights, sizes, names - (need & names));
     let two = lane_of(weights, sizes, one.rest);
-    let weight = cut(task[20 * m + 3]);
+    let weight = task[20 * m + 3].min(65535);
     tests[2 * e] = names | (need & kept);
     tests[2 * e + 1] = sets | (value & kept);
     edges[4 * e] = back + 65536 * weight + 4294967296 * m as u64;
@@ -116,10 +129,8 @@ fn put_span(edges: &mut [u64], first: usize, end: usize)
     ensures { Spanned edges.old edges.new first end (first + 1024 * end) }
 {
     let word = (first + 1024 * end) as u64;
-    let mut e = first;
-    while e < end {
+    for e in first..end {
         edges[4 * e + 3] = word;
-        e += 1;
     }
 }
 
@@ -139,10 +150,8 @@ fn put_action(
 {
     let n = task[20 * m + 2] as usize;
     let mut e = first;
-    let mut o = 0usize;
-    while o < n {
+    for o in 0..n {
         e = put_edge(task, mask, weights, sizes, tests, edges, m, o, e);
-        o += 1;
     }
     put_span(edges, first, e);
     e
@@ -170,7 +179,7 @@ pub(crate) fn make_edges(
     while rest != 0 {
         let m = u64::trailing_zeros(rest) as usize;
         c = put_action(task, mask, weights, sizes, tests, edges, c, m);
-        rest = rest & (rest - 1);
+        rest &= rest - 1;
     }
     c
 }
@@ -184,8 +193,8 @@ pub(crate) fn edge_count(task: &[u64; 1282], mask: u64, actions: usize, live: u6
     let mut rest = live;
     while rest != 0 {
         let m = u64::trailing_zeros(rest) as usize;
-        c = c + task[20 * m + 2] as usize;
-        rest = rest & (rest - 1);
+        c += task[20 * m + 2] as usize;
+        rest &= rest - 1;
     }
     c
 }

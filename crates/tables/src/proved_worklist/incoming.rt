@@ -6,6 +6,7 @@ ghost use Rattle.tables.specs.Sets.{set_from, SlotsOf};
 ghost use Rattle.tables.specs.Incoming.{Row, Tests, Parted, Incoming, edge_need, digits_meet, PartFilled, EdgeRow};
 
 use crate::applying::enter;
+use crate::proved_worklist::edges::Graph;
 use crate::sweep::joined;
 
 // Enters the edges from `first` on, `count` of them, in the slots of what their tests ask of each digit, and
@@ -32,8 +33,7 @@ fn meet_digits(slots: &[u64; 272], all: u64, part: u64, word: u64) -> u64
     let mut set = all;
     let mut rest = part;
     let mut w = word;
-    let mut v = 0usize;
-    while v < 16 {
+    for v in 0..16 {
         if rest == 0 {
             return set;
         }
@@ -42,7 +42,6 @@ fn meet_digits(slots: &[u64; 272], all: u64, part: u64, word: u64) -> u64
         }
         rest = rest / 16;
         w = w / 16;
-        v += 1;
     }
     set
 }
@@ -61,22 +60,11 @@ fn fill_part(
     requires { (1 ≤ step) × (n * step ≤ length states.now) × (base + n ≤ length sets.old) }
     ensures { PartFilled states.now slots.now sets.old sets.new all part step n base }
 {
-    let mut h = 0usize;
     let mut at = 0usize;
-    while h < n {
+    for h in 0..n {
         sets[base + h] = meet_digits(slots, all, part, states[at]);
         at += step;
-        h += 1;
     }
-}
-
-fn at_most_64(x: usize) -> usize
-    ensures { result ≡ min 64 x }
-{
-    if x < 64 {
-        return x;
-    }
-    64
 }
 
 // The row of the edges from `first` on, `count` of them.
@@ -125,7 +113,7 @@ pub(crate) fn fill_sets(
     let mut c = 0usize;
     let mut base = 0usize;
     while 64 * c < k {
-        let count = at_most_64(k - 64 * c);
+        let count = (k - 64 * c).min(64);
         fill_row(
             states,
             tests,
@@ -148,7 +136,7 @@ fn tested(tests: &[u64], word: u64, k: usize, c: usize) -> u64
     requires { (Tests tests.now k) × (64 * c < k) }
     ensures { Row tests.now word k c result }
 {
-    let count = at_most_64(k - 64 * c);
+    let count = (k - 64 * c).min(64);
     let mut set = 0u64;
     let mut bit = 1u64;
     for q in 0..count {
@@ -175,24 +163,15 @@ pub(crate) fn upper_part(j: usize, lower: usize, inverse: usize) -> usize
 }
 
 // The edges of row c that may lead into state j, whose upper part is h.
-pub(crate) fn edges_into(
-    states: &[u64],
-    tests: &[u64],
-    n: usize,
-    k: usize,
-    lower: usize,
-    upper: usize,
-    sets: &[u64],
-    j: usize,
-    h: usize,
-    c: usize,
-) -> u64
-    requires { (Tests tests.now k) × (Incoming states.now tests.now n k lower upper sets.now) × (j < n) × (n ≤ length states.now) × (n ≤ 4096) × (lower ≤ 64) × (upper ≤ 1024) × (h ≡ j / lower) × (64 * c < k) }
-    ensures { Row tests.now (slice_index states.now j) k c result }
+pub(crate) fn edges_into(graph: &Graph, j: usize, h: usize, c: usize) -> u64
+    requires { (j < graph.now.number) × (h ≡ j / graph.now.lower) × (64 * c < graph.now.edge_number) }
+    ensures { Row graph.now.tests (slice_index graph.now.space.states j) graph.now.edge_number c result }
 {
+    let sets = graph.sets;
+    let lower = graph.lower;
     if sets.len() == 0 {
-        return tested(tests, states[j], k, c);
+        return tested(graph.tests, graph.states[j], graph.k, c);
     }
-    let base = (lower + upper) * c;
+    let base = (lower + graph.upper) * c;
     sets[base + (j - h * lower)] & sets[base + lower + h]
 }

@@ -32,20 +32,6 @@ fn lower_variables(sizes: [u8; 16], pattern: [u8; 16], n: usize) -> usize
     v
 }
 
-// Sixteen to the power v.
-fn place_of(v: usize) -> u64
-    requires { v ≤ 15 }
-    ensures { result ≡ 16 ^ v }
-{
-    let mut place = 1u64;
-    let mut u = 0usize;
-    while u < v {
-        place = place * 16;
-        u += 1;
-    }
-    place
-}
-
 // The digits of the first v variables.
 fn digits_below(mask: u64, v: usize) -> u64
     ensures { result ≡ mask % 16 ^ v }
@@ -53,7 +39,7 @@ fn digits_below(mask: u64, v: usize) -> u64
     if v >= 16 {
         return mask;
     }
-    mask % place_of(v)
+    mask % 16u64.pow(v as u32)
 }
 
 pub(crate) fn parts_of(sizes: [u8; 16], pattern: [u8; 16], n: usize, mask: u64) -> Parts

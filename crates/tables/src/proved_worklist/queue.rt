@@ -1,56 +1,58 @@
 // The states that wait, each once: a ring of their numbers, and a mark for each. Put and take promise only that what was put in and not taken
 // out is in; nothing rests on their order.
-ghost use Rattle.std.specs.Prelude.{◌≡◌, ◌+◌, ◌%◌, ◌<◌, ◌≤◌, length};
+ghost use Rattle.std.specs.Prelude.{◌≡◌, ◌+◌, ◌-◌, ◌%◌, ◌<◌, ◌≤◌, length};
 ghost use Rattle.tables.specs.Queue.{Queue, Put, Taken};
 
-use crate::sweep::wide;
+// So many of the states with numbers below `states` wait, from the place `head` on.
+#[derive(Drop)]
+pub(crate) struct Ring<const N: usize> {
+    pub(crate) states: usize,
+    pub(crate) places: [u16; N],
+    pub(crate) marks: [u8; N],
+    pub(crate) head: usize,
+    pub(crate) count: usize,
+    ghost small: { N ≤ 4096 },
+    ghost waits: { Queue states places marks head count },
+}
 
-// A place behind the end of a ring is one at its beginning.
-fn wrapped(at: usize, room: usize) -> usize
-    requires { at < room + room }
-    ensures { result ≡ at % room }
-{
-    if at >= room {
-        return at - room;
+impl<const N: usize> Ring<N> {
+    // No state waits.
+    pub(crate) fn new(states: usize) -> Ring<N>
+        requires { (states ≤ N) × (N ≤ 4096) × (1 ≤ N) }
+        ensures { (result.states ≡ states) × (result.head ≡ 0) × (result.count ≡ 0) }
+    {
+        Ring {
+            states,
+            places: [0u16; N],
+            marks: [0u8; N],
+            head: 0,
+            count: 0,
+        }
     }
-    at
-}
 
-// State j of n waits from now on. Answers how many wait.
-pub(crate) fn put(
-    queue: &mut [u16],
-    marks: &mut [u8],
-    head: usize,
-    count: usize,
-    n: usize,
-    j: usize,
-) -> usize
-    requires { (Queue n queue.old marks.old head count) × (j < n) }
-    ensures { Put n queue.old marks.old head count j queue.new marks.new result }
-{
-    if marks[j] == 1 {
-        return count;
+    // State j waits from now on.
+    pub(crate) fn put(&mut self, j: usize)
+        requires { j < self.old.states }
+        ensures { (Put self.old.states self.old.places self.old.marks self.old.head self.old.count j self.new.places self.new.marks self.new.count) × (self.new.states ≡ self.old.states) × (self.new.head ≡ self.old.head) }
+    {
+        if self.marks[j] == 1 {
+            return;
+        }
+        let at = (self.head + self.count) % N;
+        self.marks[j] = 1;
+        self.places[at] = j as u16;
+        self.count += 1;
     }
-    marks[j] = 1;
-    let at = wrapped(head + count, queue.len());
-    queue[at] = j as u16;
-    count + 1
-}
 
-// The state at the head waits no longer.
-pub(crate) fn take(queue: &[u16], marks: &mut [u8], head: usize, count: usize, n: usize) -> usize
-    requires { (Queue n queue.now marks.old head count) × (1 ≤ count) }
-    ensures { Taken n queue.now marks.old head count marks.new result }
-{
-    let j = wide(queue[head]);
-    marks[j] = 0;
-    j
-}
-
-// The head after one was taken.
-pub(crate) fn next_head(queue: &[u16], head: usize) -> usize
-    requires { (head < length queue.now) × (length queue.now ≤ 65536) }
-    ensures { result ≡ (head + 1) % length queue.now }
-{
-    wrapped(head + 1, queue.len())
+    // The state at the head waits no longer.
+    pub(crate) fn take(&mut self) -> usize
+        requires { 1 ≤ self.old.count }
+        ensures { (Taken self.old.states self.old.places self.old.marks self.old.head self.old.count self.new.marks result) × (self.new.states ≡ self.old.states) × (self.new.places ≡ self.old.places) × (self.new.count ≡ self.old.count - 1) × (self.new.head ≡ (self.old.head + 1) % length self.old.places) }
+    {
+        let j = usize::from(self.places[self.head]);
+        self.head = (self.head + 1) % N;
+        self.count -= 1;
+        self.marks[j] = 0;
+        j
+    }
 }

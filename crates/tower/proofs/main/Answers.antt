@@ -1,10 +1,9 @@
 -- `tower::main` meets its contract: the lines never pass the output buffer, so all of them are written. Assumes nothing.
 use mathlib.Core.List.{List}
-use mathlib.Core.Path.{◌≡◌, sym}
+use mathlib.Core.Path.{◌≡◌}
 use Prim.Native.Nat.{ℕ, ◌+◌, ◌*◌, ◌≤◌}
 use native.Mathlib.Omega.{arith}
 use lib.ListN.{length, replicate, length-replicate}
-use lib.Seq.{length-take-le}
 use Rattle.tower.proofs.main.Goals as goal
 
 -- Four bytes for each of the plan's and 256 more: a buffer that long holds the lines.

@@ -1,17 +1,21 @@
 -- `reader::quick_items::quick_item` meets its contract, kind by kind; pairs are not read by it. Assumes nothing.
-use borrow.Author.Rules.{rules}
 use mathlib.Core.Path.{sym, subst}
 use native.Mathlib.Omega.{arith}
 use Rattle.reader.specs.declared.lists.Kind.{Kind}
 use Rattle.reader.specs.Quick.{ItemAt}
-use Rattle.reader.proofs.QuickNumbers.{value_at, member_at}
+use Rattle.reader.proofs.QuickNumbers.{value_at, member_at, split_shorter}
 use Rattle.reader.proofs.quick_items.quick_item.Goals as goal
 
-pub returns-in-Pairs : goal.returns-in-Pairs
-returns-in-Pairs c = record { variable_bound = search rules; at_lt_end = λ h. absurd (omega arith) }
+pub returns-in_ok-x-in-Values : goal.returns-in_ok-x-in-Values
+returns-in_ok-x-in-Values c =
+    let a = c.args in
+    let h = c.in_ok-x-in-Values.ensures in
+    let x = c.in_ok-x-in-Values.x in
+    (omega (arith, h.1, c.requires.0), split_shorter a.s.now _ _ h.2, subst (λ (k : Kind). ItemAt a.s.now k a.next a.next x.value x.rest.now) (sym c.in-Values.is) (value_at a.s.now x.rest.now a.next x.value c.requires.1 (omega (arith, h.0)) h.2))
 
-pub returns-in-Values : goal.returns-in-Values
-returns-in-Values c = let e = c.args in let s = c.small_number-x in record { variable_bound = search rules; at_lt_end = λ h. let a = s.ensures.at_lt_end h in (a.0, subst (λ (x : Kind). ItemAt e.text.now e.at x e.next e.next s.result.value s.result.end) (sym c.in-Values.is) (value_at e.text.now e.at e.next _ _ c.requires.1 (omega arith) a.1)) }
-
-pub returns-in-Members : goal.returns-in-Members
-returns-in-Members c = let e = c.args in let s = c.small_number-v in record { variable_bound = search rules; at_lt_end = λ h. let a = s.ensures.at_lt_end h in (a.0, subst (λ (x : Kind). ItemAt e.text.now e.at x e.next s.result.value 1 s.result.end) (sym c.in-Members.is) (member_at e.text.now e.at e.next _ _ (omega arith) a.1)) }
+pub returns-in_ok-v-in-Members : goal.returns-in_ok-v-in-Members
+returns-in_ok-v-in-Members c =
+    let a = c.args in
+    let h = c.in_ok-v-in-Members.ensures in
+    let v = c.in_ok-v-in-Members.v in
+    (omega (arith, h.1, c.requires.0), split_shorter a.s.now _ _ h.2, subst (λ (k : Kind). ItemAt a.s.now k a.next v.value 1 v.rest.now) (sym c.in-Members.is) (member_at a.s.now v.rest.now a.next v.value (omega (arith, h.0)) h.2))

@@ -1,18 +1,22 @@
 -- `reader::quick_items::quick_pair` meets its contract: two numbers with a colon between them. Assumes nothing.
-use borrow.Author.Rules.{rules}
+use lib.ListN.{drop, length-drop}
 use native.Mathlib.Omega.{arith}
-use Rattle.reader.proofs.QuickNumbers.{pair_at}
+use Rattle.task_record.proofs.Rest.{part_rest}
+use Rattle.reader.specs.Written.{decimal}
+use Rattle.reader.proofs.QuickNumbers.{pair_at, split_shorter}
 use Rattle.reader.proofs.quick_items.quick_pair.Goals as goal
 
-pub returns-then-k-eq0 : goal.returns-then-k-eq0
-returns-then-k-eq0 c = record { variable_bound = search rules; at_lt_end = λ h. absurd (omega arith) }
-
-pub returns-then-text-k-ne-COLON : goal.returns-then-text-k-ne-COLON
-returns-then-text-k-ne-COLON c = record { variable_bound = search rules; at_lt_end = λ h. absurd (omega arith) }
-
 pub returns : goal.returns
-returns c = let e = c.args in record {
-  variable_bound = search rules;
-  at_lt_end = λ h. let a = c.small_number-v.ensures.at_lt_end (omega arith) in let b = c.small_number-x.ensures.at_lt_end h in
-      (omega (arith, a.0, b.0), λ next. pair_at e.text.now e.at next _ _ c.small_number-v.result.end _ (omega arith) (omega arith) a.1 (omega arith) c.if-text-k-ne-COLON.false b.1);
-}
+returns c =
+    let s = c.args.s.now in
+    let h = c.in_ok-v.ensures in
+    let m = c.in_ok-v.v.rest.now in
+    let e = part_rest m 1 in
+    let g = rw e at c.in_ok-x.ensures in
+    let n = length-drop 1 m in
+    let k = split_shorter (drop 1 m) (decimal c.in_ok-x.x.value) c.in_ok-x.x.rest.now g.2 in
+    let l = split_shorter s (decimal c.in_ok-v.v.value) m h.2 in (
+      omega (arith, g.1, h.1, n, c.requires),
+      omega (arith, k, l, n),
+      λ next. pair_at s c.in_ok-x.x.rest.now next c.in_ok-v.v.value c.in_ok-x.x.value m (omega (arith, h.0)) (omega (arith, g.0)) h.2 (omega (arith, h.1, c.requires)) c.if-middle-ne-COLON.false g.2,
+    )

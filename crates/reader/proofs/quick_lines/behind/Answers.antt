@@ -1,13 +1,16 @@
 -- `reader::quick_lines::behind` meets its contract. Assumes nothing.
-use mathlib.Core.Path.{◌∙◌, refl, sym}
+use lib.ListN.{length, length-drop}
+use mathlib.Core.List.{List, ◌++◌}
+use mathlib.Core.Path.{◌∙◌, ap, sym}
 use native.Mathlib.Omega.{arith}
+use Prim.Native.Nat.{ℕ}
+use Rattle.task_record.proofs.Rest.{part_rest}
+use Rattle.reader.proofs.QuickLines.{key_split}
 use Rattle.reader.proofs.quick_lines.behind.Goals as goal
 
-pub returns-then-text-at : goal.returns-then-text-at
-returns-then-text-at c = λ h. absurd (omega arith)
-
-pub returns-then-key_at : goal.returns-then-key_at
-returns-then-key_at c = λ h. (refl, sym c.key_at.ensures ∙ c.if-key_at.true, omega arith)
-
 pub returns : goal.returns
-returns c = λ h. absurd (omega arith)
+returns c =
+    let s = c.args.s.now in
+    let key = c.args.key.now in
+    let e = part_rest s (length key) in
+    (key_split key s (sym c.begins.ensures ∙ c.if-not-begins.false) ∙ ap (λ (z : List ℕ). key ++ z) (sym e), rw (e, length-drop) (omega (arith, c.requires, c.if-s-lt-LINE_ROOM.false)))

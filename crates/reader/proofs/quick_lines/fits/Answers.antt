@@ -18,4 +18,4 @@ unfolding pair_fits
 returns c = λ e. let a = c.args in
     let k = ltb-true a.x c.from-size.result e in
     let l = c.if-n-v.false in
-    (rw (le-leb a.next a.v c.if-v-next.false, lt-ltb a.v (get_or a.rec.now 0 0) (rw c.requires.1 at l), lt-ltb a.x (get_or a.rec.now (8 + a.v) 0) (rw c.from-size.ensures at k)), l, omega arith)
+    (rw (le-leb a.next a.v c.if-v-next.false, lt-ltb a.v (get_or a.rec.now 0 0) (rw c.requires.0 at l), lt-ltb a.x (get_or a.rec.now (8 + a.v) 0) (rw c.from-size.ensures at k)), l, omega arith)

@@ -1,8 +1,6 @@
--- `reader::quick_text::quick_sizes` meets its contract. The loop's invariant: the lines so far lead to the size that is due, or past the last.
--- Assumes nothing.
-use Prim.Native.Nat.{◌-◌, ◌≤◌}
+-- `reader::quick_text::quick_sizes` meets its contract. The loop's invariant: the lines so far lead to the size that is due, or past the last. Assumes nothing.
 use lib.Dec.{ltb}
-use lib.ListN.{length, get_or}
+use lib.ListN.{get_or}
 use mathlib.Core.Bool.{cond}
 use mathlib.Core.Path.{◌≡◌}
 use Rattle.reader.specs.Quick.{Leads}
@@ -10,8 +8,4 @@ use Rattle.reader.specs.declared.order.Due.TheVariants.{Size, Moves}
 use Rattle.reader.proofs.quick_text.quick_sizes.Given as goal
 
 abbrev pub invariant-loop-i : goal.invariant-loop-i
-invariant-loop-i l = (length l.rec ≡ length l.initial.rec) × (l.i ≤ l.n) × (l.k ≤ length l.text) × (get_or l.rec 0 0 ≡ l.n)
-    × Leads l.text (Size 0) l.initial.rec l.at (cond (ltb l.i l.n) (Size l.i) Moves) l.rec l.k
-
-abbrev pub decreases-loop-i : goal.decreases-loop-i
-decreases-loop-i l = l.n - l.i
+invariant-loop-i l = (get_or l.rec 0 0 ≡ l.n) × Leads (Size 0) l.initial.rec l.s (cond (ltb l.i l.n) (Size l.i) Moves) l.rec l.rest

@@ -22,18 +22,18 @@ unfolding read_whole
 whole-text c = ap (λ (r : List ℕ). read_from 1 Vars r (lines_of c.args.text.now)) (sym c.clear_record.ensures) ∙ c.read_lines.ensures
 
 pub clear_record-requires : goal.clear_record-requires
-clear_record-requires c = c.fill.ensures ∙ fill_whole c.args.local.now c.requires.1
+clear_record-requires c = c.fill.ensures ∙ fill_whole c.args.local.now (search rules)
 
 pub returns-in_err-read_lines : goal.returns-in_err-read_lines
 returns-in_err-read_lines c = let a = c.args in
     let l = c.read_lines.new.rec in
     let q = err_from_is_err_and c.from_residual.result c.from_residual.ensures.1 in
-    let d = answers_refused a.text.now a.record.now c.requires.0 c.in_err-read_lines.field-0.0 (whole-text (goal.at.returns-in_err-read_lines c).After-read_lines ∙ ap (λ (r : Result Unit Refusal). whole_of r l) c.in_err-read_lines.was) in
+    let d = answers_refused a.text.now a.record.now c.requires c.in_err-read_lines.field-0.0 (whole-text (goal.at.returns-in_err-read_lines c).After-read_lines ∙ ap (λ (r : Result Unit Refusal). whole_of r l) c.in_err-read_lines.was) in
     (q.1 ∙ ap Err q.2 ∙ d.0, d.1)
 
 pub returns : goal.returns
 returns c = let a = c.args in
-    let p = c.requires.0 in
+    let p = c.requires in
     let l = c.read_lines.new.rec in
     let d = answers_read a.text.now a.record.now p l (whole-text (goal.at.returns c).After-read_lines ∙ ap (λ (r : Result Unit Refusal). whole_of r l) c.in_ok-read_lines.was) in
     (d.0, c.put_cells.ensures ∙ sets_front a.record.now l record_size (search rules) p ∙ d.1)

@@ -4,13 +4,13 @@ use Rattle.reader.specs.Bytes.{bytes}
 use Rattle.report.proofs.Reports.{finite_line, infinite_line, value_not_refused}
 use Rattle.report.proofs.answers.put_value.Goals as goal
 
-pub returns-in-Finite-clause-written : goal.returns-in-Finite-clause-written
+pub returns-in-Ok-Some-clause-written : goal.returns-in-Ok-Some-clause-written
 unfolding bytes
-returns-in-Finite-clause-written c = λ v e. rw (finite_line v _ (sym c.in-Finite.is ∙ e)) c.put_number_line.ensures.written
+returns-in-Ok-Some-clause-written c = λ v e. rw (finite_line v _ c.in-Ok-Some.field-0 (rw c.in-Ok-Some.is at c.in-Ok-Some.field-0-is) (sym c.in-Ok-Some.is ∙ e)) c.put_number_line.ensures.written
 
-pub returns-in-Infinite-clause-written : goal.returns-in-Infinite-clause-written
+pub returns-in-Ok-None-clause-written : goal.returns-in-Ok-None-clause-written
 unfolding bytes
-returns-in-Infinite-clause-written c = λ v e. rw (infinite_line v (sym c.in-Infinite.is ∙ e)) c.put_line.ensures.written
+returns-in-Ok-None-clause-written c = λ v e. rw (infinite_line v c.in-Ok-None.field-0 (rw c.in-Ok-None.is at c.in-Ok-None.field-0-is) (sym c.in-Ok-None.is ∙ e)) c.put_line.ensures.written
 
-pub returns-in-Refused-clause-written : goal.returns-in-Refused-clause-written
-returns-in-Refused-clause-written c = λ v e. value_not_refused v _ _ (sym c.in-Refused.is ∙ e)
+pub returns-in-Err-clause-written : goal.returns-in-Err-clause-written
+returns-in-Err-clause-written c = λ v e. value_not_refused v _ (sym c.in-Err.is ∙ e)

@@ -5,6 +5,3 @@ use Rattle.search.proofs.byte_rows.end_used.Given as goal
 
 abbrev pub invariant-loop-v : goal.invariant-loop-v
 invariant-loop-v l = (l.v ≤ l.variables) × ((u : ℕ) → l.v ≤ u → u < l.variables → row_entry l.rows u 1 l.p ≡ 0)
-
-abbrev pub decreases-loop-v : goal.decreases-loop-v
-decreases-loop-v l = l.v

@@ -4,7 +4,7 @@ use Rattle.search.proofs.PlacesFilled.{Blocking}
 use Rattle.search.proofs.byte_rows.fill_block.Given as goal
 
 abbrev pub invariant-loop-h : goal.invariant-loop-h
-invariant-loop-h l = (l.h ≤ 16) × Blocking l.low l.high l.initial.places l.places l.at l.h
+invariant-loop-h l = (l.h ≤ 16) × Blocking l.low l.high l.initial.sums l.sums l.at l.h
 
 abbrev pub decreases-loop-h : goal.decreases-loop-h
 decreases-loop-h l = 16 - l.h

@@ -1,10 +1,7 @@
--- `search::byte_rows::fill_places` meets its contract. The loop's invariant: patterns below p have their numbers and blocks. Assumes nothing.
-use Rattle.std.proofs.Common.{◌≡◌, ◌-◌, ◌≤◌, length}
+-- `search::byte_rows::fill_places` meets its contract. The loop's invariant: patterns below p have their blocks. Assumes nothing.
+use Rattle.std.proofs.Common.{◌≤◌}
 use Rattle.search.proofs.PlacesFilled.{Placing}
 use Rattle.search.proofs.byte_rows.fill_places.Given as goal
 
 abbrev pub invariant-loop-p : goal.invariant-loop-p
-invariant-loop-p l = (l.p ≤ l.patterns) × (length l.places ≡ 4120) × Placing l.rows l.variables l.places l.at l.p
-
-abbrev pub decreases-loop-p : goal.decreases-loop-p
-decreases-loop-p l = l.patterns - l.p
+invariant-loop-p l = (l.p ≤ l.patterns) × Placing l.rows l.variables l.places l.at l.p

@@ -13,4 +13,4 @@ pub loop-v-preserved : goal.loop-v-preserved
 loop-v-preserved c = (omega arith, unused_next c.args.rows.now c.args.p c.loop-v.v c.loop-v.invariant.1 c.if-rows-v-ne0.false)
 
 pub returns : goal.returns
-returns c = (c.loop-v.invariant.0, c.loop-v.invariant.1)
+returns c = (omega arith, λ u h. c.loop-v.invariant.1 u (omega (arith, h, c.loop-v-test.false)))

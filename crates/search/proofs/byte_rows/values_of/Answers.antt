@@ -11,4 +11,4 @@ pub loop-x-preserved : goal.loop-x-preserved
 loop-x-preserved c = let l = c.loop-x in (simp length-set l.invariant.0, taking_goes_on c.digit_adds.result l.invariant.1 (omega (arith, l.invariant.0)) c.digit_adds.ensures)
 
 pub returns : goal.returns
-returns c = λ x h. c.loop-x.invariant.1.taken x (omega arith)
+returns c = λ x h. c.loop-x.invariant.1.taken x (omega (arith, h, c.loop-x-test.false))

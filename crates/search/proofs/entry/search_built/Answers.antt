@@ -16,7 +16,7 @@ guide_of-guide-requires c = let p = c.requires in (p.sound, p.additive, p.words)
 
 pub fill_places-requires : goal.fill_places-requires
 fill_places-requires c = let p = c.requires in let r = c.args.rec.now in let b = patterns_right r p.sound in let v = variables_right r p.sound in let z = c.guide_of-guide.ensures.sized in
-    (search rules, omega (arith, b, z.patterns), omega (arith, v.1, z.variables), rw (z.patterns, z.variables, ← patterns_length r, ← sizes_number r p.sound) (rows_linear _ _ _ _ c.fill_rows.ensures))
+    (omega (arith, b, z.patterns), omega (arith, v.1, z.variables), rw (z.patterns, z.variables, ← patterns_length r, ← sizes_number r p.sound) (rows_linear _ _ _ _ c.fill_rows.ensures))
 
 pub invariant_of-instance : goal.invariant_of-instance
 invariant_of-instance c = let p = c.requires in let r = c.args.rec.now in let z = c.guide_of-guide.ensures.sized in record {

@@ -1,7 +1,8 @@
 -- `search::estimate::value_of` meets its contract. The loop's invariant: the sum so far and what is left make the value. Assumes nothing.
 use Rattle.std.proofs.Common.{sym, arith}
 use native.Mathlib.Nat.{sub-zero}
-use Rattle.search.specs.Value.{packed_value, value_of}
+use Rattle.patterns.specs.Value.{value_of}
+use Rattle.search.specs.Value.{packed_value}
 use Rattle.search.proofs.RowSums.{entry_found, value_grows, value_infinite, value_whole, nothing_joins}
 use Rattle.search.proofs.estimate.value_of.Goals as goal
 

@@ -5,6 +5,3 @@ use Rattle.search.proofs.owners.mask_in.Given as goal
 
 abbrev pub invariant-loop-v : goal.invariant-loop-v
 invariant-loop-v l = (l.v ≤ length l.cells) × (l.mask ≡ pack_by picking (drop l.v l.cells))
-
-abbrev pub decreases-loop-v : goal.decreases-loop-v
-decreases-loop-v l = l.v

@@ -5,5 +5,5 @@ use Rattle.tables.proofs.Building.{settled_idle, parts_settled}
 use Rattle.tables.proofs.proved_worklist.build.build_goals.Goals as goal
 
 pub returns : goal.returns
-returns c = let a = c.args in let p = c.requires in
-    parts_settled a.task.now a.actions a.n a.mask a.sizes a.pattern _ _ _ p.2 refl c.fill_states.ensures _ (c.start.ensures ∙ ap (started a.task.now a.mask _) p.5) (settled_idle _ _ a.live p.3 p.4)
+returns c = let i = c.pattern.inside in let w = c.pattern.invariant in let p = rw (← c.pattern.view_is) at c.requires in
+    rw (← c.pattern.view_is) (parts_settled i.task.now i.actions i.n i.mask i.sizes i.picked _ _ _ w.masked refl c.fill_states.ensures _ (c.start.ensures ∙ ap (started i.task.now i.mask _) p.1) (settled_idle _ _ i.live w.lively p.0))

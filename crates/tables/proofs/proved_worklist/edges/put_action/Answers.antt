@@ -11,12 +11,6 @@ pub put_edge-e-requires : goal.put_edge-e-requires
 put_edge-e-requires c = let p = c.requires in let v = c.loop-o.invariant in let t = c.loop-o-test.true in let u = v.2.untouched in
     (p.0, omega (arith, t, v.0, p.1), omega (arith, t, v.0, v.2.most, p.2), omega (arith, t, v.0, v.2.most, p.3, u.long_tests), omega (arith, t, v.0, v.2.most, p.4, u.long_edges))
 
-pub overflow_add-o : goal.overflow_add-o
-overflow_add-o c = let p = c.requires in record { fits = omega (arith, c.loop-o-test.true, c.loop-o.invariant.0, p.1) }
-
-pub loop-o-smaller : goal.loop-o-smaller
-loop-o-smaller c = omega (arith, c.loop-o-test.true)
-
 pub loop-o-preserved : goal.loop-o-preserved
 loop-o-preserved c = let v = c.loop-o.invariant in let e = c.put_edge-e.ensures in (v.0, omega (arith, c.loop-o-test.true), acting_next v.2 e.0 e.1)
 

@@ -24,6 +24,6 @@ pub bounds-edges-e-3 : goal.bounds-edges-e-3
 bounds-edges-e-3 c = let p = c.requires in simp length-set (omega (arith, p.4))
 
 pub returns : goal.returns
-returns c = let a = c.args in let w = c.way_back-back in let l = c.lane_of-one in let k = c.lane_of-two in let g = c.index_of in let f = c.index_of-2 in let u = c.cut-weight in
+returns c = let a = c.args in let w = c.way_back-back in let l = c.lane_of-one in let k = c.lane_of-two in let g = c.index_of in let f = c.index_of-2 in let u = c.min-weight in
     edge_put a.task.now a.mask a.weights.now a.sizes a.tests.now a.edges.now a.e a.m a.o g.result f.result w.result u.result l.result.lane l.result.rest k.result.lane k.result.rest
-    c.requires.3 c.requires.4 g.ensures f.ensures w.ensures.0 w.ensures.1 u.ensures l.ensures.0 k.ensures.0
+    c.requires.3 c.requires.4 g.ensures f.ensures w.ensures.0 w.ensures.1 (omega arith) l.ensures.0 k.ensures.0

@@ -24,12 +24,6 @@ bounds-sets-base c = let p = c.requires in omega (arith, p.2, c.loop-h-test.true
 pub overflow_add-at : goal.overflow_add-at
 overflow_add-at c = let p = c.requires in let g = place_in _ _ _ _ c.loop-h-test.true p.0 p.1 in omega (arith, g, c.loop-h.invariant.place)
 
-pub overflow_add-h : goal.overflow_add-h
-overflow_add-h c = let p = c.requires in omega (arith, p.2, c.loop-h-test.true)
-
-pub loop-h-smaller : goal.loop-h-smaller
-loop-h-smaller c = omega (arith, c.loop-h-test.true)
-
 pub loop-h-preserved : goal.loop-h-preserved
 loop-h-preserved c = let p = c.requires in part_to_next c.meet_digits.result c.loop-h-test.true p.2 c.meet_digits.ensures c.loop-h.invariant
 

@@ -25,9 +25,9 @@ pub overflow_mul-c-in-loop-c-2 : goal.overflow_mul-c-in-loop-c-2
 overflow_mul-c-in-loop-c-2 c = omega (arith, c.loop-c.invariant.within)
 
 pub fill_row-requires : goal.fill_row-requires
-fill_row-requires c = let p = c.requires in let v = c.loop-c.invariant in let t = c.loop-c-test.true in let e = c.at_most_64-count.ensures in
+fill_row-requires c = let p = c.requires in let v = c.loop-c.invariant in let t = c.loop-c-test.true in
     let u : 1 ≤ c.args.upper = omega (arith, c.if-upper-eq0.false) in let m = mul-le-mul_right c.args.lower u in let r = p.5 (omega (arith, c.if-sets-eq0.false)) _ t in
-    (omega (arith, e), omega (arith, e, t, p.0.few), omega (arith, e, t, p.0.room), p.1.lower_some, omega (arith, m, p.2, p.3), omega (arith, p.2, p.3), omega (arith, r, v.place, v.long))
+    (omega arith, omega (arith, t, p.0.few), omega (arith, t, p.0.room), p.1.lower_some, omega (arith, m, p.2, p.3), omega (arith, p.2, p.3), omega (arith, r, v.place, v.long))
 
 pub overflow_add-base : goal.overflow_add-base
 overflow_add-base c = let p = c.requires in let f = p.1.lower_few in let w : c.args.lower + c.args.upper ≤ 1088 = omega (arith, f, p.4) in omega (arith, w)
@@ -42,7 +42,7 @@ pub loop-c-smaller : goal.loop-c-smaller
 loop-c-smaller c = omega (arith, c.requires.0.few, c.loop-c-test.true)
 
 pub loop-c-preserved : goal.loop-c-preserved
-loop-c-preserved c = let p = c.requires in let v = c.loop-c.invariant in rows_to_next (omega (arith, p.0.few, c.loop-c-test.true)) c.at_most_64-count.ensures v c.fill_row.ensures c.fill_row.auto.sets
+loop-c-preserved c = let p = c.requires in let v = c.loop-c.invariant in rows_to_next (omega (arith, p.0.few, c.loop-c-test.true)) (omega arith) v c.fill_row.ensures c.fill_row.auto.sets
 
 pub shape_of-sets : goal.shape_of-sets
 shape_of-sets c = c.loop-c.invariant.long

@@ -11,8 +11,8 @@ loop-q-init c = (omega arith, gathered_none _)
 
 pub loop-q-preserved : goal.loop-q-preserved
 loop-q-preserved c = let l = c.loop-q in let f : ℕ → Bool = λ j. eqb (bit_and c.args.word (edge_mask c.args.tests.now (64 * c.args.c + j))) (edge_value c.args.tests.now (64 * c.args.c + j)) in
-    (omega (arith, c.loop-q-test.true), gathered_next f l.q l.set l.bit c.joined-set.result (omega (arith, c.at_most_64-count.ensures, c.loop-q-test.true)) c.joined-set.ensures l.invariant.1)
+    (omega (arith, c.loop-q-test.true), gathered_next f l.q l.set l.bit c.joined-set.result (omega (arith, c.loop-q-test.true)) c.joined-set.ensures l.invariant.1)
 
 pub returns : goal.returns
-returns c = let l = c.loop-q in let e = c.at_most_64-count in row_tested c.args.tests.now c.args.word c.args.k c.args.c e.result l.set e.ensures c.requires.1
+returns c = let l = c.loop-q in let e = c.min-count in row_tested c.args.tests.now c.args.word c.args.k c.args.c e.result l.set (omega arith) c.requires.1
     (gathered_all (λ j. eqb (bit_and c.args.word (edge_mask c.args.tests.now (64 * c.args.c + j))) (edge_value c.args.tests.now (64 * c.args.c + j))) l.q e.result l.set l.bit l.invariant.0 c.loop-q-test.false l.invariant.1)

@@ -5,7 +5,7 @@ use Rattle.tables.proofs.proved_worklist.visits.is_above.Goals as goal
 
 pub returns-then-i-entries : goal.returns-then-i-entries
 unfolding above
-returns-then-i-entries c = let a = c.args in let k = c.type_inv.entries a.i in (simp (lt-ltb _ _ c.if-i-entries.true, c.wide.ensures.0), omega (arith, k))
+returns-then-i-entries c = let a = c.args in let k = c.type_inv.entries a.i in (simp (lt-ltb _ _ c.if-i-entries.true, c.from.ensures), omega (arith, k))
 
 pub returns : goal.returns
 unfolding above

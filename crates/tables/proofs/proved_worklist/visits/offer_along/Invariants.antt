@@ -5,7 +5,7 @@ use Rattle.tables.proofs.Asking.{Offering}
 use Rattle.tables.proofs.proved_worklist.visits.offer_along.Given as goal
 
 abbrev pub invariant-loop-f : goal.invariant-loop-f
-invariant-loop-f l = Offering (space l.task l.mask l.weights l.states l.actions) l.edges l.entries l.e l.i l.f l.most
+invariant-loop-f l = let g = l.graph-inside in Offering (space g.task.now g.mask g.weights.now g.states.now g.actions) l.edges l.entries l.e l.i l.f l.most
 
 abbrev pub decreases-loop-f : goal.decreases-loop-f
 decreases-loop-f l = l.end - l.f

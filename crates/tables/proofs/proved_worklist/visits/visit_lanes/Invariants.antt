@@ -1,17 +1,16 @@
 -- `tables::proved_worklist::visits::visit_lanes` meets its contract. Assumes nothing.
-use Rattle.std.proofs.Common.{◌≡◌, ◌+◌, ◌-◌, ◌*◌, ◌≤◌, length}
-use Rattle.tables.specs.Steps.{space}
+use Rattle.std.proofs.Common.{◌≡◌, ◌+◌, ◌-◌, ◌*◌, ◌≤◌}
 use Rattle.tables.proofs.Walks.{Rows, Cells}
 use Rattle.tables.proofs.proved_worklist.visits.visit_lanes.Given as goal
 
 abbrev pub invariant-loop-x : goal.invariant-loop-x
-invariant-loop-x l = Cells (space l.task l.mask l.weights l.states l.actions) l.edges l.e l.j l.at l.y l.x l.initial.entries l.initial.marks l.initial.waiting l.entries l.queue l.marks l.head l.waiting × (l.i ≡ l.row + l.x * l.one) × (l.i ≤ l.row + l.x * 65535) × (l.x ≤ l.ones) × (length l.queue ≡ length l.initial.queue) × (length l.marks ≡ length l.initial.marks)
+invariant-loop-x g l = Cells l.graph.space l.graph.edges l.e l.j l.at l.y l.x l.initial.entries l.initial.ring.marks l.initial.ring.count l.entries l.ring.places l.ring.marks l.fn.ring.head l.ring.count × (l.i ≡ l.row + l.x * l.one) × (l.i ≤ l.row + l.x * 65535) × (l.x ≤ l.ones) × (l.ring.states ≡ l.fn.ring.states) × (l.ring.head ≡ l.fn.ring.head)
 
 abbrev pub decreases-loop-x : goal.decreases-loop-x
-decreases-loop-x l = l.ones - l.x
+decreases-loop-x g l = l.ones - l.x
 
 abbrev pub invariant-loop-y : goal.invariant-loop-y
-invariant-loop-y l = Rows (space l.task l.mask l.weights l.states l.actions) l.edges l.e l.j l.at l.y l.initial.entries l.initial.marks l.count l.entries l.queue l.marks l.head l.waiting × (l.row ≡ l.at + l.y * l.two) × (l.row ≤ l.at + l.y * 65535) × (l.y ≤ l.twos) × (length l.queue ≡ length l.initial.queue) × (length l.marks ≡ length l.initial.marks)
+invariant-loop-y g l = Rows l.graph.space l.graph.edges l.e l.j l.at l.y l.fn.entries l.fn.ring.marks l.fn.ring.count l.entries l.ring.places l.ring.marks l.fn.ring.head l.ring.count × (l.row ≡ l.at + l.y * l.two) × (l.row ≤ l.at + l.y * 65535) × (l.y ≤ l.twos) × (l.ring.states ≡ l.fn.ring.states) × (l.ring.head ≡ l.fn.ring.head)
 
 abbrev pub decreases-loop-y : goal.decreases-loop-y
-decreases-loop-y l = l.twos - l.y
+decreases-loop-y g l = l.twos - l.y

@@ -1,11 +1,11 @@
 -- `tables::proved_worklist::worklist::run` meets its contract. Assumes nothing.
-use Rattle.std.proofs.Common.{◌≡◌, ◌+◌, length}
-use Rattle.tables.specs.Steps.{space, total}
+use Rattle.std.proofs.Common.{◌+◌}
+use Rattle.tables.specs.Steps.{total}
 use Rattle.tables.proofs.Starting.{Running}
 use Rattle.tables.proofs.proved_worklist.worklist.run.Given as goal
 
-abbrev pub invariant-loop-waiting : goal.invariant-loop-waiting
-invariant-loop-waiting l = (Running (space l.task l.mask l.weights l.states l.actions) l.initial.entries l.n l.entries l.queue l.marks l.head l.waiting l.since) × (length l.queue ≡ length l.initial.queue) × (length l.marks ≡ length l.initial.marks)
+abbrev pub invariant-loop-ring : goal.invariant-loop-ring
+invariant-loop-ring g l = Running l.graph.space l.fn.entries l.ring.states l.entries l.ring.places l.ring.marks l.ring.head l.ring.count l.since
 
-abbrev pub decreases-loop-waiting : goal.decreases-loop-waiting
-decreases-loop-waiting l = total l.entries + l.waiting
+abbrev pub decreases-loop-ring : goal.decreases-loop-ring
+decreases-loop-ring g l = total l.entries + l.ring.count

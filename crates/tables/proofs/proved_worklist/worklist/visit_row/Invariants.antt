@@ -1,12 +1,11 @@
 -- `visit_row`: the edges of a set one by one; the set falls. Assumes nothing.
-use Rattle.std.proofs.Common.{◌≡◌, length, get_or}
-use Rattle.tables.specs.Steps.{space}
+use Rattle.std.proofs.Common.{◌≡◌, get_or}
 use Rattle.tables.proofs.Rounds.{RowGoing}
 use Rattle.tables.proofs.proved_worklist.worklist.visit_row.Given as goal
 
 abbrev pub invariant-loop-rest : goal.invariant-loop-rest
-invariant-loop-rest l =
-    RowGoing (space l.task l.mask l.weights l.states l.actions) l.tests l.edges (get_or l.states l.j 0) l.k l.j l.c l.rest l.initial.entries l.initial.marks l.count l.entries l.queue l.marks l.head l.waiting × (length l.queue ≡ length l.initial.queue) × (length l.marks ≡ length l.initial.marks)
+invariant-loop-rest g l =
+    RowGoing l.graph.space l.graph.tests l.graph.edges (get_or l.graph.space.states l.j 0) l.graph.edge_number l.j l.c l.rest l.fn.entries l.fn.ring.marks l.fn.ring.count l.entries l.ring.places l.ring.marks l.fn.ring.head l.ring.count × (l.ring.states ≡ l.fn.ring.states) × (l.ring.head ≡ l.fn.ring.head)
 
 abbrev pub decreases-loop-rest : goal.decreases-loop-rest
-decreases-loop-rest l = l.rest
+decreases-loop-rest g l = l.rest
