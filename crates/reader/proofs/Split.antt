@@ -88,12 +88,9 @@ pub left_next : (b at k : ℕ) (s : List ℕ) → at ≤ length s → k ≡ inde
 left_next b at k s h e =
     rw (le-leb at (length s) h, pieces_next b (drop at s), ← e, length-drop at s, next_test at k (length s) h, next_at at k s)
 
-lines_list : (t : List ℕ) → 0 < length t → lines_of t ≡ take (index_of line_break t) t ∷ lines_of (drop (suc (index_of line_break t)) t)
+pub lines_list : (t : List ℕ) → 0 < length t → lines_of t ≡ take (index_of line_break t) t ∷ lines_of (drop (suc (index_of line_break t)) t)
 lines_list [] h = absurd (not-suc-le-zero h)
 lines_list (x ∷ xs) h = lines_cons x xs
-
-pub lines_next : (at k : ℕ) (s : List ℕ) → at < length s → k ≡ index_of line_break (drop at s) → lines_of (drop at s) ≡ take k (drop at s) ∷ lines_of (drop (at + k + 1) s)
-lines_next at k s h e = rw (lines_list (drop at s) (simp length-drop (omega arith)), ← e, next_at at k s)
 
 pub lines_none : lines_of [] ≡ []
 unfolding lines_of
