@@ -47,6 +47,7 @@ fn common_cell(rec: &[u8], at: usize) -> u8
     low
 }
 
+#[tactic(auto, unfolding(crate::specs::Sets::Lone))]
 fn is_lone(set: u8) -> bool
     ensures { result ≡ true → Lone set }
 {
@@ -172,6 +173,7 @@ impl<'a> Members<'a> {
 }
 
 // The first conflict, scanned for only where there is one.
+#[tactic(auto, unfolding(crate::specs::Additivity::additivity_of))]
 pub(crate) fn decide(rec: &[u8]) -> Option<Conflict>
     requires { Sound rec.now }
     ensures { result ≡ additivity_of (verdict (task_of rec.now) (patterns_of rec.now)) }

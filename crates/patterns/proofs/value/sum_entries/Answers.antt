@@ -74,9 +74,6 @@ overflow_add-begin c = let r = c.args.rec.now in let s = c.args.state.now in let
     let j : c.place_of-place.result.states ≡ state_count (task_of r).sizes (get_or (patterns_of r) l.p []) = c.place_of-place.ensures.1 ∙ ap₂ state_count c.requires.1 q in
     let n = table_inside (task_of r).sizes (patterns_of r) s c.args.tables.now l.sum l.begin l.p l.invariant m c.requires.2 in omega arith
 
-pub loop-p-smaller : goal.loop-p-smaller
-loop-p-smaller c = rw (← c.pattern_count-p-end.ensures) (omega arith)
-
 pub loop-p-preserved : goal.loop-p-preserved
 loop-p-preserved c = let r = c.args.rec.now in let s = c.args.state.now in let l = c.loop-p in
     let t : l.p < pattern_count r = rw c.pattern_count-p-end.ensures at c.loop-p-test.true in
