@@ -7,12 +7,6 @@ ghost use Rattle.tables.specs.Steps.{weigh, is_goal, permitted, after, idles, wo
 
 use crate::space::Space;
 
-pub(crate) fn wide(x: u16) -> usize
-    ensures { (result ≡ x) × (result < 65536) }
-{
-    x as usize
-}
-
 // Entry j, and infinite past the end.
 pub(crate) fn entry_at(entries: &[u16], j: usize) -> u16
     ensures { result ≡ slice_index_or entries.now j 65535 }
@@ -29,7 +23,7 @@ pub(crate) fn times(x: u64, w: u16) -> usize
     ensures { (result ≡ x * w) × (result ≤ 983025) }
 {
     let y = x as usize;
-    y * wide(w)
+    y * usize::from(w)
 }
 
 // Four digits of a word, from the lowest on, times the weights from v on.
@@ -122,7 +116,7 @@ pub(crate) fn raise(w: u64, v: u16) -> u16
     if w >= 65535 {
         return 65535;
     }
-    let sum = w as usize + wide(v);
+    let sum = w as usize + usize::from(v);
     if sum >= 65535 {
         return 65535;
     }
