@@ -4,9 +4,8 @@ ghost use Rattle.planning.specs.Pattern.{affects, affects_pattern, additive, ver
 ghost use Rattle.task_record.specs.Layout.{at_pattern, at_outcome};
 ghost use Rattle.task_record.specs.Numbers.{action_count, pattern_count, outcome_count};
 ghost use Rattle.task_record.specs.Record.{Sound};
-ghost use Rattle.task_record.specs.Window.{Sixteen};
 ghost use Rattle.task_record.specs.TaskOf.{cells_at, action_of, task_of, patterns_of};
-ghost use Rattle.patterns.specs.Sets.{set_from, member_set, Lone, Covers};
+ghost use Rattle.patterns.specs.Sets.{set_from, Lone, Covers};
 ghost use Rattle.patterns.specs.Additivity.{additivity_of, additivity};
 ghost use Rattle.patterns.specs.Answers.{additivity_numbers, additivity_by_lines};
 
@@ -47,6 +46,7 @@ fn common_cell(rec: &[u8], at: usize) -> u8
     low
 }
 
+#[tactic(auto, unfolding(crate::specs::Sets::Lone))]
 fn is_lone(set: u8) -> bool
     ensures { result ≡ true → Lone set }
 {
@@ -172,6 +172,7 @@ impl<'a> Members<'a> {
 }
 
 // The first conflict, scanned for only where there is one.
+#[tactic(auto, unfolding(crate::specs::Additivity::additivity_of))]
 pub(crate) fn decide(rec: &[u8]) -> Option<Conflict>
     requires { Sound rec.now }
     ensures { result ≡ additivity_of (verdict (task_of rec.now) (patterns_of rec.now)) }

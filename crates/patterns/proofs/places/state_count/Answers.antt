@@ -3,12 +3,9 @@ use Prim.Native.Nat.{◌≤◌}
 use native.Mathlib.Nat.{mul-le-mul}
 use native.Mathlib.Omega.{arith}
 use borrow.Author.Tests.{ne_eqb}
-use Rattle.patterns.proofs.Weights.{counting_start, counting_in, counting_out, counting_done, counting_below}
+use Rattle.patterns.proofs.Weights.{counting_in, counting_out, counting_done, counting_below}
 use Rattle.patterns.proofs.places.state_count.Goals.{then-pattern-v-eq1+else-weight-gt4096, else-pattern-v-eq1}
 use Rattle.patterns.proofs.places.state_count.Goals as goal
-
-pub loop-v-init : goal.loop-v-init
-loop-v-init c = (counting_start _ _ c.requires.1, omega arith)
 
 pub overflow_mul-weight : goal.overflow_mul-weight
 overflow_mul-weight c = let b : c.from-weight.result ≤ 255 = omega (arith, c.from-weight.ensures, c.type_inv.sizes c.loop-v.v) in let p = mul-le-mul c.loop-v.invariant.1 b in omega arith

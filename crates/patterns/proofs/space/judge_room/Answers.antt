@@ -8,12 +8,9 @@ use Rattle.task_record.specs.Numbers.{pattern_count}
 use Rattle.task_record.specs.TaskOf.{task_of, patterns_of}
 use Rattle.task_record.proofs.SoundTask.{patterns_right}
 use Rattle.patterns.proofs.Reading.{patterns_length, pattern_at}
-use Rattle.patterns.proofs.Room.{adding_start, adding_small, judged_large, judged_short, judged_fits}
+use Rattle.patterns.proofs.Room.{adding_small, judged_large, judged_short, judged_fits}
 use Rattle.patterns.proofs.Sizes.{sizes_few, sizes_positive, pattern_whole}
 use Rattle.patterns.proofs.space.judge_room.Goals as goal
-
-pub loop-p-init : goal.loop-p-init
-loop-p-init c = let r = c.args.rec.now in adding_start (task_of r).sizes (patterns_of r)
 
 pub state_count-requires : goal.state_count-requires
 state_count-requires c = let r = c.args.rec.now in let l = c.loop-p in
@@ -38,9 +35,6 @@ loop-p-preserved c = let r = c.args.rec.now in let l = c.loop-p in
     let q : c.pattern_cells.result.now ≡ get_or (patterns_of r) l.p [] = c.pattern_cells.ensures ∙ sym (pattern_at r l.p t) in
     let k = rw (c.requires.1, q) at c.in-Some.ensures.small in
     rw k.0 (adding_small (task_of r).sizes (patterns_of r) l.needed l.p l.invariant (rw (patterns_length r) t) (omega (arith, k)))
-
-pub loop-p-smaller : goal.loop-p-smaller
-loop-p-smaller c = rw (← c.pattern_count-p-end.ensures) (omega arith)
 
 pub returns-then-lent-needed : goal.returns-then-lent-needed
 returns-then-lent-needed c = let r = c.args.rec.now in let l = c.loop-p in

@@ -1,12 +1,9 @@
 -- `sizes_of`: the sizes passed are right. Assumes nothing.
-use Rattle.std.proofs.Common.{arith, length-set, refl}
+use Rattle.std.proofs.Common.{arith, length-set}
 use Rattle.task_record.specs.Numbers.{size_of}
 use Rattle.task_record.proofs.Sixteens.{filled_next}
 use Rattle.patterns.proofs.Sizes.{sixteen_are_sizes}
 use Rattle.patterns.proofs.space.sizes_of.Goals as goal
-
-pub loop-v-init : goal.loop-v-init
-loop-v-init c = (refl, λ k h. absurd (omega arith))
 
 pub loop-v-preserved : goal.loop-v-preserved
 loop-v-preserved c = let l = c.loop-v in let r = c.args.rec.now in

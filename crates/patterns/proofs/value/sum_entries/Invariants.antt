@@ -1,12 +1,7 @@
 -- `sum_entries`: the sum so far, and the value of the patterns left, are the whole value. Assumes nothing.
-use Prim.Native.Nat.{◌-◌}
-use Rattle.task_record.specs.Numbers.{pattern_count}
 use Rattle.task_record.specs.TaskOf.{task_of, patterns_of}
 use Rattle.patterns.proofs.Summing.{Summing}
 use Rattle.patterns.proofs.value.sum_entries.Given as goal
 
 abbrev pub invariant-loop-p : goal.invariant-loop-p
 invariant-loop-p l = Summing (task_of l.rec).sizes (patterns_of l.rec) l.state l.tables l.sum l.begin l.p
-
-abbrev pub decreases-loop-p : goal.decreases-loop-p
-decreases-loop-p l = pattern_count l.rec - l.p

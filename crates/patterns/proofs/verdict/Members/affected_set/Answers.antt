@@ -14,9 +14,6 @@ pub loop-k-init : goal.loop-k-init
 unfolding affects_pattern action_of
 loop-k-init c = let r = c.args.self.now in rw sub-zero (gather_start (pattern_count r) (λ j. affects_pattern (action_of r c.args.m) (cells_at r (at_pattern j))))
 
-pub outcome_set-affected-requires : goal.outcome_set-affected-requires
-outcome_set-affected-requires c = (c.requires, rw (c.outcome_count-k-end.ensures, c.self.view_is) at c.loop-k-test.true)
-
 pub loop-k-preserved : goal.loop-k-preserved
 loop-k-preserved c = let r = c.args.self.now in let l = c.loop-k in let t = rw (c.outcome_count-k-end.ensures, c.self.view_is) at c.loop-k-test.true in
     gather_more (pattern_count r) (λ j. affects_pattern (action_of r c.args.m) (cells_at r (at_pattern j))) (λ j. some_of (affects (cells_at r (at_pattern j))) (tabulate (λ i. cells_at r (at_outcome c.args.m i)) l.k (outcome_count r c.args.m - l.k))) l.affected l.invariant (λ j. affects (cells_at r (at_pattern j)) (cells_at r (at_outcome c.args.m l.k))) (λ j. some_of (affects (cells_at r (at_pattern j))) (tabulate (λ i. cells_at r (at_outcome c.args.m i)) (l.k + 1) (outcome_count r c.args.m - (l.k + 1)))) c.outcome_set-affected.result c.outcome_set-affected.ensures

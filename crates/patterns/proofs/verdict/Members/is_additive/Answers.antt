@@ -1,6 +1,5 @@
 -- `is_additive`: the actions passed affect at most one pattern each. Assumes nothing.
-use mathlib.Core.Path.{◌≡◌}
-use Prim.Native.Nat.{ℕ, ◌<◌}
+use Prim.Native.Nat.{◌<◌}
 use native.Mathlib.Omega.{arith}
 use Rattle.task_record.specs.Numbers.{action_count}
 use Rattle.task_record.proofs.ColumnLaws.{below_next}
@@ -14,18 +13,6 @@ returns-then-pattern_count-lt2 c =
     let if1 = c.if-pattern_count-lt2 in
     let r = args.self.now in let t = if1.true in let e = rw c.self.view_is at pattern-count.ensures in
     λ h. all_alone r (λ m l. alone_few r m l (omega arith))
-
-pub loop-m-init : goal.loop-m-init
-loop-m-init c = (omega arith, λ k l. absurd (omega arith))
-
-pub touched_set-requires : goal.touched_set-requires
-touched_set-requires c =
-    let action-count = c.action_count-m-end in
-    let loop-test = c.loop-m-test in
-    omega (arith, loop-test.true, rw c.self.view_is at action-count.ensures)
-
-pub returns-then-not-is_lone : goal.returns-then-not-is_lone
-returns-then-not-is_lone c = λ t. let z : ◌≡◌ {A = ℕ} 0 1 = cc in absurd (omega arith)
 
 pub loop-m-preserved : goal.loop-m-preserved
 loop-m-preserved c =

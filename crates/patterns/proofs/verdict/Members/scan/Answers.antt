@@ -13,9 +13,6 @@ use Rattle.patterns.proofs.Reading.{affects_at, affected_from, patterns_passed, 
 use Rattle.patterns.proofs.verdict.Members.scan.Goals.{else-loop-p-test, then-loop-p-test+then-left-eq1+else-loop-q-test}
 use Rattle.patterns.proofs.verdict.Members.scan.Goals as goal
 
-pub affected_set-left-requires : goal.affected_set-left-requires
-affected_set-left-requires c = (rw c.loop-m.invariant.2 at c.loop-m-test.true)
-
 pub loop-m-init : goal.loop-m-init
 loop-m-init c = let r = c.args.self.now in (verdict-at_start (task_of r) (patterns_of r), omega arith, rw c.self.view_is at c.action_count-actions.ensures, rw c.self.view_is at c.pattern_count-patterns.ensures)
 
