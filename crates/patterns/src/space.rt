@@ -1,5 +1,5 @@
 // Whether lent tables can hold the tables of a task's patterns: the refusals 7 and 8, the same for every entry that tests them.
-ghost use Rattle.std.specs.Prelude.{◌≡◌, ◌<◌, replicate};
+ghost use Rattle.std.specs.Prelude.{◌≡◌};
 ghost use Rattle.task_record.specs.Record.{Sound};
 ghost use Rattle.task_record.specs.TaskOf.{task_of, patterns_of};
 ghost use Rattle.patterns.specs.Space.{all_sizes, judge_tables, table_check};

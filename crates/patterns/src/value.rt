@@ -1,5 +1,5 @@
 // The value of a state, read from lent tables.
-ghost use Rattle.std.specs.Prelude.{◌≡◌, ◌≢◌, ◌≤◌, ◌<◌, ℕ, length, Ok, Err};
+ghost use Rattle.std.specs.Prelude.{◌≡◌, ◌≢◌, ◌≤◌, ℕ, length, Ok, Err};
 ghost use Rattle.planning.specs.Task.{State};
 ghost use Rattle.planning.specs.Table.{value, Small};
 ghost use Rattle.task_record.specs.Record.{Sound};

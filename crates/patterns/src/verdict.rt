@@ -4,9 +4,8 @@ ghost use Rattle.planning.specs.Pattern.{affects, affects_pattern, additive, ver
 ghost use Rattle.task_record.specs.Layout.{at_pattern, at_outcome};
 ghost use Rattle.task_record.specs.Numbers.{action_count, pattern_count, outcome_count};
 ghost use Rattle.task_record.specs.Record.{Sound};
-ghost use Rattle.task_record.specs.Window.{Sixteen};
 ghost use Rattle.task_record.specs.TaskOf.{cells_at, action_of, task_of, patterns_of};
-ghost use Rattle.patterns.specs.Sets.{set_from, member_set, Lone, Covers};
+ghost use Rattle.patterns.specs.Sets.{set_from, Lone, Covers};
 ghost use Rattle.patterns.specs.Additivity.{additivity_of, additivity};
 ghost use Rattle.patterns.specs.Answers.{additivity_numbers, additivity_by_lines};
 

@@ -1,6 +1,6 @@
 -- What the search finds, the check passes: with the same record, the record's start and the first bytes of the buffer, as many as the search
 -- said, with the cost that it said. The calls of README's C example. Assumes nothing.
-use Rattle.std.proofs.Common.{◌≡◌, ℕ, ◌-◌, List, length, take, replicate, refl, sym, ap, ◌∙◌, Result, Ok}
+use Rattle.std.proofs.Common.{◌≡◌, ℕ, ◌-◌, List, length, take, replicate, sym, ap, ◌∙◌, Ok}
 use lib.Seq.{take_at}
 use Rattle.planning.specs.Numbers.{answered}
 use Rattle.planning.specs.Plan.{encode}

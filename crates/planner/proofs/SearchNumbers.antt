@@ -1,6 +1,6 @@
 -- What C may conclude from the first two numbers of the search: no refusal has the number 0, so number 0 and kind 0 mean that a plan was found.
 -- Assumes nothing.
-use Rattle.std.proofs.Common.{◌≡◌, ℕ, ◌≤◌, List, refl, arith, Result, Ok, Err}
+use Rattle.std.proofs.Common.{◌≡◌, ℕ, List, refl, arith, Result, Ok, Err}
 use Rattle.planning.specs.Numbers.{answered}
 use Rattle.task_record.specs.declared.refusal.Refusal.{Refusal}
 use Rattle.plan_check.proofs.ZeroNumber.{refusal_numbered}

@@ -7,9 +7,8 @@ use mathlib.Core.List.{List, [], ◌∷◌}
 use Prim.Native.Nat.{ℕ, suc, ◌+◌, ◌≤◌, ◌<◌}
 use native.Mathlib.Omega.{arith}
 use lib.Dec.{eqb}
-use lib.ListN.{length, take, drop, get_or, drop_of_length-le, length-drop}
+use lib.ListN.{length, take, drop, get_or, drop_of_length-le}
 use lib.Bits.{bit_or}
-use lib.Seq.{get_or-drop}
 use Rattle.reader.specs.Text.{has_key}
 use Rattle.task_record.proofs.Rest.{drop_step}
 use Rattle.task_record.proofs.Tests.{or_none}
@@ -20,18 +19,9 @@ pub key_step : (key line : List ℕ) (i : ℕ) → i < length key → i < length
 unfolding has_key
 key_step key line i hk hl = rw (drop_step key i hk, drop_step line i hl)
 
-pub key_short : (key line : List ℕ) (i : ℕ) → i < length key → length line ≤ i → has_key (drop i key) (drop i line) ≡ false
-unfolding has_key
-key_short key line i hk hl = rw (drop_step key i hk, drop_of_length-le line hl)
-
 pub key_end : (key line : List ℕ) (i : ℕ) → length key ≤ i → has_key (drop i key) (drop i line) ≡ true
 unfolding has_key
 key_end key line i h = rw (drop_of_length-le key h)
-
--- the same where the line stands in a text
-pub key_at_step : (key t : List ℕ) (at i : ℕ) → i < length key → at + i < length t
-    → has_key (drop i key) (drop i (drop at t)) ≡ (eqb (get_or t (at + i) 0) (get_or key i 0) && has_key (drop (i + 1) key) (drop (i + 1) (drop at t)))
-key_at_step key t at i hk hl = rw (← get_or-drop at t i 0) (key_step key (drop at t) i hk (simp length-drop (omega arith)))
 
 -- one byte more of a key is gathered, where d tells 0 if it is the same
 pub key_gather : (b d : ℕ) (same rest : Bool) → eqb d 0 ≡ same → (eqb b 0 && (same && rest)) ≡ (eqb (bit_or b d) 0 && rest)

@@ -1,16 +1,14 @@
--- Where a byte stands first, and the lines and pieces of a text by positions: the piece from a position on ends where the next separator stands.
+-- Where a byte stands first, and the first line or piece of a text: it ends where the next separator stands.
 -- Assumes nothing.
-use mathlib.Core.Path.{◌≡◌, refl, sym, ap, ◌∙◌}
+use mathlib.Core.Path.{◌≡◌, refl}
 use mathlib.Core.Bool.{Bool, true, false, cond}
 use mathlib.Core.List.{List, [], ◌∷◌}
-use Prim.Native.Nat.{ℕ, zero, suc, ◌+◌, ◌-◌, ◌≤◌, ◌<◌}
-use native.Mathlib.Nat.{not-suc-le-zero, lt_of_not-le}
-use native.Mathlib.Decide.{dec_le}
+use Prim.Native.Nat.{ℕ, zero, suc, ◌+◌, ◌≤◌, ◌<◌}
+use native.Mathlib.Nat.{not-suc-le-zero}
 use native.Mathlib.Omega.{arith}
-use lib.Dec.{leb, ltb, eqb, leb-suc-suc}
-use lib.ListN.{length, take, drop, get_or, length-drop, drop_of_length-le}
-use lib.Seq.{drop-drop}
-use borrow.Author.Tests.{lt-ltb, le-ltb, le-leb, lt-leb, eq-eqb, ne_eqb}
+use lib.Dec.{ltb, eqb, leb-suc-suc}
+use lib.ListN.{length, take, drop, get_or, drop_of_length-le}
+use borrow.Author.Tests.{lt-ltb, eq-eqb, ne_eqb}
 use Rattle.reader.specs.Text.{line_break, index_of, push, pieces, lines_of}
 use Rattle.task_record.proofs.Rest.{drop_step}
 
@@ -35,7 +33,7 @@ index_le b (x ∷ xs) = go (eqb x b) (index_le b xs)
     go true h = omega arith
     go false h = omega arith
 
-pieces_next : (b : ℕ) (t : List ℕ) → pieces b t ≡ take (index_of b t) t ∷ cond (ltb (index_of b t) (length t)) (pieces b (drop (suc (index_of b t)) t)) []
+pub pieces_next : (b : ℕ) (t : List ℕ) → pieces b t ≡ take (index_of b t) t ∷ cond (ltb (index_of b t) (length t)) (pieces b (drop (suc (index_of b t)) t)) []
 unfolding pieces index_of
 pieces_next b [] = refl
 pieces_next b (x ∷ xs) = go (eqb x b) (pieces_next b xs)
@@ -64,36 +62,9 @@ lines_cons x (y ∷ ys) = go (eqb x line_break) (lines_cons y ys)
     go true ih = refl
     go false ih = rw ih
 
--- the pieces from a position on: none past the end
-abbrev pub left : ℕ → ℕ → List ℕ → List (List ℕ)
-left b at s = cond (leb at (length s)) (pieces b (drop at s)) []
-
-pub left_end : (b at : ℕ) (s : List ℕ) → length s < at → left b at s ≡ []
-left_end b at s h = rw (lt-leb at (length s) h)
-
--- where the next piece starts, and whether it is there
-next_at : (at k : ℕ) (s : List ℕ) → drop (suc k) (drop at s) ≡ drop (at + k + 1) s
-next_at at k s =
-    let e : at + suc k ≡ at + k + 1 = omega arith in
-    drop-drop (suc k) at s ∙ ap (λ (n : ℕ). drop n s) e
-
-next_test : (at k n : ℕ) → at ≤ n → ltb k (n - at) ≡ leb (at + k + 1) n
-next_test at k n h = go (dec_le (at + k + 1) n)
-  where
-    go : Dec (at + k + 1 ≤ n) → ltb k (n - at) ≡ leb (at + k + 1) n
-    go (yes p) = lt-ltb k (n - at) (omega arith) ∙ sym (le-leb (at + k + 1) n p)
-    go (no p) = let q : n < at + k + 1 = lt_of_not-le p in le-ltb k (n - at) (omega arith) ∙ sym (lt-leb (at + k + 1) n q)
-
-pub left_next : (b at k : ℕ) (s : List ℕ) → at ≤ length s → k ≡ index_of b (drop at s) → left b at s ≡ take k (drop at s) ∷ left b (at + k + 1) s
-left_next b at k s h e =
-    rw (le-leb at (length s) h, pieces_next b (drop at s), ← e, length-drop at s, next_test at k (length s) h, next_at at k s)
-
-lines_list : (t : List ℕ) → 0 < length t → lines_of t ≡ take (index_of line_break t) t ∷ lines_of (drop (suc (index_of line_break t)) t)
+pub lines_list : (t : List ℕ) → 0 < length t → lines_of t ≡ take (index_of line_break t) t ∷ lines_of (drop (suc (index_of line_break t)) t)
 lines_list [] h = absurd (not-suc-le-zero h)
 lines_list (x ∷ xs) h = lines_cons x xs
-
-pub lines_next : (at k : ℕ) (s : List ℕ) → at < length s → k ≡ index_of line_break (drop at s) → lines_of (drop at s) ≡ take k (drop at s) ∷ lines_of (drop (at + k + 1) s)
-lines_next at k s h e = rw (lines_list (drop at s) (simp length-drop (omega arith)), ← e, next_at at k s)
 
 pub lines_none : lines_of [] ≡ []
 unfolding lines_of

@@ -40,11 +40,11 @@ unfolding all_unnamed
 fill_whole r e = sets_front r (replicate record_size 255) record_size (length-replicate {A = ℕ} record_size 255) (omega arith) ∙
     ap (λ (t : List ℕ). replicate record_size 255 ++ t) (drop_of_length-le r {i = record_size} (omega arith)) ∙ append-nil (replicate record_size 255)
 
--- one action fewer is left to clear
-pub clear_step : (m : ℕ) (r : List ℕ) → 0 < m → clear_actions m r ≡ clear_actions (m - 1) (set r (at_action (m - 1)) 0)
+-- one action more is cleared
+pub clear_step : (m : ℕ) (r : List ℕ) → set (clear_actions m r) (at_action m) 0 ≡ clear_actions (m + 1) r
 unfolding clear_actions
-clear_step m r h =
-    let e : m ≡ suc (m - 1) = omega arith in
+clear_step m r =
+    let e : suc m ≡ m + 1 = omega arith in
     ap (λ (k : ℕ). clear_actions k r) e
 
 pub clear_none : (r : List ℕ) → clear_actions 0 r ≡ r

@@ -9,4 +9,4 @@ all_unnamed = replicate record_size 255
 -- the outcome numbers of the first n actions are 0
 unfoldable pub clear_actions : ℕ → List ℕ → List ℕ
 clear_actions zero r = r
-clear_actions (suc m) r = clear_actions m (set r (at_action m) 0)
+clear_actions (suc m) r = set (clear_actions m r) (at_action m) 0

@@ -14,9 +14,7 @@ pub type Record = [u8; RECORD_SIZE];
 fn clear_actions(r: &mut [u8], n: u8)
     ensures { r.new ≡ clear_actions n r.old }
 {
-    let mut m = n;
-    while 0 < m {
-        m = m - 1;
+    for m in 0..n {
         put(r, at_action(m), 0);
     }
 }

@@ -170,16 +170,15 @@ pub(crate) fn read_list(rec: &[u8], kind: Kind, text: &[u8]) -> Gathered
             return gathered;
         }
     }
-    let mut at = 0;
-    while at <= text.len() {
-        let rest = &text[at..];
-        let next = gathered.next;
-        let item = first_item(kind, next, rest);
-        let k = item.len;
+    let mut rest = text;
+    loop {
+        let item = first_item(kind, gathered.next, rest);
         gathered.add(rec, item.pair);
-        at = at + k + 1;
+        if rest.len() <= item.len {
+            return gathered;
+        }
+        rest = &rest[item.len + 1..];
     }
-    gathered
 }
 
 // Whether a list of values has one for each of n variables.

@@ -1,5 +1,5 @@
 // Where a text is parted, and whether it begins with a key that it has room for. Assumes nothing else.
-ghost use Rattle.std.specs.Prelude.{◌≡◌, ◌≤◌, eqb, length};
+ghost use Rattle.std.specs.Prelude.{◌≡◌, ◌+◌, ◌≤◌, eqb, length, take, drop};
 ghost use Rattle.reader.specs.Text.{index_of, index_of_either, has_key};
 
 pub const LINE_BREAK: u8 = b'\n';
@@ -18,6 +18,17 @@ pub(crate) fn find(s: &[u8], b: u8) -> usize
         }
     }
     s.len()
+}
+
+// A text up to the first b, and what stands behind that b.
+pub(crate) fn cut(s: &[u8], b: u8) -> (&[u8], &[u8])
+    ensures { (result.0.now ≡ take (index_of b s.now) s.now) × (result.1.now ≡ drop (index_of b s.now + 1) s.now) }
+{
+    let k = find(s, b);
+    if k < s.len() {
+        return (&s[..k], &s[k + 1..]);
+    }
+    (s, &s[s.len()..])
 }
 
 // The index of the first a or b, or the length where there is neither.

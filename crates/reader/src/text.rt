@@ -8,7 +8,7 @@ ghost use Rattle.reader.specs.Answers.{read_numbers, text_by_lines};
 use crate::blank::{Record, clear_record};
 use crate::grammar::take_line;
 use crate::order::{Due, is_end};
-use crate::pieces::{LINE_BREAK, find};
+use crate::pieces::{LINE_BREAK, cut};
 use crate::quick_text::is_good;
 use crate::store::{fill, put_cells};
 use task_record::layout::{RECORD_SIZE, UNNAMED};
@@ -20,11 +20,10 @@ fn read_lines(text: &[u8], rec: &mut [u8]) -> Result<(), Refusal>
 {
     let mut due = Due::Vars;
     let mut line: u64 = 1;
-    let mut at = 0;
-    while at < text.len() {
-        let rest = &text[at..];
-        let k = find(rest, LINE_BREAK);
-        match take_line(rec, due, &rest[..k]) {
+    let mut rest = text;
+    while rest.len() > 0 {
+        let (first, after) = cut(rest, LINE_BREAK);
+        match take_line(rec, due, first) {
             Err(fault) => {
                 return Err(fault.at(line));
             }
@@ -33,7 +32,7 @@ fn read_lines(text: &[u8], rec: &mut [u8]) -> Result<(), Refusal>
             }
         }
         line += 1;
-        at = at + k + 1;
+        rest = after;
     }
     if is_end(due) {
         return Ok(());

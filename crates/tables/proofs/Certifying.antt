@@ -1,15 +1,16 @@
 -- Laws for the loops of the test of a table: sets that are gathered one action at a time, what a guess gives, and one turn and the end of
 -- each loop. Assumes nothing.
-use Rattle.std.proofs.Common.{◌≡◌, ℕ, suc, ◌+◌, ◌-◌, ◌*◌, ◌%◌, ◌^◌, ◌<◌, ◌≤◌, Bool, true, false, cond, not, ◌⊎◌, List, length, get_or, sym, refl, ap, ◌∙◌, ⊎_elim, pow-suc, add-one, arith}
+use Rattle.std.proofs.Common.{◌≡◌, ℕ, ◌+◌, ◌-◌, ◌<◌, ◌≤◌, Bool, true, false, not, ◌⊎◌, List, length, get_or, sym, ap, ◌∙◌, ⊎_elim, arith}
 use native.Mathlib.Decide.{dec_lt}
-use native.Mathlib.Nat.{pow-le-pow_right}
-use lib.Bits.{bit_and, bit_or, and_le_r}
+use lib.Bits.{bit_and, and_le_r}
 use lib.Count.{count_trailing_zeros}
 use Rattle.planning.proofs.Test.{T_true, false_not_T, and_l}
+use Rattle.tables.specs.declared.certify.Verdict.{Verdict}
+use Rattle.tables.specs.declared.certify.Verdict.TheVariants.{Less, Same, More}
 use Rattle.tables.specs.Sets.{set_from}
 use Rattle.tables.specs.Steps.{Space, weigh, is_goal, permitted, idles, raised, Below, offer}
 use Rattle.tables.specs.Certified.{Attained, Exact, Indexed, counts, Judged, Said, Certified}
-use Rattle.tables.proofs.SetWords.{set_meet, set_more, Left, left_all, Next, next_left, none_left}
+use Rattle.tables.proofs.SetWords.{set_meet, Left, left_all, Next, next_left, none_left}
 use Rattle.tables.proofs.Settled.{inside}
 use Rattle.tables.proofs.Sweeping.{raised_high, below_raised, false_true}
 
@@ -22,17 +23,17 @@ pub set-falls : (w : ℕ) → (w ≡ 0 → ⊥) → bit_and w (w - 1) < w
 set-falls w h = let l = and_le_r w (w - 1) in omega arith
 
 -- What an action says, judged. A limit that is reached by the largest entry is reached by what the action says of the state.
-pub judged_high : (e w x v : ℕ) → e ≤ 65535 → Below e x v → e ≤ v → Judged (raised w x) e 2
-judged_high e w x v b h l = let q = below_raised e w x v b h in let z = raised_high e w v b l in record { equal = λ u. absurd (omega arith); enough = λ u. q.enough z }
+pub judged_high : (e w x v : ℕ) → e ≤ 65535 → Below e x v → e ≤ v → Judged (raised w x) e More
+judged_high e w x v b h l = let q = below_raised e w x v b h in let z = raised_high e w v b l in record { equal = λ u. let n : ◌≡◌ {A = ℕ} 0 1 = cc in absurd (omega arith); enough = λ u. q.enough z }
 
-pub judged_equal : (e w x v r : ℕ) → Below e x v → v < e → r ≡ raised w v → r ≡ e → Judged (raised w x) e 1
+pub judged_equal : (e w x v r : ℕ) → Below e x v → v < e → r ≡ raised w v → r ≡ e → Judged (raised w x) e Same
 judged_equal e w x v r h l q z = let s : raised w x ≡ e = sym (ap (raised w) (h.exact l)) ∙ sym q ∙ z in record { equal = λ u. s; enough = λ u. omega arith }
 
-pub judged_less : (u e : ℕ) → Judged u e 0
-judged_less u e = record { equal = λ q. absurd (omega arith); enough = λ q. absurd (omega arith) }
+pub judged_less : (u e : ℕ) → Judged u e Less
+judged_less u e = record { equal = λ q. let n : ◌≡◌ {A = ℕ} 0 1 = cc in absurd (omega arith); enough = λ q. absurd (q (λ i. Less)) }
 
-pub judged_more : (e w x v r : ℕ) → Below e x v → v < e → r ≡ raised w v → e ≤ r → Judged (raised w x) e 2
-judged_more e w x v r h l q z = let s : raised w x ≡ r = sym (ap (raised w) (h.exact l)) ∙ sym q in record { equal = λ u. absurd (omega arith); enough = λ u. omega arith }
+pub judged_more : (e w x v r : ℕ) → Below e x v → v < e → r ≡ raised w v → e ≤ r → Judged (raised w x) e More
+judged_more e w x v r h l q z = let s : raised w x ≡ r = sym (ap (raised w) (h.exact l)) ∙ sym q in record { equal = λ u. let n : ◌≡◌ {A = ℕ} 0 1 = cc in absurd (omega arith); enough = λ u. omega arith }
 
 -- The actions of a set were judged as far as it was run through, and whether one said the entry itself.
 pub record Judging (x : Space) (t : List ℕ) (s e rest : ℕ) (attained : Bool) : Type 0 where
@@ -60,15 +61,15 @@ module _ (x : Space) (t : List ℕ) (s e rest : ℕ) (attained : Bool) (few : x.
     pub judged_known : count_trailing_zeros 64 rest < x.actions
     judged_known = here.within
 
-    low_next : (v : ℕ) → Judged (said (count_trailing_zeros 64 rest)) e v → (v ≡ 0 → ⊥) → (m : ℕ) → m < count_trailing_zeros 64 rest + 1 → counts x.task x.mask s m ≡ true → e ≤ said m
+    low_next : (v : Verdict) → Judged (said (count_trailing_zeros 64 rest)) e v → (v ≡ Less → ⊥) → (m : ℕ) → m < count_trailing_zeros 64 rest + 1 → counts x.task x.mask s m ≡ true → e ≤ said m
     low_next v h z m l q = either (dec_lt m j.from) (dec_lt m (count_trailing_zeros 64 rest))
       where
         either : Dec (m < j.from) → Dec (m < count_trailing_zeros 64 rest) → e ≤ said m
         either (yes a) b = j.low m a q
         either (no a) (yes b) = absurd (false_not_T (here.first m (omega arith) b) (rw q tt))
-        either (no a) (no b) = let y : m ≡ count_trailing_zeros 64 rest = omega arith in rw y (h.enough (omega arith))
+        either (no a) (no b) = let y : m ≡ count_trailing_zeros 64 rest = omega arith in rw y (h.enough z)
 
-    attained_here : (v : ℕ) → Judged (said (count_trailing_zeros 64 rest)) e v → v ≡ 1 → Attained x t s e
+    attained_here : (v : Verdict) → Judged (said (count_trailing_zeros 64 rest)) e v → v ≡ Same → Attained x t s e
     unfolding counts
     attained_here v h z = record {
       action = count_trailing_zeros 64 rest;
@@ -77,7 +78,7 @@ module _ (x : Space) (t : List ℕ) (s e rest : ℕ) (attained : Bool) (few : x.
       said = h.equal z;
     }
 
-    pub judging_next : (v : ℕ) → Judged (said (count_trailing_zeros 64 rest)) e v → (v ≡ 0 → ⊥) → (now : Bool) → (now ≡ true → (v ≡ 1) ⊎ (attained ≡ true)) → Judging x t s e (bit_and rest (rest - 1)) now
+    pub judging_next : (v : Verdict) → Judged (said (count_trailing_zeros 64 rest)) e v → (v ≡ Less → ⊥) → (now : Bool) → (now ≡ true → (v ≡ Same) ⊎ (attained ≡ true)) → Judging x t s e (bit_and rest (rest - 1)) now
     judging_next v h z now w = record {
       from = count_trailing_zeros 64 rest + 1;
       left = here.left;
@@ -86,7 +87,7 @@ module _ (x : Space) (t : List ℕ) (s e rest : ℕ) (attained : Bool) (few : x.
     }
 
     -- An entry of at most 1 is settled by the first action that says it.
-    pub judging_hit : (v : ℕ) → Judged (said (count_trailing_zeros 64 rest)) e v → v ≡ 1 → e ≤ 1 → Said x t s e
+    pub judging_hit : (v : Verdict) → Judged (said (count_trailing_zeros 64 rest)) e v → v ≡ Same → e ≤ 1 → Said x t s e
     judging_hit v h z l = record { least = λ q. absurd (omega arith); attained = λ n. attained_here v h z }
 
   pub judging_end : rest ≡ 0 → attained ≡ true → Said x t s e

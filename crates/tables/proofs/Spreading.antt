@@ -142,26 +142,17 @@ module _ (r : List ℕ) (p : ℕ) (l : pattern_count r ≤ p) where
   unfolding states_named
   no_states = rw (le-ltb p (pattern_count r) l)
 
--- What the call says in numbers, and what it answers once it is known which case it is.
-module _ (r : List ℕ) (p : ℕ) (tabs row : List ℕ) where
-  abbrev judged : Result ℕ Refusal
-  judged = cond (ltb (length row) row_size) (Err (ShortRow (length row))) (Ok (states_named r p))
+-- What the call says in numbers.
+pub spread_told : (r : List ℕ) (p lent row : ℕ) → spread_by_lines r p lent row ≡ spread_numbers (table_spread r p lent row)
+unfolding spread_by_lines short_row refused_if
+spread_told r p lent row = let f = (λ (n : ℕ). answered 0 n 0 0) in let tables = judge_tables (task_of r).sizes (patterns_of r) lent in
+    let judged : Result ℕ Refusal = cond (ltb row row_size) (Err (ShortRow row)) (Ok (states_named r p)) in
+    sym (ap (answer_numbers f) (after_after (record_check r) (λ u. tables) (λ n. judged))
+    ∙ after_record_lem f r (λ u. after tables (λ n. judged))
+    ∙ ap (λ t. short_record r (bad_cell r t)) (after_tables_lem f r lent (λ n. judged)
+    ∙ ap (λ t. large_pattern r (short_tables r lent t)) (told_alone f judged
+    ∙ line-told f (ltb row row_size) (ShortRow row) (Ok (states_named r p)) (λ n. Ok n) _ refl)))
 
-  pub spread_told : spread_numbers (table_spread r p (length tabs) (length row)) ≡ spread_by_lines r p (length tabs) (length row)
-  unfolding spread_by_lines short_row refused_if
-  spread_told = let f = (λ (n : ℕ). answered 0 n 0 0) in let tables = judge_tables (task_of r).sizes (patterns_of r) (length tabs) in
-      ap (answer_numbers f) (after_after (record_check r) (λ u. tables) (λ n. judged))
-      ∙ after_record_lem f r (λ u. after tables (λ n. judged))
-      ∙ ap (λ t. short_record r (bad_cell r t)) (after_tables_lem f r (length tabs) (λ n. judged)
-      ∙ ap (λ t. large_pattern r (short_tables r (length tabs) t)) (told_alone f judged
-      ∙ line-told f (ltb (length row) row_size) (ShortRow (length row)) (Ok (states_named r p)) (λ n. Ok n) _ refl))
-
-  -- The three cases: refused by the tables' own checks, by the row, and counted.
-  pub refused-tables : (refused : Refusal) → table_check r (length tabs) ≡ Err refused → Err refused ≡ table_spread r p (length tabs) (length row)
-  refused-tables refused h = sym (ap (λ t. after t (λ n. judged)) h)
-
-  pub refused_row : (n : ℕ) → table_check r (length tabs) ≡ Ok n → length row < row_size → Err (ShortRow (length row)) ≡ table_spread r p (length tabs) (length row)
-  refused_row n h l = sym (ap (λ t. after t (λ n. judged)) h ∙ rw (lt-ltb (length row) row_size l))
-
-  pub counted_states : (n : ℕ) → table_check r (length tabs) ≡ Ok n → row_size ≤ length row → Ok (states_named r p) ≡ table_spread r p (length tabs) (length row)
-  counted_states n h l = sym (ap (λ t. after t (λ n. judged)) h ∙ rw (le-ltb (length row) row_size l))
+-- What it answers where nothing is refused.
+pub counted_states : (r : List ℕ) (p lent row n : ℕ) → table_check r lent ≡ Ok n → row_size ≤ row → Ok (states_named r p) ≡ table_spread r p lent row
+counted_states r p lent row n h l = sym (ap (λ t. after t (λ n. cond (ltb row row_size) (Err (ShortRow row)) (Ok (states_named r p)))) h ∙ rw (le-ltb row row_size l))

@@ -77,6 +77,9 @@ worst-more f o n most l h v = let e = worst_step f o n l in omega arith
 pub worst_same : (f : ℕ → ℕ) (o n most : ℕ) → o < n → f o ≤ most → worst f 0 n ≡ max most (worst f o (n - o)) → worst f 0 n ≡ max most (worst f (o + 1) (n - (o + 1)))
 worst_same f o n most l h v = let e = worst_step f o n l in omega arith
 
+pub worst_next : (f : ℕ → ℕ) (o n most : ℕ) → o < n → worst f 0 n ≡ max most (worst f o (n - o)) → worst f 0 n ≡ max (max most (f o)) (worst f (o + 1) (n - (o + 1)))
+worst_next f o n most l v = let e = worst_step f o n l in omega arith
+
 pub worst-start : (f : ℕ → ℕ) (n : ℕ) → worst f 0 n ≡ max 0 (worst f 0 (n - 0))
 worst-start f n = let e : n - 0 ≡ n = omega arith in rw e (omega arith)
 

@@ -1,5 +1,7 @@
 -- Entries that say of each other what they are: the test of a table that was made in any way. Assumes nothing.
 use Rattle.std.specs.Prelude.{◌≡◌, ℕ, ◌<◌, ◌≤◌, Bool, true, false, not, ◌&&◌, List, length, ◌≢◌, slice_index}
+use Rattle.tables.specs.declared.certify.Verdict.{Verdict}
+use Rattle.tables.specs.declared.certify.Verdict.TheVariants.{Less, Same}
 use Rattle.tables.specs.Sets.{set_from, SetsOf, spread, meet_from}
 use Rattle.tables.specs.Steps.{Space, weigh, is_goal, permitted, idles, offer, started, Settled}
 
@@ -34,10 +36,10 @@ counts a k s m = permitted a k m s && not (idles a k m)
 pub record Lookable (task : List ℕ) (mask actions bytes : ℕ) : Type 0 where
   pub found : (sets : List ℕ) → SetsOf task mask actions (spread bytes) sets → (s : ℕ) → meet_from sets 0 (spread bytes) s ≡ set_from (λ m. permitted task mask m s) 0 actions
 
--- What is said of an entry e by an action that says v: 0 if less, 1 if e itself, else 2.
-pub record Judged (v e verdict : ℕ) : Type 0 where
-  pub equal : verdict ≡ 1 → v ≡ e
-  pub enough : 1 ≤ verdict → e ≤ v
+-- What is said of an entry e by an action that says v: less, e itself, or more.
+pub record Judged (v e : ℕ) (verdict : Verdict) : Type 0 where
+  pub equal : verdict ≡ Same → v ≡ e
+  pub enough : (verdict ≢ Less) → e ≤ v
 
 -- What the actions say of entry e of a state that is no goal.
 pub record Said (x : Space) (t : List ℕ) (s e : ℕ) : Type 0 where

@@ -6,6 +6,7 @@ pub mod Packable
 pub mod Sets
 pub mod Steps
 pub mod Certified
+pub mod Spaces
 pub mod Waiting
 pub mod Queue
 pub mod Edges

@@ -1,130 +1,154 @@
 // The test of a table that was made in any way: whether each entry is what the entries say of it. Then it is the table of the pattern.
 ghost use Rattle.std.specs.Prelude.{◌≡◌, ℕ, ◌+◌, ◌*◌, ◌<◌, ◌≤◌, true, not, length, slice_index};
-ghost use Rattle.tables.specs.Packed.{outcome_count};
 ghost use Rattle.tables.specs.Sets.{set_from, SetsOf, spread};
-ghost use Rattle.tables.specs.Steps.{space, idles, worst, outcome_entry, offer, Below, Readable};
-ghost use Rattle.tables.specs.Certified.{Indexed, Lookable, counts, Judged, Said, Exact, Certified};
+ghost use Rattle.tables.specs.Spaces.{space_of};
+ghost use Rattle.tables.specs.Steps.{offer};
+ghost use Rattle.tables.specs.Certified.{Lookable, counts, Judged, Said, Exact, Certified};
 
 use crate::applying::{applying, fill_sets};
-use crate::sweep::{at_goal, entry_at, index_of, raise, state_after, times, wide};
+use crate::places::variables;
+use crate::space::Space;
+use crate::sweep::{at_goal, index_of, raise, worst_entry};
 
-// The entry of the state after outcome o. Its index is guessed, and the guess is right if the state's word stands there.
-fn entry_after(
-    task: &[u64; 1282],
-    mask: u64,
-    weights: &[u16; 16],
-    states: &[u64],
-    entries: &[u16],
-    m: usize,
-    o: usize,
-    s: u64,
-    guess: usize,
-) -> u16
-    requires { (m < 64) × (o < 8) × (Indexed weights.now states.now (length entries.now)) }
-    ensures { result ≡ outcome_entry task.now mask weights.now entries.now m s o }
-{
-    let z = state_after(task, mask, m, o, s);
-    if guess < entries.len() {
-        if states[guess] == z {
-            return entries[guess];
-        }
-    }
-    entry_at(entries, index_of(weights, z))
+// A digit that may have any value, by the weight of its variable and its lowest bit.
+#[derive(Clone, Copy)]
+struct Digit {
+    weight: u16,
+    bit: u8,
 }
 
-// The largest entry after action m, as far as it is below a limit.
-fn worst_after(
-    task: &[u64; 1282],
-    mask: u64,
-    weights: &[u16; 16],
-    states: &[u64],
-    entries: &[u16],
-    steps: &[u64; 512],
-    m: usize,
-    i: usize,
-    s: u64,
-    limit: u16,
-) -> u16
-    requires { (m < 64) × (i < 4096) × (outcome_count task.now m ≤ 8) × (Indexed weights.now states.now (length entries.now)) }
-    ensures { Below limit (worst (outcome_entry task.now mask weights.now entries.now m s) 0 (outcome_count task.now m)) result }
-{
-    let n = task[20 * m + 2] as usize;
-    let mut most = 0u16;
-    let mut o = 0usize;
-    while o < n {
-        let guess = guess_of(steps[8 * m + o], i, s);
-        let e = entry_after(task, mask, weights, states, entries, m, o, s, guess);
-        if e >= limit {
-            return e;
+impl Digit {
+    const NONE: Digit = Digit { weight: 0, bit: 0 };
+
+    fn new(weights: &[u16; 16], bit: Option<usize>) -> Digit {
+        match bit {
+            None => Digit::NONE,
+            Some(b) => Digit {
+                weight: weights[b / 4 % 16],
+                bit: (b % 64) as u8,
+            },
         }
-        if most < e {
-            most = e;
-        }
-        o += 1;
     }
-    most
+
+    // What its value in a word adds to the index.
+    fn part(self, s: u64) -> u16 {
+        let value = (s >> (self.bit % 64)) % 16;
+        (value as u16).wrapping_mul(self.weight)
+    }
 }
 
-// What action m says of entry e: 0 if it says less, 1 if e itself, else 2.
-fn judge(
-    task: &[u64; 1282],
-    mask: u64,
-    weights: &[u16; 16],
-    states: &[u64],
-    entries: &[u16],
-    steps: &[u64; 512],
-    m: usize,
-    i: usize,
-    s: u64,
-    e: u16,
-) -> u8
-    requires { (m < 64) × (i < 4096) × (outcome_count task.now m ≤ 8) × (Indexed weights.now states.now (length entries.now)) }
-    ensures { Judged (offer task.now mask weights.now entries.now m s) e result }
+// How the index changes with an outcome: by a number, less the parts of at most two digits that it sets and that may have had any value. More digits
+// make it a bad guess.
+#[derive(Clone, Copy)]
+struct Step {
+    number: u16,
+    one: Digit,
+    two: Digit,
+}
+
+impl Step {
+    const NONE: Step = Step {
+        number: 0,
+        one: Digit::NONE,
+        two: Digit::NONE,
+    };
+
+    // The step of outcome o of action m.
+    fn new(task: &[u64; 1282], mask: u64, weights: &[u16; 16], m: usize, o: usize) -> Step
+        requires { (m < 64) × (o < 8) }
+    {
+        let named = mask & !task[20 * m + 4 + 2 * o];
+        let to = index_of(weights, task[20 * m + 5 + 2 * o] & mask);
+        let from = index_of(weights, task[20 * m + 1] & named);
+        let mut free = variables(named & !task[20 * m]);
+        Step {
+            number: ((to % 65536) as u16).wrapping_sub((from % 65536) as u16),
+            one: Digit::new(weights, free.next()),
+            two: Digit::new(weights, free.next()),
+        }
+    }
+
+    // Where the outcome is likely to lead from state i of word s.
+    fn guess(self, i: usize, s: u64) -> usize {
+        let to = ((i % 65536) as u16).wrapping_add(self.number);
+        if self.one.weight == 0 {
+            return usize::from(to);
+        }
+        usize::from(
+            to.wrapping_sub(self.one.part(s))
+                .wrapping_sub(self.two.part(s)),
+        )
+    }
+}
+
+// The steps of the outcomes of every action that counts.
+fn fill_steps(x: &Space<'_>, steps: &mut [[Step; 8]; 64]) {
+    for m in 0..x.actions {
+        if (x.live >> m) % 2 == 1 {
+            for o in 0..x.task[20 * m + 2] as usize {
+                steps[m][o] = Step::new(x.task, x.mask, x.weights, m, o);
+            }
+        }
+    }
+}
+
+// A table that is tested, and the steps of the outcomes.
+#[derive(Clone, Copy)]
+struct Trial<'a> {
+    space: &'a Space<'a>,
+    entries: &'a [u16],
+    steps: &'a [[Step; 8]; 64],
+    ghost long: { length entries.now ≡ space.now.count },
+}
+
+// What an action says of an entry: less, the entry itself, or more.
+#[derive(Clone, Copy, PartialEq, Eq)]
+pub(crate) enum Verdict {
+    Less,
+    Same,
+    More,
+}
+
+// What action m says of entry e.
+fn judge(t: &Trial<'_>, m: usize, i: usize, s: u64, e: u16) -> Verdict
+    requires { m < t.now.space.now.actions }
+    ensures { Judged (offer t.now.space.now.task.now t.now.space.now.mask t.now.space.now.weights.now t.now.entries.now m s) e result }
 {
-    let v = worst_after(task, mask, weights, states, entries, steps, m, i, s, e);
+    let steps = &t.steps[m];
+    let guess = |o: usize| steps[o % 8].guess(i, s);
+    let v = worst_entry(t.space, t.entries, m, s, e, guess);
     if v >= e {
-        return 2;
+        return Verdict::More;
     }
-    let said = raise(task[20 * m + 3], v);
+    let said = raise(t.space.task[20 * m + 3], v);
     if said < e {
-        return 0;
+        return Verdict::Less;
     }
     if said == e {
-        return 1;
+        return Verdict::Same;
     }
-    2
+    Verdict::More
 }
 
 // Whether entry e of state i, no goal, is what the actions of a set say of it. What is at most 1 is the least that an action can say.
-fn is_said(
-    task: &[u64; 1282],
-    mask: u64,
-    weights: &[u16; 16],
-    states: &[u64],
-    entries: &[u16],
-    steps: &[u64; 512],
-    actions: usize,
-    set: u64,
-    i: usize,
-    s: u64,
-    e: u16,
-) -> bool
-    requires { (Readable task.now actions) × (i < 4096) × (Indexed weights.now states.now (length entries.now)) × (set ≡ set_from (counts task.now mask s) 0 actions) }
-    ensures { result ≡ true → Said (space task.now mask weights.now states.now actions) entries.now s e }
+// Stays: a `for` over `Members` is no plainer to prove, since the loop's fact is one about what is left of the set.
+fn is_said(t: &Trial<'_>, set: u64, i: usize, s: u64, e: u16) -> bool
+    requires { set ≡ set_from (counts t.now.space.now.task.now t.now.space.now.mask s) 0 t.now.space.now.actions }
+    ensures { result ≡ true → Said (space_of t.now.space.now) t.now.entries.now s e }
 {
     let mut rest = set;
     let mut attained = e == 65535;
     while rest != 0 {
         let m = u64::trailing_zeros(rest) as usize;
-        let verdict = judge(task, mask, weights, states, entries, steps, m, i, s, e);
-        if verdict == 0 {
-            return false;
-        }
-        if verdict == 1 {
-            if e <= 1 {
-                return true;
+        match judge(t, m, i, s, e) {
+            Verdict::Less => return false,
+            Verdict::Same => {
+                if e <= 1 {
+                    return true;
+                }
+                attained = true;
             }
-            attained = true;
+            Verdict::More => {}
         }
         rest = rest & (rest - 1);
     }
@@ -132,141 +156,37 @@ fn is_said(
 }
 
 // Whether entry i is what the entries say of it.
-fn is_exact(
-    task: &[u64; 1282],
-    mask: u64,
-    weights: &[u16; 16],
-    states: &[u64],
-    entries: &[u16],
-    steps: &[u64; 512],
-    actions: usize,
-    live: u64,
-    sets: &[u64; 2048],
-    bytes: usize,
-    i: usize,
-) -> bool
-    requires { (Readable task.now actions) × (live ≡ set_from (λ m. not (idles task.now mask m)) 0 actions) × (SetsOf task.now mask actions (spread bytes) sets.now) × (Lookable task.now mask actions bytes) × (i < length entries.now) × (length entries.now ≤ 4096) × (Indexed weights.now states.now (length entries.now)) }
-    ensures { result ≡ true → Exact (space task.now mask weights.now states.now actions) entries.now (slice_index states.now i) (slice_index entries.now i) }
+fn is_exact(t: &Trial<'_>, sets: &[u64; 2048], bytes: usize, i: usize) -> bool
+    requires { (SetsOf t.now.space.now.task.now t.now.space.now.mask t.now.space.now.actions (spread bytes) sets.now) × (Lookable t.now.space.now.task.now t.now.space.now.mask t.now.space.now.actions bytes) × (i < t.now.space.now.count) }
+    ensures { result ≡ true → Exact (space_of t.now.space.now) t.now.entries.now (slice_index t.now.space.now.states.now i) (slice_index t.now.entries.now i) }
 {
-    let s = states[i];
-    let e = entries[i];
-    if at_goal(task, mask, s) {
+    let s = t.space.states[i];
+    let e = t.entries[i];
+    if at_goal(t.space.task, t.space.mask, s) {
         return e == 0;
     }
-    let set = applying(sets, s, bytes) & live;
-    is_said(
-        task, mask, weights, states, entries, steps, actions, set, i, s, e,
-    )
-}
-
-// The lowest digit in a set of digits, given by their lowest bits: how far it is shifted in a word, times 2 ^ 32, and its weight.
-fn free_digit(weights: &[u16; 16], digits: u64) -> usize
-    ensures { result < 274877906944 }
-{
-    if digits == 0 {
-        return 0;
-    }
-    let shift = (u64::trailing_zeros(digits) % 64) as usize;
-    shift * 4294967296 + wide(weights[shift / 4])
-}
-
-// How the index changes with outcome o: by a number, less the weights of at most two digits that it sets and that may have had any value.
-// In one word: 16 bits for the number, 16 for each weight, 6 for each digit's place. More digits make it a bad guess.
-fn step_of(task: &[u64; 1282], mask: u64, weights: &[u16; 16], m: usize, o: usize) -> u64
-    requires { (m < 64) × (o < 8) }
-{
-    let named = mask ^ (task[20 * m + 4 + 2 * o] & mask);
-    let to = index_of(weights, task[20 * m + 5 + 2 * o] & mask) % 65536;
-    let from = index_of(weights, task[20 * m + 1] & named) % 65536;
-    let free = (named ^ (named & task[20 * m])) & 1229782938247303441;
-    let one = free_digit(weights, free);
-    let two = free_digit(weights, free & std::num::wrapping_sub_u64(free, 1));
-    let number = (to + 65536 - from) % 65536 + one % 65536 * 65536 + two % 65536 * 4294967296;
-    (number
-        + one / 4294967296 % 64 * 281474976710656
-        + two / 4294967296 % 64 * 18014398509481984) as u64
-}
-
-// Where an outcome is likely to lead from state i of word s.
-fn guess_of(step: u64, i: usize, s: u64) -> usize
-    requires { i < 4096 }
-{
-    if step < 65536 {
-        return (i + step as usize) % 65536;
-    }
-    let one = times(
-        (s >> (step / 281474976710656 % 64)) % 16,
-        (step / 65536 % 65536) as u16,
-    );
-    let to = i + (step % 65536) as usize + 2097152 - one;
-    let weight = (step / 4294967296 % 65536) as u16;
-    if weight == 0 {
-        return to % 65536;
-    }
-    let two = times((s >> (step / 18014398509481984 % 64)) % 16, weight);
-    (to - two) % 65536
-}
-
-// The steps of action m.
-fn put_steps(task: &[u64; 1282], mask: u64, weights: &[u16; 16], m: usize, steps: &mut [u64; 512])
-    requires { (m < 64) × (outcome_count task.now m ≤ 8) }
-{
-    let n = task[20 * m + 2] as usize;
-    let mut o = 0usize;
-    while o < n {
-        steps[8 * m + o] = step_of(task, mask, weights, m, o);
-        o += 1;
-    }
-}
-
-// The steps of the actions in a set.
-fn fill_steps(
-    task: &[u64; 1282],
-    mask: u64,
-    weights: &[u16; 16],
-    actions: usize,
-    set: u64,
-    steps: &mut [u64; 512],
-)
-    requires { Readable task.now actions }
-{
-    let mut rest = set;
-    let mut m = 0usize;
-    while m < actions {
-        if rest % 2 == 1 {
-            put_steps(task, mask, weights, m, steps);
-        }
-        rest = rest / 2;
-        m += 1;
-    }
+    let set = applying(sets, s, bytes) & t.space.live;
+    is_said(t, set, i, s, e)
 }
 
 // Whether every entry is what the entries say of it.
-pub(crate) fn is_certified(
-    task: &[u64; 1282],
-    mask: u64,
-    weights: &[u16; 16],
-    states: &[u64],
-    actions: usize,
-    live: u64,
-    bytes: usize,
-    entries: &[u16],
-) -> bool
-    requires { (Readable task.now actions) × (live ≡ set_from (λ m. not (idles task.now mask m)) 0 actions) × (Lookable task.now mask actions bytes) × (length entries.now ≤ 4096) × (Indexed weights.now states.now (length entries.now)) }
-    ensures { result ≡ true → Certified (space task.now mask weights.now states.now actions) entries.now }
+pub(crate) fn is_certified(x: &Space<'_>, bytes: usize, entries: &[u16]) -> bool
+    requires { (Lookable x.now.task.now x.now.mask x.now.actions bytes) × (length entries.now ≡ x.now.count) }
+    ensures { result ≡ true → Certified (space_of x.now) entries.now }
 {
-    let mut steps = [0u64; 512];
-    fill_steps(task, mask, weights, actions, live, &mut steps);
+    let mut steps = [[Step::NONE; 8]; 64];
+    fill_steps(x, &mut steps);
     let mut sets = [0u64; 2048];
-    fill_sets(task, mask, actions, bytes, &mut sets);
-    let mut i = 0usize;
-    while i < entries.len() {
-        if !is_exact(
-            task, mask, weights, states, entries, &steps, actions, live, &sets, bytes, i,
-        ) {
+    fill_sets(x.task, x.mask, x.actions, bytes, &mut sets);
+    let trial = Trial {
+        space: x,
+        entries,
+        steps: &steps,
+    };
+    for i in 0..entries.len() {
+        if !is_exact(&trial, &sets, bytes, i) {
             return false;
         }
-        i += 1;
     }
     true
 }

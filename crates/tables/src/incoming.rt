@@ -1,144 +1,190 @@
-// Which edges lead to a state: sets of edges by its lower and by its upper part, 64 edges to a word. The edges that lead to it are those in both
-// sets. For each 64 edges there is a row: the simple edges (those that lead from one state); from place 64 on the sets of the lower part, from
-// place 128 on those of the upper part.
-ghost use Rattle.std.specs.Prelude.{◌≡◌, ◌<◌, ◌≤◌, length};
+// Which edges lead to a state: sets of edges by its lower and by its upper part, 64 edges to a row. The edges that lead to it are those in both sets.
+use crate::edges::Edge;
+use crate::places::{Columns, at_or, product, put, variables};
 
-use crate::places::{
-    DIGITS, least, lowest, pick, product, put_word, size_in, without_lowest, word_at, word_if,
-};
-
-// An edge joins the sets of the values that it knows: `known` has them by variable and value, and then those of the edges that know the variable.
-fn join(known: &mut [u64; 272], digits: u64, values: u64, bit: u64) {
-    let mut rest = digits & DIGITS;
-    while rest != 0 {
-        let b = lowest(rest) % 64;
-        let at = (4 * b + ((values >> b) % 16) as usize) % 256;
-        known[at] = known[at] | bit;
-        known[256 + b / 4] = known[256 + b / 4] | bit;
-        rest = without_lowest(rest);
-    }
+// Sets of edges of one row: those that know a value of a variable, and those that know the variable.
+#[derive(Drop)]
+struct Known {
+    values: [[u64; 16]; 16],
+    variables: [u64; 16],
 }
 
-// The sets by variable and value for the edges from `first` on; answers those that are simple.
-fn join_all(edges: &[u64], first: usize, end: usize, known: &mut [u64; 272]) -> u64
-    requires { end ≤ 512 }
-{
-    let mut simple = 0u64;
-    let mut bit = 1u64;
-    let mut e = first;
-    while e < end {
-        join(
-            known,
-            word_at(edges, 4 * e + 1),
-            word_at(edges, 4 * e + 2),
-            bit,
-        );
-        simple = simple | word_if(word_at(edges, 4 * e + 3) == 0, bit);
-        bit = bit << 1;
-        e += 1;
-    }
-    simple
-}
-
-// The sets of one value more of a variable, from those of the states without it.
-fn copy_sets(sets: &mut [u64], from: usize, to: usize, len: usize, allowed: u64)
-    requires { (from ≤ 131072) × (to ≤ 33554432) × (len ≤ 65535) }
-    ensures { length sets.new ≡ length sets.old }
-{
-    let mut k = 0usize;
-    while k < len {
-        let held = word_at(sets, from + k);
-        put_word(sets, to + k, held & allowed);
-        k += 1;
-    }
-}
-
-// The sets of all values of a variable, those of value 0 last, since they take the place of what the others are made from.
-fn extend_sets(sets: &mut [u64], from: usize, len: usize, size: usize, known: &[u64; 272], v: usize)
-    requires { (from ≤ 131072) × (len ≤ 65535) × (size < 256) × (v < 16) }
-    ensures { length sets.new ≡ length sets.old }
-{
-    let unknown = known[256 + v] ^ 18446744073709551615;
-    let mut x = size;
-    while x > 0 {
-        x -= 1;
-        let allowed = known[16 * v + x % 16] | unknown;
-        copy_sets(sets, from, from + product(len, x), len, allowed);
-    }
-}
-
-// The sets of both parts in one row.
-fn multiply_out(sets: &mut [u64], row: usize, mask: u64, columns: &[u64; 18], known: &[u64; 272])
-    requires { row ≤ 32768 }
-    ensures { length sets.new ≡ length sets.old }
-{
-    let mut lower = 1usize;
-    let mut upper = 1usize;
-    let mut rest = mask & DIGITS;
-    while rest != 0 {
-        let b = lowest(rest) % 64;
-        let z = size_in(columns[b / 4]);
-        let is_lower = (columns[16] >> b) % 2 == 1;
-        let from = row + pick(is_lower, 64, 128);
-        extend_sets(sets, from, pick(is_lower, lower, upper), z, known, b / 4);
-        lower = pick(is_lower, product(lower, z), lower);
-        upper = pick(is_lower, upper, product(upper, z));
-        rest = without_lowest(rest);
-    }
-}
-
-// So many members.
-fn ones(n: usize) -> u64 {
-    if n >= 64 {
-        return 18446744073709551615;
-    }
-    std::num::wrapping_sub_u64(1u64 << n, 1)
-}
-
-// The row of the edges from `first` on.
-fn fill_row(
-    edges: &[u64],
-    first: usize,
-    end: usize,
-    mask: u64,
-    columns: &[u64; 18],
-    sets: &mut [u64],
-    row: usize,
-)
-    requires { (end ≤ 512) × (row ≤ 32768) }
-    ensures { length sets.new ≡ length sets.old }
-{
-    let mut known = [0u64; 272];
-    let simple = join_all(edges, first, end, &mut known);
-    let all = ones(std::num::wrapping_sub_usize(end, first));
-    put_word(sets, row, simple);
-    put_word(sets, row + 64, all);
-    put_word(sets, row + 128, all);
-    multiply_out(sets, row, mask, columns, &known);
-}
-
-// The rows of all edges, each `stride` words.
-pub(crate) fn fill_sets(
-    edges: &[u64],
-    count: usize,
-    mask: u64,
-    columns: &[u64; 18],
-    sets: &mut [u64],
-    stride: usize,
-)
-    requires { (count ≤ 512) × (stride ≤ 4096) }
-    ensures { length sets.new ≡ length sets.old }
-{
-    let mut row = 0usize;
-    let mut w = 0usize;
-    while w < 8 {
-        let first = 64 * w;
-        if first >= count {
-            return;
+impl Known {
+    // An edge joins the sets of the values that it knows.
+    fn join(&mut self, edge: &Edge, bit: u64) {
+        for b in variables(edge.digits) {
+            let v = b / 4 % 16;
+            let x = ((edge.values >> b % 64) % 16) as usize;
+            self.values[v][x] = self.values[v][x] | bit;
+            self.variables[v] = self.variables[v] | bit;
         }
-        let end = least(count, first + 64);
-        fill_row(edges, first, end, mask, columns, sets, row);
-        row += stride;
-        w += 1;
+    }
+
+    // The edges that may lead to a state with a value of a variable.
+    fn allowed(&self, v: usize, x: usize) -> u64 {
+        self.values[v % 16][x % 16] | !self.variables[v % 16]
+    }
+
+    // The sets of all values of a variable, from those of the first `len` states from `begin` on, without it: those of value 0 last, since they take
+    // the place of what the others are made from.
+    fn extend(&self, sets: &mut [u64], begin: usize, len: usize, size: u8, v: usize) {
+        for x in (0..usize::from(size)).rev() {
+            let allowed = self.allowed(v, x);
+            let to = begin.wrapping_add(len.wrapping_mul(x));
+            for k in 0..len {
+                let held = at_or(sets, begin.wrapping_add(k), 0);
+                put(sets, to.wrapping_add(k), held & allowed);
+            }
+        }
+    }
+}
+
+// 64 edges, and for each lower part the set of those that lead to a state with it.
+#[derive(Clone, Copy)]
+pub(crate) struct Row {
+    edges: [Edge; 64],
+    lower: [u64; 64],
+}
+
+impl Row {
+    pub(crate) const EMPTY: Row = Row {
+        edges: [Edge::NONE; 64],
+        lower: [0; 64],
+    };
+
+    pub(crate) fn edge(&self, b: usize) -> &Edge {
+        &self.edges[b % 64]
+    }
+
+    // The edges that lead to a state at a place, as far as its lower part tells.
+    pub(crate) fn lower_set(&self, place: u32) -> u64 {
+        self.lower[(place / 65536 % 64) as usize]
+    }
+
+    // The sets of the first `count` edges; those of the upper parts stand from `begin` on.
+    fn fill(
+        &mut self,
+        count: usize,
+        mask: u64,
+        columns: &Columns,
+        upper: &mut [u64],
+        begin: usize,
+    ) {
+        let mut known = Known {
+            values: [[0; 16]; 16],
+            variables: [0; 16],
+        };
+        let mut all = 0u64;
+        for (e, edge) in self.edges.iter().enumerate().take(count) {
+            known.join(edge, 1 << e);
+            all = all | 1 << e;
+        }
+        self.lower[0] = all;
+        put(upper, begin, all);
+        let mut low = 1usize;
+        let mut high = 1usize;
+        for b in variables(mask) {
+            let size = columns.at(b).size;
+            if columns.lower_of(15 << b % 64) != 0 {
+                known.extend(&mut self.lower, 0, low, size, b / 4);
+                low = product(low, size);
+            } else {
+                known.extend(upper, begin, high, size, b / 4);
+                high = product(high, size);
+            }
+        }
+    }
+}
+
+// Rows of edges and how many edges there are. For each row and each upper part the set of the edges that lead to a state with it, `stride` upper parts.
+// How many states there are, and how many actions with counters.
+#[derive(Drop)]
+pub(crate) struct Graph<'a> {
+    rows: &'a mut [Row],
+    edges: usize,
+    upper: &'a mut [u64],
+    stride: usize,
+    states: usize,
+    counted: usize,
+}
+
+impl<'a> Graph<'a> {
+    // Without edges.
+    pub(crate) fn new(
+        rows: &'a mut [Row],
+        upper: &'a mut [u64],
+        stride: usize,
+        states: usize,
+    ) -> Graph<'a> {
+        Graph {
+            rows,
+            edges: 0,
+            upper,
+            stride,
+            states,
+            counted: 0,
+        }
+    }
+
+    // One edge more. One for which there is no room is only counted.
+    pub(crate) fn add(&mut self, edge: Edge) {
+        let w = self.edges / 64;
+        if w < self.rows.len() {
+            self.rows[w].edges[self.edges % 64] = edge;
+        }
+        self.edges = self.edges.wrapping_add(1);
+    }
+
+    // Where the counters of one more action begin. Only one with several outcomes needs any.
+    pub(crate) fn add_counters(&mut self, outcomes: usize) -> u32 {
+        let begin = self.counters();
+        if outcomes > 1 {
+            self.counted = self.counted.wrapping_add(1);
+        }
+        (begin % 4294967296) as u32
+    }
+
+    // How many counters there are.
+    pub(crate) fn counters(&self) -> usize {
+        self.counted.wrapping_mul(self.states)
+    }
+
+    // How many rows have edges.
+    fn used(&self) -> usize {
+        self.edges / 64 + (self.edges % 64).min(1)
+    }
+
+    // Whether there is room for the edges and their sets.
+    pub(crate) fn fits(&self) -> bool {
+        self.used() <= self.rows.len() && self.used().wrapping_mul(self.stride) <= self.upper.len()
+    }
+
+    // The sets of all rows that have edges.
+    pub(crate) fn fill(&mut self, mask: u64, columns: &Columns) {
+        let edges = self.edges;
+        let used = self.used();
+        for (w, row) in self.rows.iter_mut().enumerate().take(used) {
+            let count = edges.saturating_sub(64usize.wrapping_mul(w));
+            row.fill(
+                count,
+                mask,
+                columns,
+                self.upper,
+                w.wrapping_mul(self.stride),
+            );
+        }
+    }
+
+    // The rows that have edges.
+    pub(crate) fn rows(&self) -> &[Row] {
+        &self.rows[..self.used().min(self.rows.len())]
+    }
+
+    // The edges of row w that lead to the state at a place, as far as its upper part tells.
+    pub(crate) fn upper_set(&self, w: usize, place: u32) -> u64 {
+        let at = w
+            .wrapping_mul(self.stride)
+            .wrapping_add((place / 4194304) as usize);
+        at_or(self.upper, at, 0)
     }
 }

@@ -20,6 +20,7 @@ mod proved_worklist;
 mod queue;
 mod ranking;
 pub mod record_tables;
+mod space;
 pub mod spread;
 mod sweep;
 mod visits;

@@ -1,173 +1,158 @@
-// Lists of offsets: for a set of variables, what each of its values adds to a place. The first 128 words of an array of offsets say where each
-// numbered list begins, and from bit 16 on where it ends; then comes the length of all lists, and then the lists. A list has the number of its set
-// of variables, by their bits: 0 to 63 for a set of the lower part, from 64 on for one of the upper part. Together these lists have fewer than 6,300
-// offsets.
-ghost use Rattle.std.specs.Prelude.{◌≡◌, ◌+◌, ◌<◌, ◌≤◌, length};
+// Lists of offsets: for a set of variables, what each of its values adds to a place. A list has the number of its set of variables, by their bits: 0 to
+// 63 for a set of the lower part, from 64 on for one of the upper part. Together these lists have fewer than 6,300 offsets.
+use crate::places::{Columns, at_or, product, put, variables};
 
-use crate::places::{DIGITS, least, lowest, place_at, product, put_place, size_in, without_lowest};
-
-const LISTS: usize = 128;
-
-pub(crate) fn list_begin(list: u32) -> usize
-    ensures { result < 65536 }
-{
-    (list % 65536) as usize
+// Where a list begins among the offsets, and where it ends. A list that was not made yet is empty.
+#[derive(Clone, Copy, PartialEq, Eq)]
+pub(crate) struct Span {
+    begin: u16,
+    end: u16,
 }
 
-pub(crate) fn list_end(list: u32) -> usize
-    ensures { result < 65536 }
-{
-    (list / 65536) as usize
-}
+impl Span {
+    const EMPTY: Span = Span { begin: 0, end: 0 };
 
-// The bits of a set of variables.
-fn key_of(columns: &[u64; 18], set: u64) -> u64 {
-    let mut key = 0u64;
-    let mut rest = set & DIGITS;
-    while rest != 0 {
-        let b = lowest(rest) % 64;
-        key = key | columns[b / 4];
-        rest = without_lowest(rest);
+    fn new(begin: usize, end: usize) -> Span {
+        Span {
+            begin: (begin % 65536) as u16,
+            end: (end % 65536) as u16,
+        }
     }
-    key >> 32
-}
 
-// Offsets for the further values of one more variable: each is the one of the value before it, and the column. Answers how many there are then.
-fn lengthen(offsets: &mut [u32], begin: usize, len: usize, size: usize, column: u32) -> usize
-    requires { (begin ≤ 65535) × (len ≤ 65535) × (size < 256) }
-    ensures { (length offsets.new ≡ length offsets.old) × (result ≤ 65535) }
-{
-    let all = product(len, size);
-    let mut k = len;
-    while k < all {
-        let x = place_at(offsets, begin + (k - len));
-        put_place(offsets, begin + k, std::num::wrapping_add_u32(x, column));
-        k += 1;
+    pub(crate) fn len(self) -> usize {
+        usize::from(self.end.saturating_sub(self.begin))
     }
-    all
 }
 
-// Makes the list of a set of variables from `begin` on, and answers its end.
-fn make_list(offsets: &mut [u32], columns: &[u64; 18], set: u64, begin: usize) -> usize
-    requires { begin ≤ 65535 }
-    ensures { (length offsets.new ≡ length offsets.old) × (result ≤ 65535) }
-{
-    put_place(offsets, begin, 0);
-    let mut len = 1usize;
-    let mut rest = set & DIGITS;
-    while rest != 0 {
-        let v = lowest(rest) / 4 % 16;
-        let column = (columns[v] % 4294967296) as u32;
-        len = lengthen(offsets, begin, len, size_in(columns[v]), column);
-        rest = without_lowest(rest);
+// The numbers of the lists of the two parts of a set of variables.
+#[derive(Clone, Copy)]
+pub(crate) struct Numbers {
+    pub(crate) lower: u8,
+    pub(crate) upper: u8,
+}
+
+// The numbered lists, the end of all that are kept, and the offsets in them.
+#[derive(Drop)]
+pub(crate) struct Offsets<'a> {
+    spans: [Span; 128],
+    end: usize,
+    places: &'a mut [u32],
+}
+
+impl<'a> Offsets<'a> {
+    // With the list of 0 alone, of no variable: the first of either part.
+    pub(crate) fn new(places: &'a mut [u32]) -> Offsets<'a> {
+        let mut spans = [Span::EMPTY; 128];
+        spans[0] = Span::new(0, 1);
+        spans[64] = spans[0];
+        put(places, 0, 0);
+        Offsets {
+            spans,
+            end: 1,
+            places,
+        }
     }
-    least(begin + len, 65535)
-}
 
-// The end of all lists.
-pub(crate) fn lists_end(offsets: &[u32]) -> usize
-    ensures { result < 65535 }
-{
-    (place_at(offsets, LISTS) % 32768) as usize + LISTS + 1
-}
-
-fn set_lists_end(offsets: &mut [u32], end: usize)
-    requires { end ≤ 65535 }
-    ensures { length offsets.new ≡ length offsets.old }
-{
-    put_place(offsets, LISTS, std::num::wrapping_sub_u32(end as u32, 129));
-}
-
-// The list of a set of variables has number `at`; it is made when it is asked for the first time.
-fn need_list(offsets: &mut [u32], columns: &[u64; 18], set: u64, at: usize)
-    ensures { length offsets.new ≡ length offsets.old }
-{
-    if place_at(offsets, at) != 0 {
-        return;
+    // Whether all lists that are kept have found room.
+    pub(crate) fn fit(&self) -> bool {
+        self.end <= self.places.len()
     }
-    let begin = lists_end(offsets);
-    let end = make_list(offsets, columns, set, begin);
-    set_lists_end(offsets, end);
-    put_place(offsets, at, (65536 * end + begin) as u32);
-}
 
-// The lists of the two parts of a set of variables: their numbers, the one of the upper part from bit 8 on.
-pub(crate) fn lists_of(offsets: &mut [u32], columns: &[u64; 18], set: u64) -> u64
-    ensures { length offsets.new ≡ length offsets.old }
-{
-    let key = key_of(columns, set);
-    let low = key % 64;
-    let high = 64 + key / 64 % 64;
-    let lower = set & columns[16];
-    need_list(offsets, columns, lower, low as usize);
-    need_list(offsets, columns, set ^ lower, high as usize);
-    low | (high << 8)
-}
-
-// The list of the lower part among the two numbers, and that of the upper part.
-pub(crate) fn lower_list(offsets: &[u32], numbers: u64) -> u32 {
-    place_at(offsets, (numbers % 256) as usize)
-}
-
-pub(crate) fn upper_list(offsets: &[u32], numbers: u64) -> u32 {
-    place_at(offsets, (numbers / 256 % 256) as usize)
-}
-
-// The number of values of a set of variables.
-fn values_of(columns: &[u64; 18], set: u64) -> usize {
-    let mut all = 1usize;
-    let mut rest = set & DIGITS;
-    while rest != 0 {
-        all = product(all, size_in(columns[lowest(rest) / 4 % 16]));
-        rest = without_lowest(rest);
+    // The list of no variable.
+    pub(crate) fn zero(&self) -> Span {
+        self.spans[0]
     }
-    all
-}
 
-// A list without a number after all others, for a set of few values; 0 for a set of many.
-pub(crate) fn short_list(offsets: &mut [u32], columns: &[u64; 18], set: u64) -> u32
-    ensures { length offsets.new ≡ length offsets.old }
-{
-    if values_of(columns, set) > 16 {
-        return 0;
+    // The list of a number.
+    pub(crate) fn span(&self, number: u8) -> Span {
+        self.spans[usize::from(number) % 128]
     }
-    let begin = lists_end(offsets);
-    let end = make_list(offsets, columns, set, begin);
-    (65536 * end + begin) as u32
-}
 
-fn put_unless(offsets: &mut [u32], to: usize, x: u32, dropped: u32) -> usize
-    requires { to < 65535 }
-    ensures { (length offsets.new ≡ length offsets.old) × (result ≤ to + 1) }
-{
-    if x == dropped {
-        return to;
+    // The offsets of a list.
+    pub(crate) fn list(&self, span: Span) -> &[u32] {
+        let begin = usize::from(span.begin);
+        let end = usize::from(span.end);
+        if begin <= end && end <= self.places.len() {
+            return &self.places[begin..end];
+        }
+        &[]
     }
-    put_place(offsets, to, x);
-    to + 1
-}
 
-// The list without an offset.
-pub(crate) fn drop_offset(offsets: &mut [u32], list: u32, dropped: u32) -> u32
-    ensures { length offsets.new ≡ length offsets.old }
-{
-    let begin = list_begin(list);
-    let end = list_end(list);
-    let mut to = begin;
-    let mut k = begin;
-    while k < end {
-        let x = place_at(offsets, k);
-        to = put_unless(offsets, to, x, dropped);
-        k += 1;
+    // Offsets for the further values of one more variable: each is the one of the value before it, and the column.
+    fn lengthen(&mut self, begin: usize, len: usize, all: usize, column: u32) {
+        for k in len..all {
+            let x = at_or(self.places, begin.wrapping_add(k - len), 0);
+            put(self.places, begin.wrapping_add(k), x.wrapping_add(column));
+        }
     }
-    (65536 * to + begin) as u32
-}
 
-// A list of several offsets stays: the next one stands after it.
-pub(crate) fn keep_list(offsets: &mut [u32], list: u32)
-    ensures { length offsets.new ≡ length offsets.old }
-{
-    if list_end(list) > list_begin(list) + 1 {
-        set_lists_end(offsets, list_end(list));
+    // Makes the list of a set of variables after all that are kept.
+    fn make(&mut self, columns: &Columns, set: u64) -> Span {
+        let begin = self.end;
+        put(self.places, begin, 0);
+        let mut len = 1usize;
+        for b in variables(set) {
+            let column = columns.at(b);
+            let all = product(len, column.size);
+            self.lengthen(begin, len, all, column.place);
+            len = all;
+        }
+        Span::new(begin, begin.wrapping_add(len).min(65535))
+    }
+
+    // The list stays: the next one stands after it.
+    pub(crate) fn keep(&mut self, span: Span) {
+        self.end = usize::from(span.end);
+    }
+
+    // The list of a set of variables has a number; it is made when it is asked for the first time.
+    fn need(&mut self, columns: &Columns, set: u64, number: u8) {
+        if self.span(number).len() == 0 {
+            let made = self.make(columns, set);
+            self.keep(made);
+            self.spans[usize::from(number) % 128] = made;
+        }
+    }
+
+    // The lists of the two parts of a set of variables.
+    pub(crate) fn lists_of(&mut self, columns: &Columns, set: u64) -> Numbers {
+        let key = columns.key_of(set);
+        let numbers = Numbers {
+            lower: (key % 64) as u8,
+            upper: (64 + key / 64 % 64) as u8,
+        };
+        let lower = columns.lower_of(set);
+        self.need(columns, lower, numbers.lower);
+        self.need(columns, set ^ lower, numbers.upper);
+        numbers
+    }
+
+    // A list without a number after all others, for a set of few values.
+    pub(crate) fn short_list(&mut self, columns: &Columns, set: u64) -> Option<Span> {
+        if columns.values_of(set) > 16 {
+            return None;
+        }
+        Some(self.make(columns, set))
+    }
+
+    // The list without an offset.
+    pub(crate) fn without(&mut self, span: Span, dropped: u32) -> Span {
+        let mut end = span.begin;
+        for k in span.begin..span.end {
+            let x = at_or(self.places, usize::from(k), 0);
+            if x != dropped {
+                put(self.places, usize::from(end), x);
+                end = end.wrapping_add(1);
+            }
+        }
+        Span {
+            begin: span.begin,
+            end,
+        }
+    }
+
+    // The first offset of a list.
+    pub(crate) fn first(&self, span: Span) -> u32 {
+        at_or(self.places, usize::from(span.begin), 0)
     }
 }

@@ -2,147 +2,149 @@
 // bit 16 on l + 64 u, where l numbers the values of the pattern's first variables (its lower part, at most 64 states) and u those of the others
 // (its upper part). Each of the three is a sum of digits times weights, so a place is one too, and an outcome adds the same number to the places of
 // all states that it changes in the same way, modulo 2^32. A pattern of at most 4,096 states has at most six variables in either part.
-ghost use Rattle.std.specs.Prelude.{◌≡◌, ◌<◌, ◌≤◌, length};
-
-use crate::ranking::wide;
+ghost use Rattle.std.specs.Iterator.{at_most};
 
 // The lowest bit of every variable's digit.
 pub(crate) const DIGITS: u64 = 1229782938247303441;
 
-// The number of the lowest member.
-pub(crate) fn lowest(set: u64) -> usize
-    ensures { result ≤ 64 }
-{
-    u64::trailing_zeros(set) as usize
-}
+// The members of a set of bits, from the lowest on.
+#[derive(Drop)]
+pub(crate) struct Members(pub(crate) u64);
 
-// The set without its lowest member.
-pub(crate) fn without_lowest(set: u64) -> u64
-    requires { 0 < set }
-    ensures { result < set }
-{
-    set & (set - 1)
-}
+impl Iterator for Members {
+    type Item = usize;
 
-pub(crate) fn word_at(words: &[u64], i: usize) -> u64 {
-    if i < words.len() {
-        return words[i];
-    }
-    0
-}
+    ghost remaining = { λ s. at_most s.0 };
 
-pub(crate) fn put_word(words: &mut [u64], i: usize, x: u64)
-    ensures { length words.new ≡ length words.old }
-{
-    if i < words.len() {
-        words[i] = x;
+    fn next(&mut self) -> Option<usize> {
+        let rest = self.0;
+        if rest == 0 {
+            return None;
+        }
+        self.0 = rest & (rest - 1);
+        Some((rest.trailing_zeros() % 64) as usize)
     }
 }
 
-pub(crate) fn place_at(places: &[u32], i: usize) -> u32 {
-    if i < places.len() {
-        return places[i];
+// The variables of a set of digits, each by the lowest bit of its digit.
+pub(crate) fn variables(digits: u64) -> Members {
+    Members(digits & DIGITS)
+}
+
+// What stands at a place of an array, and `or` past its end.
+pub(crate) fn at_or<T: Copy>(xs: &[T], i: usize, or: T) -> T {
+    if i < xs.len() {
+        return xs[i];
     }
-    0
+    or
 }
 
-pub(crate) fn put_place(places: &mut [u32], i: usize, x: u32)
-    ensures { length places.new ≡ length places.old }
-{
-    if i < places.len() {
-        places[i] = x;
+// Nothing is put past an array's end.
+pub(crate) fn put<T: Copy>(xs: &mut [T], i: usize, x: T) {
+    if i < xs.len() {
+        xs[i] = x;
     }
 }
 
-// The size of a column's variable.
-pub(crate) fn size_in(column: u64) -> usize
-    ensures { result < 256 }
-{
-    ((column >> 48) % 256) as usize
+// The number of states of a part with one variable more.
+pub(crate) fn product(states: usize, size: u8) -> usize {
+    states.wrapping_mul(usize::from(size)).min(65535)
 }
 
-pub(crate) fn least(a: usize, b: usize) -> usize
-    ensures { (result ≤ a) × (result ≤ b) }
-{
-    if a < b {
-        return a;
+// What a value of a variable adds to the place; a bit of its own, 1 to 32 in the lower part and 64 to 2,048 in the upper one; and the number of values.
+#[derive(Clone, Copy)]
+pub(crate) struct Column {
+    pub(crate) place: u32,
+    pub(crate) bit: u16,
+    pub(crate) size: u8,
+}
+
+impl Column {
+    // Outside the pattern.
+    const NONE: Column = Column {
+        place: 0,
+        bit: 0,
+        size: 0,
+    };
+
+    // By the weight in the table, and the weight of the variable's part.
+    fn new(weight: u16, part: usize, bit: u16, size: u8) -> Column {
+        let place = u32::from(weight) | ((part % 65536) as u32) << 16;
+        Column { place, bit, size }
     }
-    b
 }
 
-// The product, as far as it is below 65,536.
-pub(crate) fn product(a: usize, z: usize) -> usize
-    requires { (a ≤ 65535) × (z < 256) }
-    ensures { result ≤ 65535 }
-{
-    least(a * z, 65535)
+// The columns of a pattern by variable, the digits of its lower part, and the number of states of the upper one.
+#[derive(Drop)]
+pub(crate) struct Columns {
+    all: [Column; 16],
+    lower: u64,
+    pub(crate) rows: usize,
 }
 
-// What a value of a variable adds to the place: the weight in the table, and the weight within its part; a bit of its own, and the size.
-fn column(weight: u16, part: usize, bit: u64, size: u8) -> u64
-    requires { part ≤ 65535 }
-{
-    (weight as u64 + 65536 * part as u64) | bit | ((size as u64) << 48)
-}
-
-pub(crate) fn pick(b: bool, x: usize, y: usize) -> usize
-    requires { (x ≤ 65535) × (y ≤ 65535) }
-    ensures { result ≤ 65535 }
-{
-    if b { x } else { y }
-}
-
-pub(crate) fn word_if(b: bool, x: u64) -> u64 {
-    if b { x } else { 0 }
-}
-
-fn twice_if(b: bool, x: u64) -> u64 {
-    if b { x << 1 } else { x }
-}
-
-// For each variable the place of its value 1; from bit 32 on a bit of its own, 1 to 32 in the lower part and 64 to 2,048 in the upper one; and from bit
-// 48 on its size. Then the digits of the lower part, and 64 times the number of states of the upper one.
-pub(crate) fn columns_of(mask: u64, weights: &[u16; 16], sizes: &[u8; 16]) -> [u64; 18] {
-    let mut r = [0u64; 18];
-    let mut digits = 0u64;
-    let mut lower = 1usize;
-    let mut upper = 64usize;
-    let mut low_bit = 4294967296u64;
-    let mut high_bit = 274877906944u64;
-    let mut rest = mask & DIGITS;
-    while rest != 0 {
-        let b = lowest(rest) % 64;
-        let z = wide(sizes[b / 4]);
-        let is_lower = upper == 64 && product(lower, z) <= 64;
-        let bit = word_if(is_lower, low_bit) | word_if(!is_lower, high_bit);
-        let part = pick(is_lower, lower, upper);
-        r[b / 4] = column(weights[b / 4], part, bit, sizes[b / 4]);
-        digits = digits | word_if(is_lower, 15u64 << b);
-        low_bit = twice_if(is_lower, low_bit);
-        high_bit = twice_if(!is_lower, high_bit);
-        lower = pick(is_lower, product(lower, z), lower);
-        upper = pick(is_lower, upper, product(upper, z));
-        rest = without_lowest(rest);
+impl Columns {
+    pub(crate) fn new(mask: u64, weights: &[u16; 16], sizes: &[u8; 16]) -> Columns {
+        let mut columns = Columns {
+            all: [Column::NONE; 16],
+            lower: 0,
+            rows: 1,
+        };
+        let mut states = 1usize;
+        let mut low_bit = 1u16;
+        let mut high_bit = 64u16;
+        for b in variables(mask) {
+            let v = b / 4 % 16;
+            let size = sizes[v];
+            if columns.rows == 1 && product(states, size) <= 64 {
+                columns.all[v] = Column::new(weights[v], states, low_bit, size);
+                columns.lower = columns.lower | 15 << b % 64;
+                states = product(states, size);
+                low_bit = low_bit << 1;
+            } else {
+                let part = 64usize.wrapping_mul(columns.rows);
+                columns.all[v] = Column::new(weights[v], part, high_bit, size);
+                columns.rows = product(columns.rows, size);
+                high_bit = high_bit << 1;
+            }
+        }
+        columns
     }
-    r[16] = digits;
-    r[17] = upper as u64;
-    r
-}
 
-fn times(x: u64, column: u64) -> u64
-    ensures { result ≤ 64424509425 }
-{
-    (x % 16) * (column % 4294967296)
-}
-
-// The place of a word's digits in a set of variables, the others 0.
-pub(crate) fn place_of(columns: &[u64; 18], word: u64, set: u64) -> u64 {
-    let mut sum = 0u64;
-    let mut rest = set & DIGITS;
-    while rest != 0 {
-        let b = lowest(rest) % 64;
-        sum = std::num::wrapping_add_u64(sum, times(word >> b, columns[b / 4]));
-        rest = without_lowest(rest);
+    // The column of the variable whose digit begins at a bit.
+    pub(crate) fn at(&self, b: usize) -> Column {
+        self.all[b / 4 % 16]
     }
-    sum
+
+    // The digits of a set that are of the lower part.
+    pub(crate) fn lower_of(&self, set: u64) -> u64 {
+        set & self.lower
+    }
+
+    // The place of a word's digits in a set of variables, the others 0.
+    pub(crate) fn place_of(&self, word: u64, set: u64) -> u32 {
+        let mut sum = 0u32;
+        for b in variables(set) {
+            let digit = (word >> b % 64) % 16;
+            sum = sum.wrapping_add((digit as u32).wrapping_mul(self.at(b).place));
+        }
+        sum
+    }
+
+    // The bits of a set of variables.
+    pub(crate) fn key_of(&self, set: u64) -> u16 {
+        let mut key = 0u16;
+        for b in variables(set) {
+            key = key | self.at(b).bit;
+        }
+        key
+    }
+
+    // The number of values of a set of variables.
+    pub(crate) fn values_of(&self, set: u64) -> usize {
+        let mut all = 1usize;
+        for b in variables(set) {
+            all = product(all, self.at(b).size);
+        }
+        all
+    }
 }

@@ -4,12 +4,6 @@ ghost use Rattle.planning.specs.Table.{state_count, state_at};
 ghost use Rattle.tables.specs.Packed.{pack_by, low};
 ghost use Rattle.tables.specs.Steps.{weights_from, Sized, Extended};
 
-pub(crate) fn wide(x: u8) -> usize
-    ensures { (result ≡ x) × (result < 256) }
-{
-    usize::from(x)
-}
-
 // The weight of a variable: that of the next one in the pattern, 0 outside it.
 fn weight_in(b: u8, w: usize) -> u16
     requires { w ≤ 4096 }

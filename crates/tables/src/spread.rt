@@ -73,6 +73,7 @@ fn count_pattern(rec: &[u8], pattern: u64, tables: &[u16], row: &mut [u32]) -> u
 
 // Builds the tables and counts, for the pattern of a number, how many of its abstract states have each cost: place v of the row is for cost v, the
 // last for infinity. A row that is too short is refused before anything is built.
+#[tactic(auto, using(crate::proofs::Spreading::spread_told))]
 fn spread_with<B: TableBuilder>(
     rec: &[u8],
     pattern: u64,

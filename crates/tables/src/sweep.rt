@@ -2,13 +2,10 @@
 ghost use Rattle.std.specs.Prelude.{◌≡◌, ℕ, ◌+◌, ◌*◌, ◌/◌, ◌%◌, ◌<◌, ◌≤◌, true, not, length, if◌then◌else◌, bit_or, slice_index, slice_index_or};
 ghost use Rattle.tables.specs.Packed.{outcome_count};
 ghost use Rattle.tables.specs.Sets.{set_from};
-ghost use Rattle.tables.specs.Steps.{weigh, space, is_goal, permitted, after, idles, worst, raised, outcome_entry, Below, offer, lowers, relaxed, started, Readable, RowSwept, Swept, Settled};
+ghost use Rattle.tables.specs.Spaces.{space_of};
+ghost use Rattle.tables.specs.Steps.{weigh, is_goal, permitted, after, idles, worst, raised, outcome_entry, Below, offer, lowers, relaxed, started, Readable, RowSwept, Swept, Settled};
 
-pub(crate) fn wide(x: u16) -> usize
-    ensures { (result ≡ x) × (result < 65536) }
-{
-    x as usize
-}
+use crate::space::Space;
 
 // Entry j, and infinite past the end.
 pub(crate) fn entry_at(entries: &[u16], j: usize) -> u16
@@ -26,7 +23,7 @@ pub(crate) fn times(x: u64, w: u16) -> usize
     ensures { (result ≡ x * w) × (result ≤ 983025) }
 {
     let y = x as usize;
-    y * wide(w)
+    y * usize::from(w)
 }
 
 // Four digits of a word, from the lowest on, times the weights from v on.
@@ -44,14 +41,12 @@ pub(crate) fn index_of(weights: &[u16; 16], s: u64) -> usize
 {
     let mut sum = 0usize;
     let mut rest = s;
-    let mut g = 0usize;
-    while g < 4 {
+    for g in 0..4usize {
         if rest == 0 {
             return sum;
         }
         sum = sum + four_digits(weights, 4 * g, rest);
         rest = rest / 65536;
-        g += 1;
     }
     sum
 }
@@ -76,31 +71,40 @@ pub(crate) fn state_after(task: &[u64; 1282], mask: u64, m: usize, o: usize, s: 
     ((s & task[20 * m + 4 + 2 * o]) | task[20 * m + 5 + 2 * o]) & mask
 }
 
-// The largest entry among the outcomes, as far as it is below a limit.
-fn worst_entry(
-    task: &[u64; 1282],
-    mask: u64,
-    weights: &[u16; 16],
+// The entry of the state after outcome o. Its index is guessed, and the guess is right if the state's word stands there.
+fn entry_after(x: &Space<'_>, entries: &[u16], m: usize, o: usize, s: u64, guess: usize) -> u16
+    requires { (m < x.now.actions) × (o < 8) × (length entries.now ≡ x.now.count) }
+    ensures { result ≡ outcome_entry x.now.task.now x.now.mask x.now.weights.now entries.now m s o }
+{
+    let z = state_after(x.task, x.mask, m, o, s);
+    if guess < entries.len() {
+        if x.states[guess] == z {
+            return entries[guess];
+        }
+    }
+    entry_at(entries, index_of(x.weights, z))
+}
+
+// The largest entry among the outcomes, as far as it is below a limit. For each outcome there is a guess of where it leads.
+pub(crate) fn worst_entry<F: Fn(usize) -> usize>(
+    x: &Space<'_>,
     entries: &[u16],
     m: usize,
     s: u64,
     limit: u16,
+    guess: F,
 ) -> u16
-    requires { (m < 64) × (outcome_count task.now m ≤ 8) }
-    ensures { Below limit (worst (outcome_entry task.now mask weights.now entries.now m s) 0 (outcome_count task.now m)) result }
+    requires { (m < x.now.actions) × (length entries.now ≡ x.now.count) × (F.IsAlwaysCallable guess) }
+    ensures { Below limit (worst (outcome_entry x.now.task.now x.now.mask x.now.weights.now entries.now m s) 0 (outcome_count x.now.task.now m)) result }
 {
-    let n = task[20 * m + 2] as usize;
+    let n = x.task[20 * m + 2] as usize;
     let mut most = 0u16;
-    let mut o = 0usize;
-    while o < n {
-        let e = entry_at(entries, index_of(weights, state_after(task, mask, m, o, s)));
+    for o in 0..n {
+        let e = entry_after(x, entries, m, o, s, guess(o));
         if e >= limit {
             return e;
         }
-        if most < e {
-            most = e;
-        }
-        o += 1;
+        most = most.max(e);
     }
     most
 }
@@ -112,51 +116,36 @@ pub(crate) fn raise(w: u64, v: u16) -> u16
     if w >= 65535 {
         return 65535;
     }
-    let sum = w as usize + wide(v);
+    let sum = w as usize + usize::from(v);
     if sum >= 65535 {
         return 65535;
     }
     sum as u16
 }
 
-// What an action says of the entry of a state, as far as it is below a limit.
-fn offer_of(
-    task: &[u64; 1282],
-    mask: u64,
-    weights: &[u16; 16],
-    entries: &[u16],
-    m: usize,
-    s: u64,
-    limit: u16,
-) -> u16
-    requires { (m < 64) × (outcome_count task.now m ≤ 8) }
-    ensures { Below limit (offer task.now mask weights.now entries.now m s) result }
+// What an action says of the entry of a state, as far as it is below a limit. No guess is made.
+fn offer_of(x: &Space<'_>, entries: &[u16], m: usize, s: u64, limit: u16) -> u16
+    requires { (m < x.now.actions) × (length entries.now ≡ x.now.count) }
+    ensures { Below limit (offer x.now.task.now x.now.mask x.now.weights.now entries.now m s) result }
 {
+    let none = |_o: usize| usize::MAX;
     raise(
-        task[20 * m + 3],
-        worst_entry(task, mask, weights, entries, m, s, limit),
+        x.task[20 * m + 3],
+        worst_entry(x, entries, m, s, limit, none),
     )
 }
 
 // Lowers an entry to what an action says of it, where that is less, and says whether it did.
-pub(crate) fn try_action(
-    task: &[u64; 1282],
-    mask: u64,
-    weights: &[u16; 16],
-    entries: &mut [u16],
-    m: usize,
-    i: usize,
-    s: u64,
-) -> bool
-    requires { (m < 64) × (outcome_count task.now m ≤ 8) × (i < length entries.old) }
-    ensures told { result ≡ lowers task.now mask weights.now entries.old m i s }
-    ensures left { entries.new ≡ relaxed task.now mask weights.now entries.old m i s }
+fn try_action(x: &Space<'_>, entries: &mut [u16], m: usize, i: usize, s: u64) -> bool
+    requires { (m < x.now.actions) × (i < length entries.old) × (length entries.old ≡ x.now.count) }
+    ensures told { result ≡ lowers x.now.task.now x.now.mask x.now.weights.now entries.old m i s }
+    ensures left { entries.new ≡ relaxed x.now.task.now x.now.mask x.now.weights.now entries.old m i s }
 {
-    if !permits(task, mask, m, s) {
+    if !permits(x.task, x.mask, m, s) {
         return false;
     }
     let e = entries[i];
-    let v = offer_of(task, mask, weights, entries, m, s, e);
+    let v = offer_of(x, entries, m, s, e);
     if v < e {
         entries[i] = v;
         return true;
@@ -165,25 +154,15 @@ pub(crate) fn try_action(
 }
 
 // One pass with one action.
-fn sweep_action(
-    task: &[u64; 1282],
-    mask: u64,
-    weights: &[u16; 16],
-    states: &[u64],
-    actions: usize,
-    entries: &mut [u16],
-    m: usize,
-) -> bool
-    requires { (Readable task.now actions) × (m < actions) × (length entries.old ≤ length states.now) }
-    ensures { RowSwept (space task.now mask weights.now states.now actions) m entries.old entries.new result }
+fn sweep_action(x: &Space<'_>, entries: &mut [u16], m: usize) -> bool
+    requires { (m < x.now.actions) × (length entries.old ≡ x.now.count) }
+    ensures { RowSwept (space_of x.now) m entries.old entries.new result }
 {
     let mut changed = false;
-    let mut i = 0usize;
-    while i < entries.len() {
-        if try_action(task, mask, weights, entries, m, i, states[i]) {
+    for i in 0..entries.len() {
+        if try_action(x, entries, m, i, x.states[i]) {
             changed = true;
         }
-        i += 1;
     }
     changed
 }
@@ -195,12 +174,10 @@ fn may_idle(task: &[u64; 1282], mask: u64, m: usize) -> bool
     ensures { result ≡ idles task.now mask m }
 {
     let n = task[20 * m + 2] as usize;
-    let mut o = 0usize;
-    while o < n {
+    for o in 0..n {
         if task[20 * m + 4 + 2 * o] & mask == mask {
             return true;
         }
-        o += 1;
     }
     false
 }
@@ -228,24 +205,17 @@ pub(crate) fn lively(task: &[u64; 1282], mask: u64, actions: usize) -> u64
     set
 }
 
-// One pass with every action of a set.
-fn sweep(
-    task: &[u64; 1282],
-    mask: u64,
-    weights: &[u16; 16],
-    states: &[u64],
-    actions: usize,
-    live: u64,
-    entries: &mut [u16],
-) -> bool
-    requires { (Readable task.now actions) × (live ≡ set_from (λ m. not (idles task.now mask m)) 0 actions) × (length entries.old ≤ length states.now) }
-    ensures { Swept (space task.now mask weights.now states.now actions) entries.old entries.new result }
+// One pass with every action that counts.
+// Stays: a `for` over `Members` is no plainer to prove, since the loop's fact is one about what is left of the set.
+fn sweep(x: &Space<'_>, entries: &mut [u16]) -> bool
+    requires { length entries.old ≡ x.now.count }
+    ensures { Swept (space_of x.now) entries.old entries.new result }
 {
     let mut changed = false;
-    let mut rest = live;
+    let mut rest = x.live;
     while rest != 0 {
         let m = u64::trailing_zeros(rest) as usize;
-        if sweep_action(task, mask, weights, states, actions, entries, m) {
+        if sweep_action(x, entries, m) {
             changed = true;
         }
         rest = rest & (rest - 1);
@@ -253,45 +223,27 @@ fn sweep(
     changed
 }
 
-// So many passes at most, with the actions of which no outcome leaves every state as it is: the others never say less of an entry. Says
-// whether one of the passes changed nothing.
-pub(crate) fn settles(
-    task: &[u64; 1282],
-    mask: u64,
-    weights: &[u16; 16],
-    states: &[u64],
-    actions: usize,
-    live: u64,
-    entries: &mut [u16],
-    passes: usize,
-) -> bool
-    requires { (Readable task.now actions) × (live ≡ set_from (λ m. not (idles task.now mask m)) 0 actions) × (length entries.old ≤ length states.now) }
-    ensures { result ≡ true → Settled (space task.now mask weights.now states.now actions) entries.old entries.new }
+// From the start so many passes at most, with the actions of which no outcome leaves every state as it is: the others never say less of an entry.
+// Says whether one of the passes changed nothing.
+pub(crate) fn settles(x: &Space<'_>, entries: &mut [u16], passes: usize) -> bool
+    requires { length entries.old ≡ x.now.count }
+    ensures { result ≡ true → Settled (space_of x.now) (started x.now.task.now x.now.mask x.now.states.now (length entries.old)) entries.new }
 {
-    let mut pass = 0usize;
-    while pass < passes {
-        if !sweep(task, mask, weights, states, actions, live, entries) {
+    start(x.task, x.mask, x.states, entries);
+    for _ in 0..passes {
+        if !sweep(x, entries) {
             return true;
         }
-        pass += 1;
     }
     false
 }
 
 // Passes until one changes nothing.
-pub(crate) fn settle(
-    task: &[u64; 1282],
-    mask: u64,
-    weights: &[u16; 16],
-    states: &[u64],
-    actions: usize,
-    live: u64,
-    entries: &mut [u16],
-)
-    requires { (Readable task.now actions) × (live ≡ set_from (λ m. not (idles task.now mask m)) 0 actions) × (length entries.old ≤ length states.now) }
-    ensures { Settled (space task.now mask weights.now states.now actions) entries.old entries.new }
+pub(crate) fn settle(x: &Space<'_>, entries: &mut [u16])
+    requires { length entries.old ≡ x.now.count }
+    ensures { Settled (space_of x.now) entries.old entries.new }
 {
-    while sweep(task, mask, weights, states, actions, live, entries) {}
+    while sweep(x, entries) {}
 }
 
 // The entry of a state before the first pass.
@@ -309,9 +261,7 @@ pub(crate) fn start(task: &[u64; 1282], mask: u64, states: &[u64], entries: &mut
     requires { length entries.old ≤ length states.now }
     ensures { entries.new ≡ started task.now mask states.now (length entries.old) }
 {
-    let mut next = 0usize;
-    while next < entries.len() {
+    for next in 0..entries.len() {
         entries[next] = first_entry(task, mask, states[next]);
-        next += 1;
     }
 }

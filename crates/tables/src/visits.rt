@@ -1,300 +1,104 @@
 // Visits: what follows for the states before a settled one. A state is settled when its entry is finite; it then stands in the queue, in the order of
 // the entries. An action with several outcomes has a counter at every state of those that lead to settled states: since states are settled in the
 // order of their entries, the outcome that completes the count is the worst one. Nothing of that is in a contract.
-ghost use Rattle.std.specs.Prelude.{◌≡◌, ◌+◌, ◌*◌, ◌<◌, ◌≤◌, length};
+use crate::edges::{Edge, Sources};
+use crate::incoming::{Graph, Row};
+use crate::offsets::Offsets;
+use crate::places::{Members, at_or, put};
 
-use crate::offsets::{list_begin, list_end, lower_list, upper_list};
-use crate::places::{lowest, place_at, put_place, without_lowest, word_at};
-
-fn index_in(place: u32) -> usize
-    ensures { result < 65536 }
-{
+fn index_in(place: u32) -> usize {
     (place % 65536) as usize
 }
 
-fn is_open(entries: &[u16], i: usize) -> bool {
-    if i < entries.len() {
-        return entries[i] == 65535;
-    }
-    false
+// The entries; the places of the settled states in their order, and how many there are; and the counters.
+#[derive(Drop)]
+pub(crate) struct Worklist<'a> {
+    pub(crate) entries: &'a mut [u16],
+    pub(crate) queue: &'a mut [u32],
+    pub(crate) tail: usize,
+    pub(crate) counters: &'a mut [u8],
 }
 
-fn put_entry(entries: &mut [u16], i: usize, x: u16)
-    ensures { length entries.new ≡ length entries.old }
-{
-    if i < entries.len() {
-        entries[i] = x;
+impl Worklist<'_> {
+    fn is_open(&self, place: u32) -> bool {
+        at_or(self.entries, index_in(place), 0) == u16::MAX
     }
-}
 
-// The state gets its entry, and stands at the end of the queue.
-fn settle_state(entries: &mut [u16], queue: &mut [u32], place: u32, cost: u16, tail: usize) -> usize
-    ensures { (length entries.new ≡ length entries.old) × (length queue.new ≡ length queue.old) }
-{
-    put_entry(entries, index_in(place), cost);
-    put_place(queue, tail, place);
-    std::num::wrapping_add_usize(tail, 1)
-}
-
-// An action leads from this state to settled ones only.
-fn visit(entries: &mut [u16], queue: &mut [u32], place: u32, cost: u16, tail: usize) -> usize
-    ensures { (length entries.new ≡ length entries.old) × (length queue.new ≡ length queue.old) }
-{
-    if is_open(entries, index_in(place)) {
-        return settle_state(entries, queue, place, cost, tail);
+    // What an action that at worst leads to the state at a place says of a state before it.
+    fn cost_before(&self, place: u32) -> u16 {
+        at_or(self.entries, index_in(place), u16::MAX - 1).wrapping_add(1)
     }
-    tail
-}
 
-// What the first word of an edge says of counters.
-fn counter_in(word: u64) -> usize
-    ensures { result < 4294967296 }
-{
-    (word / 4294967296) as usize
-}
+    // The state gets its entry, and stands at the end of the queue.
+    fn settle(&mut self, place: u32, cost: u16) {
+        put(self.entries, index_in(place), cost);
+        put(self.queue, self.tail, place);
+        self.tail = self.tail.wrapping_add(1);
+    }
 
-// One outcome more leads to a settled state: whether all do.
-fn count_up(counters: &mut [u8], at: usize, all: u8) -> bool
-    ensures { length counters.new ≡ length counters.old }
-{
-    if at >= counters.len() {
-        return false;
+    // One outcome more of an edge's action leads from this state to a settled one: whether all do.
+    fn is_complete(&mut self, edge: &Edge, place: u32) -> bool {
+        if edge.outcomes < 2 {
+            return true;
+        }
+        let at = index_in(place).wrapping_add(edge.counters as usize);
+        let count = at_or(self.counters, at, 0).wrapping_add(1);
+        put(self.counters, at, count);
+        count == edge.outcomes
     }
-    let x = std::num::wrapping_add_u8(counters[at], 1);
-    counters[at] = x;
-    x == all
-}
 
-// The same for the counter at a place; an action without counters has one outcome.
-fn is_complete(counters: &mut [u8], counter: usize, place: u32) -> bool
-    requires { counter < 4294967296 }
-    ensures { length counters.new ≡ length counters.old }
-{
-    if counter == 0 {
-        return true;
+    // The states that differ from the one at a place only in some variables, by the lists of the lower and of the upper ones: all that an action does
+    // leads from them to settled states.
+    pub(crate) fn visit_face(&mut self, lower: &[u32], upper: &[u32], place: u32, cost: u16) {
+        for y in upper {
+            let row = place.wrapping_add(*y);
+            for x in lower {
+                let at = row.wrapping_add(*x);
+                if self.is_open(at) {
+                    self.settle(at, cost);
+                }
+            }
+        }
     }
-    count_up(
-        counters,
-        counter / 16 + index_in(place),
-        (counter % 16) as u8,
-    )
-}
 
-// One outcome more of an action leads from this state to a settled one.
-fn visit_counted(
-    entries: &mut [u16],
-    queue: &mut [u32],
-    counters: &mut [u8],
-    counter: usize,
-    place: u32,
-    cost: u16,
-    tail: usize,
-) -> usize
-    requires { counter < 4294967296 }
-    ensures { (length entries.new ≡ length entries.old) × (length queue.new ≡ length queue.old) × (length counters.new ≡ length counters.old) }
-{
-    if !is_open(entries, index_in(place)) {
-        return tail;
+    // The states that an edge leads from to the one at a place. Most states are settled when they are visited, so for one that is asked before the counter.
+    fn visit_edge(&mut self, edge: &Edge, offsets: &Offsets<'_>, place: u32, cost: u16) {
+        let from = place.wrapping_add(edge.back);
+        match edge.sources {
+            Sources::One => {
+                if self.is_open(from) && self.is_complete(edge, from) {
+                    self.settle(from, cost);
+                }
+            }
+            Sources::Many { own, upper, lower } => {
+                let lower = offsets.list(lower);
+                let upper = offsets.list(offsets.span(upper));
+                for y in offsets.list(offsets.span(own.upper)) {
+                    let row = from.wrapping_add(*y);
+                    for x in offsets.list(offsets.span(own.lower)) {
+                        let at = row.wrapping_add(*x);
+                        if self.is_complete(edge, at) {
+                            self.visit_face(lower, upper, at, cost);
+                        }
+                    }
+                }
+            }
+        }
     }
-    if !is_complete(counters, counter, place) {
-        return tail;
-    }
-    settle_state(entries, queue, place, cost, tail)
-}
 
-// What an action that at worst leads to the state at a place says of a state before it.
-fn cost_before(entries: &[u16], place: u32) -> u16 {
-    let i = index_in(place);
-    if i < entries.len() {
-        return std::num::wrapping_add_u16(entries[i], 1);
+    // The edges of a set in a row.
+    fn visit_row(&mut self, row: &Row, set: u64, offsets: &Offsets<'_>, place: u32, cost: u16) {
+        for b in Members(set) {
+            self.visit_edge(row.edge(b), offsets, place, cost);
+        }
     }
-    65535
-}
 
-// The edges of a set that lead from one state each. Most states are settled when they are visited, so that is asked before the counter.
-pub(crate) fn visit_simple(
-    edges: &[u64],
-    entries: &mut [u16],
-    queue: &mut [u32],
-    counters: &mut [u8],
-    set: u64,
-    first: usize,
-    place: u32,
-    tail: usize,
-) -> usize
-    requires { (first ≤ 448) × (4 * first + 256 ≤ length edges.now) }
-    ensures { (length entries.new ≡ length entries.old) × (length queue.new ≡ length queue.old) × (length counters.new ≡ length counters.old) }
-{
-    let cost = cost_before(entries, place);
-    let mut end = tail;
-    let mut rest = set;
-    while rest != 0 {
-        let word = edges[4 * (first + lowest(rest) % 64)];
-        let at = std::num::wrapping_add_u32(place, (word % 4294967296) as u32);
-        let counter = counter_in(word);
-        end = visit_counted(entries, queue, counters, counter, at, cost, end);
-        rest = without_lowest(rest);
+    // The edges that lead to the state at a place.
+    pub(crate) fn visit_before(&mut self, graph: &Graph<'_>, offsets: &Offsets<'_>, place: u32) {
+        let cost = self.cost_before(place);
+        for (w, row) in graph.rows().iter().enumerate() {
+            let set = row.lower_set(place) & graph.upper_set(w, place);
+            self.visit_row(row, set, offsets, place, cost);
+        }
     }
-    end
-}
-
-// The states at a list of offsets from a place.
-fn visit_list(
-    offsets: &[u32],
-    entries: &mut [u16],
-    queue: &mut [u32],
-    list: u32,
-    place: u32,
-    cost: u16,
-    tail: usize,
-) -> usize
-    ensures { (length entries.new ≡ length entries.old) × (length queue.new ≡ length queue.old) }
-{
-    let to = list_end(list);
-    let mut end = tail;
-    let mut k = list_begin(list);
-    while k < to {
-        let at = std::num::wrapping_add_u32(place, place_at(offsets, k));
-        end = visit(entries, queue, at, cost, end);
-        k += 1;
-    }
-    end
-}
-
-// The states that differ from the one at a place only in some variables, by the lists of the lower and of the upper ones.
-pub(crate) fn visit_face(
-    offsets: &[u32],
-    entries: &mut [u16],
-    queue: &mut [u32],
-    lower: u32,
-    upper: u32,
-    place: u32,
-    cost: u16,
-    tail: usize,
-) -> usize
-    ensures { (length entries.new ≡ length entries.old) × (length queue.new ≡ length queue.old) }
-{
-    let to = list_end(upper);
-    let mut end = tail;
-    let mut k = list_begin(upper);
-    while k < to {
-        let row = std::num::wrapping_add_u32(place, place_at(offsets, k));
-        end = visit_list(offsets, entries, queue, lower, row, cost, end);
-        k += 1;
-    }
-    end
-}
-
-// One outcome more leads to a settled state from the state at a place, and from those that differ from it only in what every outcome sets.
-fn count_outcome(
-    offsets: &[u32],
-    entries: &mut [u16],
-    queue: &mut [u32],
-    counters: &mut [u8],
-    counter: usize,
-    lists: u64,
-    place: u32,
-    cost: u16,
-    tail: usize,
-) -> usize
-    requires { counter < 4294967296 }
-    ensures { (length entries.new ≡ length entries.old) × (length queue.new ≡ length queue.old) × (length counters.new ≡ length counters.old) }
-{
-    if !is_complete(counters, counter, place) {
-        return tail;
-    }
-    let lower = (lists / 4294967296) as u32;
-    let upper = lower_list(offsets, lists / 65536);
-    visit_face(offsets, entries, queue, lower, upper, place, cost, tail)
-}
-
-// The same at a list of offsets from a place.
-fn count_list(
-    offsets: &[u32],
-    entries: &mut [u16],
-    queue: &mut [u32],
-    counters: &mut [u8],
-    counter: usize,
-    list: u32,
-    lists: u64,
-    place: u32,
-    cost: u16,
-    tail: usize,
-) -> usize
-    requires { counter < 4294967296 }
-    ensures { (length entries.new ≡ length entries.old) × (length queue.new ≡ length queue.old) × (length counters.new ≡ length counters.old) }
-{
-    let to = list_end(list);
-    let mut end = tail;
-    let mut k = list_begin(list);
-    while k < to {
-        let at = std::num::wrapping_add_u32(place, place_at(offsets, k));
-        end = count_outcome(
-            offsets, entries, queue, counters, counter, lists, at, cost, end,
-        );
-        k += 1;
-    }
-    end
-}
-
-// An edge that leads from several states: the lists of what this outcome alone sets, and at each place those of what every outcome sets.
-fn visit_edge(
-    offsets: &[u32],
-    entries: &mut [u16],
-    queue: &mut [u32],
-    counters: &mut [u8],
-    counter: usize,
-    lists: u64,
-    place: u32,
-    cost: u16,
-    tail: usize,
-) -> usize
-    requires { counter < 4294967296 }
-    ensures { (length entries.new ≡ length entries.old) × (length queue.new ≡ length queue.old) × (length counters.new ≡ length counters.old) }
-{
-    let lower = lower_list(offsets, lists);
-    let upper = upper_list(offsets, lists);
-    let to = list_end(upper);
-    let mut end = tail;
-    let mut k = list_begin(upper);
-    while k < to {
-        let row = std::num::wrapping_add_u32(place, place_at(offsets, k));
-        end = count_list(
-            offsets, entries, queue, counters, counter, lower, lists, row, cost, end,
-        );
-        k += 1;
-    }
-    end
-}
-
-// The edges of a set that lead from several states each.
-pub(crate) fn visit_others(
-    edges: &[u64],
-    offsets: &[u32],
-    entries: &mut [u16],
-    queue: &mut [u32],
-    counters: &mut [u8],
-    set: u64,
-    first: usize,
-    place: u32,
-    tail: usize,
-) -> usize
-    requires { first ≤ 448 }
-    ensures { (length entries.new ≡ length entries.old) × (length queue.new ≡ length queue.old) × (length counters.new ≡ length counters.old) }
-{
-    let cost = cost_before(entries, place);
-    let mut end = tail;
-    let mut rest = set;
-    while rest != 0 {
-        let e = 4 * (first + lowest(rest) % 64);
-        let word = word_at(edges, e);
-        let at = std::num::wrapping_add_u32(place, (word % 4294967296) as u32);
-        let counter = counter_in(word);
-        let lists = word_at(edges, e + 3);
-        end = visit_edge(
-            offsets, entries, queue, counters, counter, lists, at, cost, end,
-        );
-        rest = without_lowest(rest);
-    }
-    end
 }

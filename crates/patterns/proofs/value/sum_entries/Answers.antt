@@ -14,6 +14,7 @@ use Rattle.patterns.specs.Value.{value_of}
 use Rattle.patterns.proofs.Reading.{patterns_length, pattern_at}
 use Rattle.patterns.proofs.Sizes.{state_length, sizes_few, sizes_positive, pattern_whole}
 use Rattle.patterns.proofs.Summing.{summing_start, summing_done, place_inside, table_inside, summing_finite, summing_infinite}
+use Rattle.patterns.proofs.value.sum_entries.Goals.{After-place_of-place}
 use Rattle.patterns.proofs.value.sum_entries.Goals as goal
 
 pub loop-p-init : goal.loop-p-init
@@ -28,37 +29,42 @@ place_of-place-requires c = let r = c.args.rec.now in let s = c.args.state.now i
     let k = rw (pattern_at r l.p t) at (all_at (λ x. state_count (task_of r).sizes x ≤ 4096) (patterns_of r) [] c.requires.3 l.p m) in
     rw (c.requires.1, c.pattern_cells.ensures) (sizes_positive r c.requires.0, f, omega arith, omega arith, k)
 
+-- The pattern in hand, and where its entry stands.
+inside : (c : After-place_of-place) → c.loop-p.p < length (patterns_of c.args.rec.now)
+inside c = rw (patterns_length c.args.rec.now) (rw c.pattern_count-p-end.ensures at c.loop-p-test.true)
+
+cells_read : (c : After-place_of-place) → c.pattern_cells.result.now ≡ get_or (patterns_of c.args.rec.now) c.loop-p.p []
+cells_read c = c.pattern_cells.ensures ∙ sym (pattern_at c.args.rec.now c.loop-p.p (rw c.pattern_count-p-end.ensures at c.loop-p-test.true))
+
+place_index : (c : After-place_of-place) → c.place_of-place.result.index ≡ index (task_of c.args.rec.now).sizes (get_or (patterns_of c.args.rec.now) c.loop-p.p []) c.args.state.now
+place_index c = c.place_of-place.ensures.0 ∙ ap₂ (λ z x. index z x c.args.state.now) c.requires.1 (cells_read c)
+
+place_states : (c : After-place_of-place) → c.place_of-place.result.states ≡ state_count (task_of c.args.rec.now).sizes (get_or (patterns_of c.args.rec.now) c.loop-p.p [])
+place_states c = c.place_of-place.ensures.1 ∙ ap₂ state_count c.requires.1 (cells_read c)
+
 pub overflow_add-at : goal.overflow_add-at
 overflow_add-at c = let r = c.args.rec.now in let s = c.args.state.now in let l = c.loop-p in
-    let t : l.p < pattern_count r = rw c.pattern_count-p-end.ensures at c.loop-p-test.true in
-    let m : l.p < length (patterns_of r) = rw (patterns_length r) t in
-    let q : c.pattern_cells.result.now ≡ get_or (patterns_of r) l.p [] = c.pattern_cells.ensures ∙ sym (pattern_at r l.p t) in
-    let i : c.place_of-place.result.index ≡ index (task_of r).sizes (get_or (patterns_of r) l.p []) s = c.place_of-place.ensures.0 ∙ ap₂ (λ z x. index z x s) c.requires.1 q in
+    let m = inside (goal.at.overflow_add-at c).After-place_of-place in
+    let i = place_index (goal.at.overflow_add-at c).After-place_of-place in
     let n = place_inside (task_of r).sizes (patterns_of r) s c.args.tables.now l.sum l.begin l.p l.invariant m c.requires.2 in omega arith
 
 pub offset_bounds-tables-at : goal.offset_bounds-tables-at
 offset_bounds-tables-at c = let r = c.args.rec.now in let s = c.args.state.now in let l = c.loop-p in
-    let t : l.p < pattern_count r = rw c.pattern_count-p-end.ensures at c.loop-p-test.true in
-    let m : l.p < length (patterns_of r) = rw (patterns_length r) t in
-    let q : c.pattern_cells.result.now ≡ get_or (patterns_of r) l.p [] = c.pattern_cells.ensures ∙ sym (pattern_at r l.p t) in
-    let i : c.place_of-place.result.index ≡ index (task_of r).sizes (get_or (patterns_of r) l.p []) s = c.place_of-place.ensures.0 ∙ ap₂ (λ z x. index z x s) c.requires.1 q in
+    let m = inside (goal.at.offset_bounds-tables-at c).After-place_of-place in
+    let i = place_index (goal.at.offset_bounds-tables-at c).After-place_of-place in
     let n = place_inside (task_of r).sizes (patterns_of r) s c.args.tables.now l.sum l.begin l.p l.invariant m c.requires.2 in omega arith
 
 pub bounds-tables-at : goal.bounds-tables-at
 bounds-tables-at c = let r = c.args.rec.now in let s = c.args.state.now in let l = c.loop-p in
-    let t : l.p < pattern_count r = rw c.pattern_count-p-end.ensures at c.loop-p-test.true in
-    let m : l.p < length (patterns_of r) = rw (patterns_length r) t in
-    let q : c.pattern_cells.result.now ≡ get_or (patterns_of r) l.p [] = c.pattern_cells.ensures ∙ sym (pattern_at r l.p t) in
-    let i : c.place_of-place.result.index ≡ index (task_of r).sizes (get_or (patterns_of r) l.p []) s = c.place_of-place.ensures.0 ∙ ap₂ (λ z x. index z x s) c.requires.1 q in
+    let m = inside (goal.at.bounds-tables-at c).After-place_of-place in
+    let i = place_index (goal.at.bounds-tables-at c).After-place_of-place in
     let n = place_inside (task_of r).sizes (patterns_of r) s c.args.tables.now l.sum l.begin l.p l.invariant m c.requires.2 in omega arith
 
 pub returns-then-e-eq65535 : goal.returns-then-e-eq65535
 unfolding value_of
 returns-then-e-eq65535 c = let r = c.args.rec.now in let s = c.args.state.now in let l = c.loop-p in
-    let t : l.p < pattern_count r = rw c.pattern_count-p-end.ensures at c.loop-p-test.true in
-    let m : l.p < length (patterns_of r) = rw (patterns_length r) t in
-    let q : c.pattern_cells.result.now ≡ get_or (patterns_of r) l.p [] = c.pattern_cells.ensures ∙ sym (pattern_at r l.p t) in
-    let i : c.place_of-place.result.index ≡ index (task_of r).sizes (get_or (patterns_of r) l.p []) s = c.place_of-place.ensures.0 ∙ ap₂ (λ z x. index z x s) c.requires.1 q in
+    let m = inside (goal.at.returns-then-e-eq65535 c).After-place_of-place in
+    let i = place_index (goal.at.returns-then-e-eq65535 c).After-place_of-place in
     let e : c.from-e.result ≡ get_or c.args.tables.now (l.begin + index (task_of r).sizes (get_or (patterns_of r) l.p []) s) 0 = c.from-e.ensures ∙ ap (λ x. get_or c.args.tables.now (l.begin + x) 0) i in
     sym (ap value_of (summing_infinite (task_of r).sizes (patterns_of r) s c.args.tables.now l.sum l.begin l.p l.invariant m c.requires.2 (sym e ∙ c.if-e-eq65535.true)))
 
@@ -68,19 +74,15 @@ overflow_add-sum c = let r = c.args.rec.now in let l = c.loop-p in let k = patte
 
 pub overflow_add-begin : goal.overflow_add-begin
 overflow_add-begin c = let r = c.args.rec.now in let s = c.args.state.now in let l = c.loop-p in
-    let t : l.p < pattern_count r = rw c.pattern_count-p-end.ensures at c.loop-p-test.true in
-    let m : l.p < length (patterns_of r) = rw (patterns_length r) t in
-    let q : c.pattern_cells.result.now ≡ get_or (patterns_of r) l.p [] = c.pattern_cells.ensures ∙ sym (pattern_at r l.p t) in
-    let j : c.place_of-place.result.states ≡ state_count (task_of r).sizes (get_or (patterns_of r) l.p []) = c.place_of-place.ensures.1 ∙ ap₂ state_count c.requires.1 q in
+    let m = inside (goal.at.overflow_add-begin c).After-place_of-place in
+    let j = place_states (goal.at.overflow_add-begin c).After-place_of-place in
     let n = table_inside (task_of r).sizes (patterns_of r) s c.args.tables.now l.sum l.begin l.p l.invariant m c.requires.2 in omega arith
 
 pub loop-p-preserved : goal.loop-p-preserved
 loop-p-preserved c = let r = c.args.rec.now in let s = c.args.state.now in let l = c.loop-p in
-    let t : l.p < pattern_count r = rw c.pattern_count-p-end.ensures at c.loop-p-test.true in
-    let m : l.p < length (patterns_of r) = rw (patterns_length r) t in
-    let q : c.pattern_cells.result.now ≡ get_or (patterns_of r) l.p [] = c.pattern_cells.ensures ∙ sym (pattern_at r l.p t) in
-    let i : c.place_of-place.result.index ≡ index (task_of r).sizes (get_or (patterns_of r) l.p []) s = c.place_of-place.ensures.0 ∙ ap₂ (λ z x. index z x s) c.requires.1 q in
-    let j : c.place_of-place.result.states ≡ state_count (task_of r).sizes (get_or (patterns_of r) l.p []) = c.place_of-place.ensures.1 ∙ ap₂ state_count c.requires.1 q in
+    let m = inside (goal.at.loop-p-preserved c).After-place_of-place in
+    let i = place_index (goal.at.loop-p-preserved c).After-place_of-place in
+    let j = place_states (goal.at.loop-p-preserved c).After-place_of-place in
     let e : c.from-e.result ≡ get_or c.args.tables.now (l.begin + index (task_of r).sizes (get_or (patterns_of r) l.p []) s) 0 = c.from-e.ensures ∙ ap (λ x. get_or c.args.tables.now (l.begin + x) 0) i in
     let g = ne_eqb c.from-e.result 65535 c.if-e-eq65535.false in
     rw (j, e) (summing_finite (task_of r).sizes (patterns_of r) s c.args.tables.now l.sum l.begin l.p l.invariant m c.requires.2 (rw e at (let b = c.type_inv.tables (l.begin + c.place_of-place.result.index) in let f : c.from-e.result ≤ 65534 = omega (arith, c.if-e-eq65535.false, c.from-e.ensures) in f)) (rw e at g))

@@ -9,7 +9,7 @@ pub loop-i-init : goal.loop-i-init
 loop-i-init c = (omega arith, λ j l. absurd (omega arith))
 
 pub is_exact-requires : goal.is_exact-requires
-is_exact-requires c = (c.requires.0, c.requires.1, rw c.fill_sets.ensures (filled-sets _ _ _ _ _ c.requires.0.actions_few), c.requires.2, c.loop-i-test.true, c.requires.3, c.requires.4)
+is_exact-requires c = let p = c.requires in (rw c.fill_sets.ensures (filled-sets _ _ _ _ _ c.args.x.now.actions_few), p.0, omega (arith, p.1, c.loop-i-test.true))
 
 pub returns-then-not-is_exact : goal.returns-then-not-is_exact
 returns-then-not-is_exact c = λ q. false_true q

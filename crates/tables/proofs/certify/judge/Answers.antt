@@ -6,15 +6,15 @@ use Rattle.tables.proofs.certify.judge.Goals as goal
 
 pub returns-then-v-e : goal.returns-then-v-e
 unfolding offer
-returns-then-v-e c = judged_high _ _ _ _ (let f = c.ranges in omega (arith, f.e)) c.worst_after-v.ensures c.if-v-e.true
+returns-then-v-e c = judged_high _ _ _ _ (let f = c.ranges in omega (arith, f.e)) c.worst_entry-v.ensures c.if-v-e.true
 
 pub returns-then-said-e : goal.returns-then-said-e
 returns-then-said-e c = judged_less _ _
 
 pub returns-then-said-e-2 : goal.returns-then-said-e-2
 unfolding offer
-returns-then-said-e-2 c = judged_equal _ _ _ _ _ c.worst_after-v.ensures c.if-v-e.false c.raise-said.ensures c.if-said-e-2.true
+returns-then-said-e-2 c = judged_equal _ _ _ _ _ c.worst_entry-v.ensures c.if-v-e.false c.raise-said.ensures c.if-said-e-2.true
 
 pub returns : goal.returns
 unfolding offer
-returns c = judged_more _ _ _ _ _ c.worst_after-v.ensures c.if-v-e.false c.raise-said.ensures c.if-said-e.false
+returns c = judged_more _ _ _ _ _ c.worst_entry-v.ensures c.if-v-e.false c.raise-said.ensures c.if-said-e.false

@@ -5,6 +5,3 @@ use Rattle.tables.proofs.sweep.index_of.Given as goal
 
 abbrev pub invariant-loop-g : goal.invariant-loop-g
 invariant-loop-g l = (l.g ≤ 4) × (l.sum ≤ l.g * 3932100) × (weigh l.weights l.s ≡ l.sum + weigh (drop (4 * l.g) l.weights) l.rest) × (l.rest < 65536 ^ (4 - l.g))
-
-abbrev pub decreases-loop-g : goal.decreases-loop-g
-decreases-loop-g l = 4 - l.g

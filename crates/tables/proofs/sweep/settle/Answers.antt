@@ -1,5 +1,5 @@
 -- `tables::sweep::settle` meets its contract. Assumes nothing.
-use Rattle.std.proofs.Common.{refl, ◌∙◌, arith}
+use Rattle.std.proofs.Common.{refl, ◌∙◌}
 use Rattle.tables.specs.Steps.{none}
 use Rattle.tables.proofs.Settled.{then, steps_length}
 use Rattle.tables.proofs.sweep.settle.Goals as goal
@@ -8,7 +8,7 @@ pub loop-init : goal.loop-init
 loop-init c = (none, refl)
 
 pub sweep-requires : goal.sweep-requires
-sweep-requires c = let p = c.requires in (p.0, p.1, omega (arith, p.2, c.loop.invariant.1))
+sweep-requires c = c.loop.invariant.1 ∙ c.requires
 
 pub loop-smaller : goal.loop-smaller
 loop-smaller c = c.sweep.ensures.less c.loop-test.true

@@ -3,8 +3,8 @@ use Rattle.std.proofs.Common.{◌*◌, ◌≤◌, ap, mul-le-mul, arith}
 use Rattle.tables.proofs.sweep.times.Goals as goal
 
 pub overflow_mul-result : goal.overflow_mul-result
-overflow_mul-result c = let x : c.args.x ≤ 15 = omega (arith, c.requires) in let y : c.wide.result ≤ 65535 = omega arith in let p = mul-le-mul x y in record { fits = omega arith }
+overflow_mul-result c = let x : c.args.x ≤ 15 = omega (arith, c.requires) in let y : c.from.result ≤ 65535 = omega (arith, c.from.ensures, c.ranges.w.fits) in let p = mul-le-mul x y in record { fits = omega arith }
 
 pub returns : goal.returns
-returns c = let x : c.args.x ≤ 15 = omega (arith, c.requires) in let y : c.wide.result ≤ 65535 = omega arith in let p = mul-le-mul x y in
-    (ap (λ z. c.args.x * z) c.wide.ensures.0, omega arith)
+returns c = let x : c.args.x ≤ 15 = omega (arith, c.requires) in let y : c.from.result ≤ 65535 = omega (arith, c.from.ensures, c.ranges.w.fits) in let p = mul-le-mul x y in
+    (ap (λ z. c.args.x * z) c.from.ensures, omega arith)
