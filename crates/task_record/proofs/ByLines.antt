@@ -1,12 +1,12 @@
 -- What a call says in numbers after its record, or record and state, was checked: the lines 5 and 6, or 5, 6 and 10, of "Where a call can say
 -- no", and below them what it judges. Assumes nothing.
-use Rattle.std.proofs.Common.{◌≡◌, ℕ, Bool, true, false, cond, not, eqb, ltb, List, length, refl, ap, ◌∙◌, Result, Ok, Err}
-use Rattle.planning.specs.Numbers.{Numbers, refused_if}
+use Rattle.std.proofs.Common.{◌≡◌, ℕ, Bool, true, false, cond, not, eqb, ltb, List, length, refl, sym, ap, ◌∙◌, Result, Ok, Err}
+use Rattle.planning.specs.Numbers.{Numbers, answered, refused_if}
 use Rattle.task_record.specs.Layout.{record_size}
 use Rattle.task_record.specs.Record.{first_bad, record_check}
 use Rattle.task_record.specs.State.{first_bad_value, judge_state, state_check}
 use Rattle.task_record.specs.Refusals.{refusal_numbers, answer_numbers, after}
-use Rattle.task_record.specs.Answers.{short_record, bad_cell, bad_state}
+use Rattle.task_record.specs.Answers.{short_record, bad_cell, bad_state, record_by_lines, state_by_lines}
 use Rattle.task_record.specs.declared.refusal.Refusal.{Refusal}
 use Rattle.task_record.specs.declared.refusal.Refusal.TheVariants.{ShortRecord, WrongCell, WrongState}
 
@@ -51,3 +51,12 @@ after_check f r s next = ap (answer_numbers f) (after_after (record_check r) (λ
 pub told_alone : {A : Type 0} → (f : A → Numbers) → (x : Result A Refusal) → answer_numbers f x ≡ answer_numbers f (after x (λ a. Ok a))
 told_alone f (Ok a) = refl
 told_alone f (Err e) = refl
+
+-- What the two checks say, line by line. The words of specs/Answers.antt on the cases are not named here, so that each call is held to them itself.
+pub record_told : (r : List ℕ) → record_by_lines r ≡ answer_numbers (λ u. answered 0 0 0 0) (record_check r)
+unfolding record_by_lines
+record_told r = sym (told_alone _ (record_check r) ∙ after_record_lem (λ u. answered 0 0 0 0) r (λ u. Ok tt))
+
+pub state_told : (r s : List ℕ) → state_by_lines r s ≡ answer_numbers (λ u. answered 0 0 0 0) (state_check r s)
+unfolding state_by_lines
+state_told r s = sym (told_alone _ (state_check r s) ∙ after_check (λ u. answered 0 0 0 0) r s (λ u. Ok tt))

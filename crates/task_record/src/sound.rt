@@ -7,6 +7,7 @@ use crate::record::{check_record, judge_state};
 use crate::refusal::Refusal;
 use std::marker::Model;
 
+#[derive(Drop)]
 pub struct SoundRecord<'a> {
     pub cells: &'a [u8],
 }

@@ -5,15 +5,13 @@ use Rattle.task_record.specs.Layout.{record_size}
 use Rattle.task_record.specs.Scan.{first_from}
 use Rattle.task_record.specs.declared.refusal.Refusal.TheVariants.{WrongCell}
 use Rattle.task_record.proofs.Scanning.{scan_found, scan_passed}
-use Rattle.planning.specs.Numbers.{answered}
 use Rattle.task_record.specs.Answers.{record_numbers, record_by_lines}
 use Rattle.task_record.specs.declared.refusal.Refusal.{Refusal}
-use Rattle.task_record.proofs.ByLines.{after_record_lem, told_alone}
+use Rattle.task_record.proofs.ByLines.{record_told}
 use Rattle.task_record.proofs.record.check_record.Goals as goal
 
 told : (r : List ℕ) → (x : Result Unit Refusal) → x ≡ record_check r → (x ≡ record_check r) × (record_numbers x ≡ record_by_lines r)
-unfolding record_by_lines
-told r x e = (e, ap record_numbers e ∙ told_alone _ (record_check r) ∙ after_record_lem (λ u. answered 0 0 0 0) r (λ u. Ok tt))
+told r x e = (e, ap record_numbers e ∙ sym (record_told r))
 
 pub returns-then-rec-lt-RECORD_SIZE : goal.returns-then-rec-lt-RECORD_SIZE
 unfolding record_check
