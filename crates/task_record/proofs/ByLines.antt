@@ -6,7 +6,7 @@ use Rattle.task_record.specs.Layout.{record_size}
 use Rattle.task_record.specs.Record.{first_bad, record_check}
 use Rattle.task_record.specs.State.{first_bad_value, judge_state, state_check}
 use Rattle.task_record.specs.Refusals.{refusal_numbers, answer_numbers, after}
-use Rattle.task_record.specs.Answers.{short_record, bad_cell, bad_state, record_by_lines, state_by_lines}
+use Rattle.task_record.specs.Answers.{short_record, bad_cell, bad_state, record_by_lines}
 use Rattle.task_record.specs.declared.refusal.Refusal.{Refusal}
 use Rattle.task_record.specs.declared.refusal.Refusal.TheVariants.{ShortRecord, WrongCell, WrongState}
 
@@ -52,11 +52,10 @@ pub told_alone : {A : Type 0} → (f : A → Numbers) → (x : Result A Refusal)
 told_alone f (Ok a) = refl
 told_alone f (Err e) = refl
 
--- What the two checks say, line by line. The words of specs/Answers.antt on the cases are not named here, so that each call is held to them itself.
+-- What the two checks say, line by line. The words of specs/Answers.antt on cases and calls are not named where a call can be held to them itself.
 pub record_told : (r : List ℕ) → record_by_lines r ≡ answer_numbers (λ u. answered 0 0 0 0) (record_check r)
 unfolding record_by_lines
 record_told r = sym (told_alone _ (record_check r) ∙ after_record_lem (λ u. answered 0 0 0 0) r (λ u. Ok tt))
 
-pub state_told : (r s : List ℕ) → state_by_lines r s ≡ answer_numbers (λ u. answered 0 0 0 0) (state_check r s)
-unfolding state_by_lines
+pub state_told : (r s : List ℕ) → short_record r (bad_cell r (bad_state r s (answered 0 0 0 0))) ≡ answer_numbers (λ u. answered 0 0 0 0) (state_check r s)
 state_told r s = sym (told_alone _ (state_check r s) ∙ after_check (λ u. answered 0 0 0 0) r s (λ u. Ok tt))

@@ -225,7 +225,7 @@ pub(crate) fn judge_state(rec: &[u8], state: &[u8]) -> Result<(), Refusal>
 }
 
 // Whether `state` is a state of the task that `rec` holds.
-#[tactic(auto, using(crate::proofs::ByLines::state_told), unfolding(crate::specs::Record::Sound))]
+#[tactic(auto, using(crate::proofs::ByLines::state_told), unfolding(crate::specs::Record::Sound, crate::specs::Answers::state_by_lines))]
 pub fn check_state(rec: &[u8], state: &[u8]) -> Result<(), Refusal>
     ensures value { result ≡ state_check rec.now state.now }
     ensures numbers { state_numbers result ≡ state_by_lines rec.now state.now }
