@@ -1,16 +1,17 @@
 -- Laws of the order of refusals: what a test answers decides, or hands on to the next. Assumes nothing.
-use Rattle.std.proofs.Common.{◌≡◌, ◌≢◌, ℕ, ◌<◌, ltb, eqb, List, length, refl, ap, arith, Result, Ok, Err, Option, Some, None}
-use mathlib.Core.Logic.{◌⊎◌, inl, inr, ⊎_elim}
+use Rattle.std.proofs.Common.{◌≡◌, ℕ, ◌<◌, ltb, List, length, refl, ap, arith, Result, Ok, Err, Option, Some, None}
+use mathlib.Core.Logic.{◌⊎◌, inl, inr}
 use Rattle.planning.specs.Extended.{ℕ∞, fin, inf}
 use Rattle.planning.specs.Numbers.{refusal}
 use Rattle.planning.specs.Pattern.{Verdict, additive, conflict, verdict}
 use Rattle.planning.proofs.Test.{by_test}
 use Rattle.task_record.specs.Record.{record_check, first_bad, Sound}
 use Rattle.task_record.specs.Refusals.{refusal_numbers, after}
-use Rattle.task_record.specs.State.{judge_state, first_bad_value, state_check}
+use Rattle.task_record.specs.State.{judge_state, state_check, GoodState}
 use Rattle.task_record.specs.TaskOf.{task_of, patterns_of}
 use Rattle.task_record.specs.declared.refusal.Refusal.{Refusal}
-use Rattle.task_record.specs.declared.refusal.Refusal.TheVariants.{ShortRecord, WrongCell, WrongState}
+use Rattle.task_record.specs.declared.refusal.Refusal.TheVariants.{ShortRecord, WrongCell}
+use Rattle.task_record.proofs.States.{checked_good}
 use Rattle.patterns.specs.Space.{judge_tables, table_check}
 use Rattle.patterns.specs.Additivity.{additivity_of}
 use Rattle.patterns.specs.Estimate.{after_verdict, judge_estimate, estimate_check}
@@ -59,7 +60,7 @@ pub checked_ready : (r : List ℕ) (lent : ℕ) → estimate_check r lent ≡ Ok
 unfolding Sound
 checked_ready r lent h = let k = after_ok (record_check r) (λ u. judge_estimate r lent) tt h in (k.1, k.2)
 
--- The numbers of a record's and of a state's refusals.
+-- The numbers of a record's refusals.
 pub record_number : (r : List ℕ) (e : Refusal) → record_check r ≡ Err e → (refusal_numbers e).number < 10
 unfolding record_check refusal
 record_number r e h = by_test (ltb (length r) 9464)
@@ -68,36 +69,13 @@ record_number r e h = by_test (ltb (length r) 9464)
     (λ f. let g = rw (s, f) at h in let k : WrongCell (first_bad r) ≡ e = cc in rw (← k) (omega arith))
     (λ f. let g = rw (s, f) at h in let z : ◌≡◌ {A = ℕ} 0 1 = cc in absurd (omega arith)))
 
-state_number : (r s : List ℕ) (e : Refusal) → judge_state r s ≡ Err e → (offset : ℕ) × (e ≡ WrongState offset)
-unfolding judge_state
-state_number r s e h = by_test (eqb (length s) 16)
-    (λ t. by_test (ltb (first_bad_value r s) 16)
-    (λ f. let g = rw (t, f) at h in (first_bad_value r s, cc))
-    (λ f. let g = rw (t, f) at h in let z : ◌≡◌ {A = ℕ} 0 1 = cc in absurd (omega arith)))
-    (λ t. let g = rw t at h in (16, cc))
+-- What it means that a state of a sound record passes its check, and what is then answered of its value.
+pub state_good : (r s : List ℕ) → Sound r → judge_state r s ≡ Ok tt → Sound r × GoodState r s
+unfolding Sound
+state_good r s sound h = checked_good r s (rw (sound, h))
 
--- What the check of a state says of the value.
-module _ (r s tabs : List ℕ) where
-  pub value_of_good : state_check r s ≡ Ok tt → state_value r s tabs ≡ after (judge_estimate r (length tabs)) (λ u. Ok (value_of (read_value r s tabs)))
-  value_of_good h = let k = after_ok (record_check r) (λ u. judge_state r s) tt h in rw (k.1, k.2)
-
-  module _ (e : Refusal) (h : state_check r s ≡ Err e) where
-    -- 10 comes from a sound record, the others from the record itself.
-    late : {C : Type 0} (offset : ℕ) → e ≡ WrongState offset → ((record_check r ≡ Ok tt) × (judge_state r s ≡ Err e) → C) → C
-    unfolding refusal
-    late offset w found = ⊎_elim (λ k. let n = record_number r e k in let m = rw w at n in absurd (omega arith)) (λ k. found (k.1, k.2)) (after_err (record_check r) (λ u. judge_state r s) e h)
-
-    pub late_refusal_sound : (offset : ℕ) → e ≡ WrongState offset → Sound r
-    unfolding Sound
-    late_refusal_sound offset w = late offset w (λ k. k.0)
-
-    pub value_of-refused : (x : Result (Option ℕ) Refusal) → ((offset : ℕ) → e ≡ WrongState offset → x ≡ after (judge_estimate r (length tabs)) (λ u. Err e))
-        → (((offset : ℕ) → e ≢ WrongState offset) → x ≡ Err e) → x ≡ state_value r s tabs
-    unfolding refusal
-    value_of-refused x last first = ⊎_elim
-        (λ k. rw k (first (λ offset w. let n = record_number r e k in let m = rw w at n in absurd (omega arith))))
-        (λ k. let w = state_number r s e k.2 in rw (k.1, k.2) (last w.0 w.1))
-        (after_err (record_check r) (λ u. judge_state r s) e h)
+pub value_of_good : (r s tabs : List ℕ) → state_check r s ≡ Ok tt → state_value r s tabs ≡ after (judge_estimate r (length tabs)) (λ u. Ok (value_of (read_value r s tabs)))
+value_of_good r s tabs h = let k = after_ok (record_check r) (λ u. judge_state r s) tt h in rw (k.1, k.2)
 
 -- An answer that is no refusal is the value that was read, of a good state, and every test has passed.
 pub answered_means : (r s tabs : List ℕ) (v : Option ℕ) → state_value r s tabs ≡ Ok v →

@@ -3,7 +3,6 @@ ghost use Rattle.std.specs.Prelude.{◌≡◌, ℕ, ◌+◌, ◌*◌, ◌≤◌,
 ghost use Rattle.planning.specs.Pattern.{affects, affects_pattern, additive, verdict};
 ghost use Rattle.task_record.specs.Layout.{at_pattern, at_outcome};
 ghost use Rattle.task_record.specs.Numbers.{action_count, pattern_count, outcome_count};
-ghost use Rattle.task_record.specs.Record.{Sound};
 ghost use Rattle.task_record.specs.TaskOf.{cells_at, action_of, task_of, patterns_of};
 ghost use Rattle.patterns.specs.Sets.{set_from, Lone, Covers};
 ghost use Rattle.patterns.specs.Additivity.{additivity_of, additivity};
@@ -14,8 +13,8 @@ use task_record::cells::{
     action_count, outcome_cells, outcome_count, pattern_cells, pattern_count,
 };
 use task_record::layout::{ACTION_SIZE, AT_ACTIONS, IN_OUTCOMES};
-use task_record::record::check_record;
 use task_record::refusal::Refusal;
+use task_record::sound::SoundRecord;
 
 // The lowest action that affects two patterns, with the lowest two.
 #[derive(Clone, Copy, PartialEq, Eq)]
@@ -75,18 +74,20 @@ impl<'a> Model for Members<'a> {
 
 impl<'a> Members<'a> {
     // A row at a time, the highest pattern first.
-    fn of(rec: &'a [u8]) -> Members<'a>
-        requires { Sound rec.now }
-        ensures { result ≡ rec.now }
+    fn of(record: &SoundRecord<'a>) -> Members<'a>
+        ensures { result ≡ record.now }
     {
         let mut sets = [0u8; 16];
-        for p in (0..pattern_count(rec)).rev() {
-            let cells = pattern_cells(rec, p);
+        for p in (0..pattern_count(record.cells)).rev() {
+            let cells = pattern_cells(record.cells, p);
             for (v, set) in sets.iter_mut().enumerate() {
                 *set = *set * 2 + u8::from(cells[v] == 1);
             }
         }
-        Members { rec, sets }
+        Members {
+            rec: record.cells,
+            sets,
+        }
     }
 
     // The patterns that an outcome affects: those of the variables that it names, all sixteen cells at once.
@@ -173,11 +174,10 @@ impl<'a> Members<'a> {
 
 // The first conflict, scanned for only where there is one.
 #[tactic(auto, unfolding(crate::specs::Additivity::additivity_of))]
-pub(crate) fn decide(rec: &[u8]) -> Option<Conflict>
-    requires { Sound rec.now }
-    ensures { result ≡ additivity_of (verdict (task_of rec.now) (patterns_of rec.now)) }
+pub(crate) fn decide(record: &SoundRecord) -> Option<Conflict>
+    ensures { result ≡ additivity_of (verdict (task_of record.now) (patterns_of record.now)) }
 {
-    let members = Members::of(rec);
+    let members = Members::of(record);
     if members.is_additive() {
         return None;
     }
@@ -185,11 +185,11 @@ pub(crate) fn decide(rec: &[u8]) -> Option<Conflict>
 }
 
 // The first conflict of the task's patterns, or none where they are additive.
-#[tactic(auto, using(crate::proofs::ByLines::additivity_told), unfolding(task_record::specs::Record::Sound))]
+#[tactic(auto, using(crate::proofs::ByLines::additivity_told))]
 pub fn additive(rec: &[u8]) -> Result<Option<Conflict>, Refusal>
     ensures value { result ≡ additivity rec.now }
     ensures numbers { additivity_numbers result ≡ additivity_by_lines rec.now }
 {
-    check_record(rec)?;
-    Ok(Members::of(rec).scan())
+    let record = SoundRecord::new(rec)?;
+    Ok(Members::of(&record).scan())
 }

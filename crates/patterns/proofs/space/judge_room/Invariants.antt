@@ -4,4 +4,4 @@ use Rattle.patterns.proofs.Room.{Adding}
 use Rattle.patterns.proofs.space.judge_room.Given as goal
 
 abbrev pub invariant-loop-p : goal.invariant-loop-p
-invariant-loop-p l = Adding (task_of l.rec).sizes (patterns_of l.rec) l.needed l.p
+invariant-loop-p l = Adding (task_of l.record).sizes (patterns_of l.record) l.needed l.p

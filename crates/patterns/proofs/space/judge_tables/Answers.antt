@@ -11,19 +11,16 @@ use Rattle.patterns.proofs.space.judge_tables.Goals as goal
 
 pub slice_bounds-judge_room-end : goal.slice_bounds-judge_room-end
 slice_bounds-judge_room-end c =
-    let pre = c.requires in
-    let args = c.args in
     let variable-count = c.variable_count in
     let from = c.from-end in
-    let r = args.rec.now in let n = sound_length r pre in let f = variables_few r pre in let w = from.ensures ∙ variable-count.ensures in omega arith
+    let r = c.record.inside.cells.now in let h = c.record.invariant in let n = sound_length r h in let f = variables_few r h in let w = from.ensures ∙ variable-count.ensures in omega arith
 
 pub judge_room-requires : goal.judge_room-requires
 unfolding task_of
 judge_room-requires c =
-    let pre = c.requires in
     let args = c.args in
     let variable-count = c.variable_count in
     let from = c.from-end in
-    let r = args.rec.now in let w = from.ensures ∙ variable-count.ensures in
+    let r = args.record.now in let w = from.ensures ∙ rw c.record.view_is at variable-count.ensures in
     let e : at_sizes + from.result - at_sizes ≡ variable_count r = omega arith in
-    (pre, rw e)
+    rw (c.record.view_is, e)

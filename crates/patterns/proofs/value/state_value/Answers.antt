@@ -1,5 +1,5 @@
--- `state_value`: what the check of record and state says decides which of the two goes on; in numbers lines 5 to 10. Assumes nothing.
-use Rattle.std.proofs.Common.{◌≡◌, ℕ, List, length, refl, sym, ap, ◌∙◌, Result, Ok, Option}
+-- `state_value`: in numbers lines 5 to 10, one by one. Assumes nothing.
+use Rattle.std.proofs.Common.{rules, ◌≡◌, ℕ, List, length, refl, ap, ◌∙◌, Result, Ok, Option}
 use Rattle.planning.specs.Extended.{ℕ∞, fin, inf}
 use Rattle.task_record.specs.Answers.{short_record, bad_cell, bad_state}
 use Rattle.task_record.specs.Refusals.{answer_numbers, after}
@@ -10,7 +10,6 @@ use Rattle.patterns.specs.Estimate.{judge_estimate}
 use Rattle.patterns.specs.Value.{value_of, read_value, state_value}
 use Rattle.patterns.specs.Answers.{large_pattern, short_tables, not_additive, finite_numbers, value_numbers, sum_numbers, value_by_lines}
 use Rattle.patterns.proofs.ByLines.{after_estimate_lem}
-use Rattle.patterns.proofs.Refusals.{value_of_good, late_refusal_sound, value_of-refused}
 use Rattle.patterns.proofs.value.state_value.Goals as goal
 
 sum_told : (n : ℕ∞) → finite_numbers (value_of n) ≡ sum_numbers n
@@ -18,22 +17,21 @@ unfolding value_of sum_numbers
 sum_told (fin n) = refl
 sum_told inf = refl
 
-told : (x : Result (Option ℕ) Refusal) (r s tabs : List ℕ) → x ≡ state_value r s tabs → value_numbers x ≡ value_by_lines r s tabs
+told : (r s tabs : List ℕ) (x : Result (Option ℕ) Refusal) → x ≡ state_value r s tabs → value_numbers x ≡ value_by_lines r s tabs
 unfolding value_by_lines
-told x r s tabs e = let f = finite_numbers in let v = value_of (read_value r s tabs) in
+told r s tabs x e = let f = finite_numbers in let v = value_of (read_value r s tabs) in
     ap (answer_numbers f) e ∙ after_record_lem f r (λ u. after (judge_estimate r (length tabs)) (λ u. after (judge_state r s) (λ u. Ok v)))
     ∙ ap (λ t. short_record r (bad_cell r t)) (after_estimate_lem f r (length tabs) (λ u. after (judge_state r s) (λ u. Ok v)))
     ∙ ap (λ t. short_record r (bad_cell r (large_pattern r (short_tables r (length tabs) (not_additive r t))))) (after_state_lem f r s (λ u. Ok v) ∙ ap (bad_state r s) (sum_told (read_value r s tabs)))
 
-pub refuse_value-requires : goal.refuse_value-requires
-refuse_value-requires c = let a = c.args in late_refusal_sound a.rec.now a.state.now a.tables.now c.in-Err.refused (sym c.check_state.ensures.value ∙ c.in-Err.is)
+pub returns-in_err-record-clause-numbers : goal.returns-in_err-record-clause-numbers
+returns-in_err-record-clause-numbers c = let a = c.args in told a.rec.now a.state.now a.tables.now _ (search rules)
 
-pub returns-in-Ok : goal.returns-in-Ok
-returns-in-Ok c = let a = c.args in
-    let e = c.judge_value.ensures ∙ sym (value_of_good a.rec.now a.state.now a.tables.now (sym c.check_state.ensures.value ∙ c.in-Ok.is)) in
-    record { value = e; numbers = told _ a.rec.now a.state.now a.tables.now e }
+pub returns-in_err-judge_estimate-clause-numbers : goal.returns-in_err-judge_estimate-clause-numbers
+returns-in_err-judge_estimate-clause-numbers c = let a = c.args in told a.rec.now a.state.now a.tables.now _ (search rules)
 
-pub returns-in-Err : goal.returns-in-Err
-returns-in-Err c = let a = c.args in
-    let e = value_of-refused a.rec.now a.state.now a.tables.now c.in-Err.refused (sym c.check_state.ensures.value ∙ c.in-Err.is) c.refuse_value.result c.refuse_value.ensures.late c.refuse_value.ensures.early in
-    record { value = e; numbers = told _ a.rec.now a.state.now a.tables.now e }
+pub returns-in_err-check_state-clause-numbers : goal.returns-in_err-check_state-clause-numbers
+returns-in_err-check_state-clause-numbers c = let a = c.args in told a.rec.now a.state.now a.tables.now _ (search rules)
+
+pub returns-clause-numbers : goal.returns-clause-numbers
+returns-clause-numbers c = let a = c.args in told a.rec.now a.state.now a.tables.now (Ok c.read_value.result) (search rules)

@@ -18,77 +18,77 @@ use Rattle.patterns.proofs.value.sum_entries.Goals.{After-place_of-place}
 use Rattle.patterns.proofs.value.sum_entries.Goals as goal
 
 pub loop-p-init : goal.loop-p-init
-loop-p-init c = let r = c.args.rec.now in summing_start (task_of r).sizes (patterns_of r) c.args.state.now c.args.tables.now c.requires.4
+loop-p-init c = let r = c.args.record.now in summing_start (task_of r).sizes (patterns_of r) c.args.state.now c.args.tables.now c.requires.3
 
 pub place_of-place-requires : goal.place_of-place-requires
 unfolding Small
-place_of-place-requires c = let r = c.args.rec.now in let s = c.args.state.now in let l = c.loop-p in
-    let t : l.p < pattern_count r = rw c.pattern_count-p-end.ensures at c.loop-p-test.true in
+place_of-place-requires c = let r = c.args.record.now in let h = rw c.record.view_is at c.record.invariant in let s = c.args.state.now in let l = c.loop-p in
+    let t : l.p < pattern_count r = rw (c.pattern_count-p-end.ensures, c.record.view_is) at c.loop-p-test.true in
     let m : l.p < length (patterns_of r) = rw (patterns_length r) t in
-    let f = sizes_few r c.requires.0 in let w = pattern_whole r c.requires.0 l.p t in let n = state_length (task_of r).sizes s c.requires.2 in
-    let k = rw (pattern_at r l.p t) at (all_at (λ x. state_count (task_of r).sizes x ≤ 4096) (patterns_of r) [] c.requires.3 l.p m) in
-    rw (c.requires.1, c.pattern_cells.ensures) (sizes_positive r c.requires.0, f, omega arith, omega arith, k)
+    let f = sizes_few r h in let w = pattern_whole r h l.p t in let n = state_length (task_of r).sizes s c.requires.1 in
+    let k = rw (pattern_at r l.p t) at (all_at (λ x. state_count (task_of r).sizes x ≤ 4096) (patterns_of r) [] c.requires.2 l.p m) in
+    rw (c.requires.0, c.pattern_cells.ensures, c.record.view_is) (sizes_positive r h, f, omega arith, omega arith, k)
 
 -- The pattern in hand, and where its entry stands.
-inside : (c : After-place_of-place) → c.loop-p.p < length (patterns_of c.args.rec.now)
-inside c = rw (patterns_length c.args.rec.now) (rw c.pattern_count-p-end.ensures at c.loop-p-test.true)
+inside : (c : After-place_of-place) → c.loop-p.p < length (patterns_of c.args.record.now)
+inside c = rw (patterns_length c.args.record.now) (rw (c.pattern_count-p-end.ensures, c.record.view_is) at c.loop-p-test.true)
 
-cells_read : (c : After-place_of-place) → c.pattern_cells.result.now ≡ get_or (patterns_of c.args.rec.now) c.loop-p.p []
-cells_read c = c.pattern_cells.ensures ∙ sym (pattern_at c.args.rec.now c.loop-p.p (rw c.pattern_count-p-end.ensures at c.loop-p-test.true))
+cells_read : (c : After-place_of-place) → c.pattern_cells.result.now ≡ get_or (patterns_of c.args.record.now) c.loop-p.p []
+cells_read c = rw c.record.view_is at c.pattern_cells.ensures ∙ sym (pattern_at c.args.record.now c.loop-p.p (rw (c.pattern_count-p-end.ensures, c.record.view_is) at c.loop-p-test.true))
 
-place_index : (c : After-place_of-place) → c.place_of-place.result.index ≡ index (task_of c.args.rec.now).sizes (get_or (patterns_of c.args.rec.now) c.loop-p.p []) c.args.state.now
-place_index c = c.place_of-place.ensures.0 ∙ ap₂ (λ z x. index z x c.args.state.now) c.requires.1 (cells_read c)
+place_index : (c : After-place_of-place) → c.place_of-place.result.index ≡ index (task_of c.args.record.now).sizes (get_or (patterns_of c.args.record.now) c.loop-p.p []) c.args.state.now
+place_index c = c.place_of-place.ensures.0 ∙ ap₂ (λ z x. index z x c.args.state.now) c.requires.0 (cells_read c)
 
-place_states : (c : After-place_of-place) → c.place_of-place.result.states ≡ state_count (task_of c.args.rec.now).sizes (get_or (patterns_of c.args.rec.now) c.loop-p.p [])
-place_states c = c.place_of-place.ensures.1 ∙ ap₂ state_count c.requires.1 (cells_read c)
+place_states : (c : After-place_of-place) → c.place_of-place.result.states ≡ state_count (task_of c.args.record.now).sizes (get_or (patterns_of c.args.record.now) c.loop-p.p [])
+place_states c = c.place_of-place.ensures.1 ∙ ap₂ state_count c.requires.0 (cells_read c)
 
 pub overflow_add-at : goal.overflow_add-at
-overflow_add-at c = let r = c.args.rec.now in let s = c.args.state.now in let l = c.loop-p in
+overflow_add-at c = let r = c.args.record.now in let s = c.args.state.now in let l = c.loop-p in
     let m = inside (goal.at.overflow_add-at c).After-place_of-place in
     let i = place_index (goal.at.overflow_add-at c).After-place_of-place in
-    let n = place_inside (task_of r).sizes (patterns_of r) s c.args.tables.now l.sum l.begin l.p l.invariant m c.requires.2 in omega arith
+    let n = place_inside (task_of r).sizes (patterns_of r) s c.args.tables.now l.sum l.begin l.p l.invariant m c.requires.1 in omega arith
 
 pub offset_bounds-tables-at : goal.offset_bounds-tables-at
-offset_bounds-tables-at c = let r = c.args.rec.now in let s = c.args.state.now in let l = c.loop-p in
+offset_bounds-tables-at c = let r = c.args.record.now in let s = c.args.state.now in let l = c.loop-p in
     let m = inside (goal.at.offset_bounds-tables-at c).After-place_of-place in
     let i = place_index (goal.at.offset_bounds-tables-at c).After-place_of-place in
-    let n = place_inside (task_of r).sizes (patterns_of r) s c.args.tables.now l.sum l.begin l.p l.invariant m c.requires.2 in omega arith
+    let n = place_inside (task_of r).sizes (patterns_of r) s c.args.tables.now l.sum l.begin l.p l.invariant m c.requires.1 in omega arith
 
 pub bounds-tables-at : goal.bounds-tables-at
-bounds-tables-at c = let r = c.args.rec.now in let s = c.args.state.now in let l = c.loop-p in
+bounds-tables-at c = let r = c.args.record.now in let s = c.args.state.now in let l = c.loop-p in
     let m = inside (goal.at.bounds-tables-at c).After-place_of-place in
     let i = place_index (goal.at.bounds-tables-at c).After-place_of-place in
-    let n = place_inside (task_of r).sizes (patterns_of r) s c.args.tables.now l.sum l.begin l.p l.invariant m c.requires.2 in omega arith
+    let n = place_inside (task_of r).sizes (patterns_of r) s c.args.tables.now l.sum l.begin l.p l.invariant m c.requires.1 in omega arith
 
 pub returns-then-e-eq65535 : goal.returns-then-e-eq65535
 unfolding value_of
-returns-then-e-eq65535 c = let r = c.args.rec.now in let s = c.args.state.now in let l = c.loop-p in
+returns-then-e-eq65535 c = let r = c.args.record.now in let s = c.args.state.now in let l = c.loop-p in
     let m = inside (goal.at.returns-then-e-eq65535 c).After-place_of-place in
     let i = place_index (goal.at.returns-then-e-eq65535 c).After-place_of-place in
     let e : c.from-e.result ≡ get_or c.args.tables.now (l.begin + index (task_of r).sizes (get_or (patterns_of r) l.p []) s) 0 = c.from-e.ensures ∙ ap (λ x. get_or c.args.tables.now (l.begin + x) 0) i in
-    sym (ap value_of (summing_infinite (task_of r).sizes (patterns_of r) s c.args.tables.now l.sum l.begin l.p l.invariant m c.requires.2 (sym e ∙ c.if-e-eq65535.true)))
+    sym (ap value_of (summing_infinite (task_of r).sizes (patterns_of r) s c.args.tables.now l.sum l.begin l.p l.invariant m c.requires.1 (sym e ∙ c.if-e-eq65535.true)))
 
 pub overflow_add-sum : goal.overflow_add-sum
-overflow_add-sum c = let r = c.args.rec.now in let l = c.loop-p in let k = patterns_right r c.requires.0 in
-    let t : l.p < pattern_count r = rw c.pattern_count-p-end.ensures at c.loop-p-test.true in omega (arith, l.invariant.bounded, c.from-e.ensures, c.type_inv.tables (l.begin + c.place_of-place.result.index))
+overflow_add-sum c = let r = c.args.record.now in let h = rw c.record.view_is at c.record.invariant in let l = c.loop-p in let k = patterns_right r h in
+    let t : l.p < pattern_count r = rw (c.pattern_count-p-end.ensures, c.record.view_is) at c.loop-p-test.true in omega (arith, l.invariant.bounded, c.from-e.ensures, c.type_inv.tables (l.begin + c.place_of-place.result.index))
 
 pub overflow_add-begin : goal.overflow_add-begin
-overflow_add-begin c = let r = c.args.rec.now in let s = c.args.state.now in let l = c.loop-p in
+overflow_add-begin c = let r = c.args.record.now in let s = c.args.state.now in let l = c.loop-p in
     let m = inside (goal.at.overflow_add-begin c).After-place_of-place in
     let j = place_states (goal.at.overflow_add-begin c).After-place_of-place in
-    let n = table_inside (task_of r).sizes (patterns_of r) s c.args.tables.now l.sum l.begin l.p l.invariant m c.requires.2 in omega arith
+    let n = table_inside (task_of r).sizes (patterns_of r) s c.args.tables.now l.sum l.begin l.p l.invariant m c.requires.1 in omega arith
 
 pub loop-p-preserved : goal.loop-p-preserved
-loop-p-preserved c = let r = c.args.rec.now in let s = c.args.state.now in let l = c.loop-p in
+loop-p-preserved c = let r = c.args.record.now in let s = c.args.state.now in let l = c.loop-p in
     let m = inside (goal.at.loop-p-preserved c).After-place_of-place in
     let i = place_index (goal.at.loop-p-preserved c).After-place_of-place in
     let j = place_states (goal.at.loop-p-preserved c).After-place_of-place in
     let e : c.from-e.result ≡ get_or c.args.tables.now (l.begin + index (task_of r).sizes (get_or (patterns_of r) l.p []) s) 0 = c.from-e.ensures ∙ ap (λ x. get_or c.args.tables.now (l.begin + x) 0) i in
     let g = ne_eqb c.from-e.result 65535 c.if-e-eq65535.false in
-    rw (j, e) (summing_finite (task_of r).sizes (patterns_of r) s c.args.tables.now l.sum l.begin l.p l.invariant m c.requires.2 (rw e at (let b = c.type_inv.tables (l.begin + c.place_of-place.result.index) in let f : c.from-e.result ≤ 65534 = omega (arith, c.if-e-eq65535.false, c.from-e.ensures) in f)) (rw e at g))
+    rw (j, e) (summing_finite (task_of r).sizes (patterns_of r) s c.args.tables.now l.sum l.begin l.p l.invariant m c.requires.1 (rw e at (let b = c.type_inv.tables (l.begin + c.place_of-place.result.index) in let f : c.from-e.result ≤ 65534 = omega (arith, c.if-e-eq65535.false, c.from-e.ensures) in f)) (rw e at g))
 
 pub returns : goal.returns
 unfolding value_of
-returns c = let r = c.args.rec.now in let l = c.loop-p in
-    let t : pattern_count r ≤ l.p = rw c.pattern_count-p-end.ensures at c.loop-p-test.false in
+returns c = let r = c.args.record.now in let l = c.loop-p in
+    let t : pattern_count r ≤ l.p = rw (c.pattern_count-p-end.ensures, c.record.view_is) at c.loop-p-test.false in
     sym (ap value_of (summing_done (task_of r).sizes (patterns_of r) c.args.state.now c.args.tables.now l.sum l.begin l.p l.invariant (rw (patterns_length r) t)))

@@ -4,4 +4,4 @@ use Rattle.patterns.proofs.Summing.{Summing}
 use Rattle.patterns.proofs.value.sum_entries.Given as goal
 
 abbrev pub invariant-loop-p : goal.invariant-loop-p
-invariant-loop-p l = Summing (task_of l.rec).sizes (patterns_of l.rec) l.state l.tables l.sum l.begin l.p
+invariant-loop-p l = Summing (task_of l.record).sizes (patterns_of l.record) l.state l.tables l.sum l.begin l.p

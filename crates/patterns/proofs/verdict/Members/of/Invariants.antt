@@ -17,7 +17,7 @@ abbrev pub member : List ℕ → ℕ → ℕ → Bool
 member r k j = eqb (get_or (cells_at r (at_pattern j)) k 0) 1
 
 abbrev pub invariant-loop-v : goal.invariant-loop-v
-invariant-loop-v l = (length l.set-items ≡ 16) × (l.p < pattern_count l.rec) × ((k : ℕ) → k < l.v → get_or l.set-items k 0 ≡ set_from (member l.rec k) l.p (pattern_count l.rec - l.p)) × ((k : ℕ) → l.v ≤ k → k < 16 → get_or l.set-items k 0 ≡ set_from (member l.rec k) (l.p + 1) (pattern_count l.rec - (l.p + 1)))
+invariant-loop-v l = (length l.set-items ≡ 16) × (l.p < pattern_count l.record) × ((k : ℕ) → k < l.v → get_or l.set-items k 0 ≡ set_from (member l.record k) l.p (pattern_count l.record - l.p)) × ((k : ℕ) → l.v ≤ k → k < 16 → get_or l.set-items k 0 ≡ set_from (member l.record k) (l.p + 1) (pattern_count l.record - (l.p + 1)))
 
 abbrev pub invariant-loop-p : goal.invariant-loop-p
-invariant-loop-p l = (l.p ≤ pattern_count l.rec) × (length l.sets ≡ 16) × ((k : ℕ) → k < 16 → get_or l.sets k 0 ≡ set_from (member l.rec k) l.p (pattern_count l.rec - l.p))
+invariant-loop-p l = (l.p ≤ pattern_count l.record) × (length l.sets ≡ 16) × ((k : ℕ) → k < 16 → get_or l.sets k 0 ≡ set_from (member l.record k) l.p (pattern_count l.record - l.p))
