@@ -9,7 +9,7 @@ ghost use Rattle.reader.specs.Grammar.{fault_at, told, budget_bytes, take_number
 use crate::decimal::number;
 use crate::lists::{Gathered, Kind, is_whole, read_list};
 use crate::order::{Due, next_due};
-use crate::places::{Field, at_action, at_outcome, at_pattern, at_precondition};
+use crate::places::{Field, at_action, at_outcome, at_pattern, at_precondition, field_of};
 use crate::store::{cell_at, put, put_cells};
 use task_record::layout::{
     AT_ACTION_COUNT, AT_BUDGET, AT_GOAL, AT_LIMIT, AT_PATTERN_COUNT, AT_SIZES, AT_START,
@@ -158,31 +158,19 @@ pub(crate) fn take_line(rec: &mut [u8], due: Due, line: &[u8]) -> Result<Due, Li
     ensures { take_line rec.old due line.now ≡ told result rec.new }
 {
     match due {
-        Due::Vars => number_line(rec, due, line, b"vars=", Field::new(1, 16, AT_VARIABLES)),
+        Due::Vars => number_line(rec, due, line, b"vars=", field_of(1, 16, AT_VARIABLES)),
         Due::Size(i) => {
             number_line(
                 rec,
                 due,
                 line,
                 b"size=",
-                Field::new(2, 16, AT_SIZES + usize::from(i)),
+                field_of(2, 16, AT_SIZES + usize::from(i)),
             )
         }
-        Due::Moves => number_line(
-            rec,
-            due,
-            line,
-            b"moves=",
-            Field::new(0, 64, AT_ACTION_COUNT),
-        ),
+        Due::Moves => number_line(rec, due, line, b"moves=", field_of(0, 64, AT_ACTION_COUNT)),
         Due::Need(m) => list_line(rec, due, line, b"need=", Kind::Pairs, at_precondition(m)),
-        Due::Outcomes(m) => number_line(
-            rec,
-            due,
-            line,
-            b"outcomes=",
-            Field::new(1, 8, at_action(m)),
-        ),
+        Due::Outcomes(m) => number_line(rec, due, line, b"outcomes=", field_of(1, 8, at_action(m))),
         Due::Eff(m, k) => list_line(rec, due, line, b"eff=", Kind::Pairs, at_outcome(m, k)),
         Due::Goal => list_line(rec, due, line, b"goal=", Kind::Pairs, AT_GOAL),
         Due::Start => list_line(rec, due, line, b"start=", Kind::Values, AT_START),
@@ -191,10 +179,10 @@ pub(crate) fn take_line(rec: &mut [u8], due: Due, line: &[u8]) -> Result<Due, Li
             due,
             line,
             b"patterns=",
-            Field::new(0, 8, AT_PATTERN_COUNT),
+            field_of(0, 8, AT_PATTERN_COUNT),
         ),
         Due::Pattern(p) => list_line(rec, due, line, b"pattern=", Kind::Members, at_pattern(p)),
-        Due::Limit => number_line(rec, due, line, b"limit=", Field::new(0, 32, AT_LIMIT)),
+        Due::Limit => number_line(rec, due, line, b"limit=", field_of(0, 32, AT_LIMIT)),
         Due::Budget => budget_line(rec, due, line, b"budget="),
         Due::End => Err(LineFault::Unexpected),
     }

@@ -14,12 +14,10 @@ pub struct Field {
     pub at: usize,
 }
 
-impl Field {
-    pub(crate) fn new(low: u8, high: u8, at: usize) -> Field
-        ensures { result ≡ record { low = low; high = high; at = at } }
-    {
-        Field { low, high, at }
-    }
+pub(crate) fn field_of(low: u8, high: u8, at: usize) -> Field
+    ensures { result ≡ record { low = low; high = high; at = at } }
+{
+    Field { low, high, at }
 }
 
 pub(crate) fn at_pattern(p: u8) -> usize

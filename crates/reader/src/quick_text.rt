@@ -12,7 +12,7 @@ use crate::grammar::put_budget;
 use crate::lists::Kind;
 use crate::order::Due;
 use crate::pieces::{LINE_BREAK, begins};
-use crate::places::{Field, at_action, at_outcome, at_pattern, at_precondition};
+use crate::places::{at_action, at_outcome, at_pattern, at_precondition, field_of};
 use crate::quick_lines::{quick_list_line, quick_number_line, quick_pair_line};
 use task_record::layout::{
     AT_ACTION_COUNT, AT_GOAL, AT_LIMIT, AT_PATTERN_COUNT, AT_SIZES, AT_START, AT_VARIABLES,
@@ -25,7 +25,7 @@ fn quick_sizes<'a>(s: &'a [u8], rec: &mut Record, n: usize) -> Option<&'a [u8]>
 {
     let mut rest = s;
     for i in 0..n {
-        rest = quick_number_line(rest, rec, b"size=", Field::new(2, 16, AT_SIZES + i))?;
+        rest = quick_number_line(rest, rec, b"size=", field_of(2, 16, AT_SIZES + i))?;
     }
     Some(rest)
 }
@@ -48,7 +48,7 @@ fn quick_action<'a>(s: &'a [u8], rec: &mut Record, n: usize, m: u8) -> Option<&'
     ensures { IfSome result (λ e. (get_or rec.new 0 0 ≡ n) × (get_or rec.new 1 0 ≡ get_or rec.old 1 0) × Leads (Due.Need m) rec.old s.now (action_from rec.new (m + 1)) rec.new e.now) }
 {
     let a = quick_pair_line(s, rec, b"need=", n, at_precondition(m))?;
-    let b = quick_number_line(a, rec, b"outcomes=", Field::new(1, 8, at_action(m)))?;
+    let b = quick_number_line(a, rec, b"outcomes=", field_of(1, 8, at_action(m)))?;
     let count = rec[at_action(m)];
     quick_outcomes(b, rec, n, m, count)
 }
@@ -81,10 +81,10 @@ fn quick_patterns<'a>(s: &'a [u8], rec: &mut Record, n: usize, count: u8) -> Opt
 fn quick_front<'a>(s: &'a [u8], rec: &mut Record) -> Option<&'a [u8]>
     ensures { IfSome result (λ e. (get_or rec.new 0 0 ≤ 16) × Leads Due.Vars rec.old s.now Due.Goal rec.new e.now) }
 {
-    let a = quick_number_line(s, rec, b"vars=", Field::new(1, 16, AT_VARIABLES))?;
+    let a = quick_number_line(s, rec, b"vars=", field_of(1, 16, AT_VARIABLES))?;
     let n = usize::from(rec[AT_VARIABLES]);
     let b = quick_sizes(a, rec, n)?;
-    let c = quick_number_line(b, rec, b"moves=", Field::new(0, 64, AT_ACTION_COUNT))?;
+    let c = quick_number_line(b, rec, b"moves=", field_of(0, 64, AT_ACTION_COUNT))?;
     let count = rec[AT_ACTION_COUNT];
     quick_actions(c, rec, n, count)
 }
@@ -103,10 +103,10 @@ fn quick_tail<'a>(s: &'a [u8], rec: &mut Record, n: usize) -> Option<&'a [u8]>
     requires { (n ≡ get_or rec.old 0 0) × (n ≤ 16) }
     ensures { IfSome result (λ e. Leads Due.Patterns rec.old s.now Due.Budget rec.new e.now) }
 {
-    let a = quick_number_line(s, rec, b"patterns=", Field::new(0, 8, AT_PATTERN_COUNT))?;
+    let a = quick_number_line(s, rec, b"patterns=", field_of(0, 8, AT_PATTERN_COUNT))?;
     let count = rec[AT_PATTERN_COUNT];
     let b = quick_patterns(a, rec, n, count)?;
-    quick_number_line(b, rec, b"limit=", Field::new(0, 32, AT_LIMIT))
+    quick_number_line(b, rec, b"limit=", field_of(0, 32, AT_LIMIT))
 }
 
 // The lines before the last.

@@ -5,15 +5,15 @@ use Rattle.reader.proofs.grammar.take_line.Goals as goal
 
 pub returns-in-Vars : goal.returns-in-Vars
 unfolding take_line bytes
-returns-in-Vars c = rw c.in-Vars.is (rw (c.new.ensures, c.in-Vars.is) at c.number_line.ensures)
+returns-in-Vars c = rw c.in-Vars.is (rw (c.field_of.ensures, c.in-Vars.is) at c.number_line.ensures)
 
 pub returns-in-Size : goal.returns-in-Size
 unfolding take_line bytes
-returns-in-Size c = rw c.in-Size.is (rw (c.new-in-Size.ensures, c.from.ensures) at c.number_line-in-Size.ensures)
+returns-in-Size c = rw c.in-Size.is (rw (c.field_of-in-Size.ensures, c.from.ensures) at c.number_line-in-Size.ensures)
 
 pub returns-in-Moves : goal.returns-in-Moves
 unfolding take_line bytes
-returns-in-Moves c = rw c.in-Moves.is (rw (c.new-in-Moves.ensures, c.in-Moves.is) at c.number_line-in-Moves.ensures)
+returns-in-Moves c = rw c.in-Moves.is (rw (c.field_of-in-Moves.ensures, c.in-Moves.is) at c.number_line-in-Moves.ensures)
 
 pub returns-in-Need : goal.returns-in-Need
 unfolding take_line bytes
@@ -21,7 +21,7 @@ returns-in-Need c = rw c.in-Need.is (rw c.at_precondition.ensures at c.list_line
 
 pub returns-in-Outcomes : goal.returns-in-Outcomes
 unfolding take_line bytes
-returns-in-Outcomes c = rw c.in-Outcomes.is (rw (c.new-in-Outcomes.ensures, c.at_action.ensures) at c.number_line-in-Outcomes.ensures)
+returns-in-Outcomes c = rw c.in-Outcomes.is (rw (c.field_of-in-Outcomes.ensures, c.at_action.ensures) at c.number_line-in-Outcomes.ensures)
 
 pub returns-in-Eff : goal.returns-in-Eff
 unfolding take_line bytes
@@ -37,7 +37,7 @@ returns-in-Start c = rw c.in-Start.is (rw c.in-Start.is at c.list_line-in-Start.
 
 pub returns-in-Patterns : goal.returns-in-Patterns
 unfolding take_line bytes
-returns-in-Patterns c = rw c.in-Patterns.is (rw (c.new-in-Patterns.ensures, c.in-Patterns.is) at c.number_line-in-Patterns.ensures)
+returns-in-Patterns c = rw c.in-Patterns.is (rw (c.field_of-in-Patterns.ensures, c.in-Patterns.is) at c.number_line-in-Patterns.ensures)
 
 pub returns-in-Pattern : goal.returns-in-Pattern
 unfolding take_line bytes
@@ -45,7 +45,7 @@ returns-in-Pattern c = rw c.in-Pattern.is (rw c.at_pattern.ensures at c.list_lin
 
 pub returns-in-Limit : goal.returns-in-Limit
 unfolding take_line bytes
-returns-in-Limit c = rw c.in-Limit.is (rw (c.new-in-Limit.ensures, c.in-Limit.is) at c.number_line-in-Limit.ensures)
+returns-in-Limit c = rw c.in-Limit.is (rw (c.field_of-in-Limit.ensures, c.in-Limit.is) at c.number_line-in-Limit.ensures)
 
 pub returns-in-Budget : goal.returns-in-Budget
 unfolding take_line bytes

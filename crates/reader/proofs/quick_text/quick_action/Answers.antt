@@ -35,7 +35,7 @@ quick_outcomes-requires c =
     let a = c.args in
     let r = c.quick_number_line.new.rec in
     let e = before-outcomes a.m a.s.now c.in_ok-a.a.now c.in_ok-b.b.now a.rec.now c.quick_pair_line.new.rec r c.requires.2 c.quick_pair_line.array_long
-    (rw c.at_precondition.ensures at c.in_ok-a.ensures) (rw (c.new.ensures, c.at_action.ensures) at c.in_ok-b.ensures) in
+    (rw c.at_precondition.ensures at c.in_ok-a.ensures) (rw (c.field_of.ensures, c.at_action.ensures) at c.in_ok-b.ensures) in
     (c.requires.0 ∙ sym e.0, c.requires.1, c.requires.2, ap (λ (k : ℕ). get_or r k 0) c.at_action-2.ensures, rw c.at_action-2.ensures e.2.0, rw c.at_action-2.ensures e.2.1)
 
 pub returns : goal.returns
@@ -45,6 +45,6 @@ returns c =
     let r = c.quick_number_line.new.rec in
     let b = c.in_ok-b.b.now in
     let e = before-outcomes a.m a.s.now c.in_ok-a.a.now b a.rec.now c.quick_pair_line.new.rec r c.requires.2 c.quick_pair_line.array_long
-    (rw c.at_precondition.ensures at c.in_ok-a.ensures) (rw (c.new.ensures, c.at_action.ensures) at c.in_ok-b.ensures) in
+    (rw c.at_precondition.ensures at c.in_ok-a.ensures) (rw (c.field_of.ensures, c.at_action.ensures) at c.in_ok-b.ensures) in
     IfSome_then c.quick_outcomes.result c.quick_outcomes.ensures
     (λ x h. (h.0, h.1 ∙ e.1, leads_on (Need a.m) (Eff a.m 0) (action_from c.quick_outcomes.new.rec (a.m + 1)) a.rec.now r c.quick_outcomes.new.rec a.s.now b x.now e.3 h.2))
