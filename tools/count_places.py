@@ -41,34 +41,29 @@ def functions(text):
     return found
 
 
-def parameters(head):
-    inside = head[head.index("(") + 1 :] if "(" in head else ""
+def parts(text, separator, opened, closed):
+    """The parts of a text between separators that stand in no bracket, up to a bracket that closes more than was opened."""
     depth, word, out = 0, "", []
-    for letter in inside:
-        if letter == ")" and depth == 0:
+    for letter in text:
+        depth += (letter in opened) - (letter in closed)
+        if depth < 0:
             break
-        depth += letter in "([<"
-        depth -= letter in ")]>"
-        if letter == "," and depth == 0:
+        if letter == separator and depth == 0:
             out.append(word.strip())
             word = ""
         else:
             word += letter
-    return [it for it in [*out, word.strip()] if it and it not in ("self", "&self", "&mut self")]
+    return [it for it in [*out, word.strip()] if it]
+
+
+def parameters(head):
+    inside = head[head.index("(") + 1 :] if "(" in head else ""
+    return [it for it in parts(inside, ",", "([<", ")]>") if it not in ("self", "&self", "&mut self")]
 
 
 def conjuncts(clause):
     inside = clause[clause.index("{") + 1 : clause.rindex("}")].strip()
-    depth, word, out = 0, "", []
-    for letter in inside:
-        depth += letter in "([{"
-        depth -= letter in ")]}"
-        if letter == "×" and depth == 0:
-            out.append(word.strip())
-            word = ""
-        else:
-            word += letter
-    return [re.sub(r"^\((.*)\)$", r"\1", it) for it in [*out, word.strip()] if it]
+    return [re.sub(r"^\((.*)\)$", r"\1", it) for it in parts(inside, "×", "([{", ")]}")]
 
 
 def plain(lines, name):
