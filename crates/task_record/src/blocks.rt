@@ -44,7 +44,7 @@ impl Windows {
     }
 
     // Whether the cells of `blocks` blocks from offset `a` on fit, or the offset of the first that does not.
-    pub fn scan(&self, c: &[u8], a: usize, blocks: usize) -> Result<(), usize>
+    pub(crate) fn scan(&self, c: &[u8], a: usize, blocks: usize) -> Result<(), usize>
         requires { (a + 16 * blocks ≤ length c.now) × (a ≤ 65536) × (blocks ≤ 4096) }
         ensures { result ≡ scan (row_fits c.now self.now.shift self.now.top a) a (16 * blocks) }
     {
