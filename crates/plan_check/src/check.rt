@@ -1,7 +1,6 @@
 // The check of a plan on three lent slices: record, state and plan. It accepts all inputs, and only reads.
 ghost use Rattle.std.specs.Prelude.{◌≡◌};
 ghost use Rattle.planning.specs.PlanCheck.{check_plan, most_moves};
-ghost use Rattle.task_record.specs.Record.{Sound};
 ghost use Rattle.plan_check.specs.Tower.{tower, values_of};
 ghost use Rattle.plan_check.specs.Check.{answer_of, end_of, plan_check_of};
 ghost use Rattle.plan_check.specs.ForC.{numbers_of, plan_by_lines};
@@ -10,8 +9,8 @@ use crate::cells::cells_at;
 use crate::frames::Frame;
 use crate::stack::Stack;
 use crate::task::Task;
-use task_record::record::check_state;
 use task_record::refusal::Refusal;
+use task_record::sound::SoundRecord;
 
 // Cost and length of a strong plan.
 #[derive(Clone, Copy, PartialEq, Eq)]
@@ -36,11 +35,11 @@ fn ended(plan: &[u8], end: usize, cost: u32) -> Result<Passed, Refusal>
 
 // The plan from its first byte to its last: each plans for one state. After an action that is the state after its first outcome; after an
 // arrival it is the state after the next outcome of the action that began last among those under way.
-fn check_bytes(rec: &[u8], plan: &[u8], start: [u8; 16]) -> Result<Passed, Refusal>
-    requires { Sound rec.now }
-    ensures { result ≡ answer_of (check_plan (tower rec.now) most_moves (values_of rec.now start) plan.now) }
+fn check_bytes(checked: &SoundRecord, plan: &[u8], start: [u8; 16]) -> Result<Passed, Refusal>
+    ensures { result ≡ answer_of (check_plan (tower checked.now) most_moves (values_of checked.now start) plan.now) }
 {
-    let task = Task::of(rec);
+    let rec = checked.cells;
+    let task = Task::of(checked);
     let mut stack = Stack::new();
     let mut state = start;
     let mut depth = 0;
@@ -67,10 +66,12 @@ fn check_bytes(rec: &[u8], plan: &[u8], start: [u8; 16]) -> Result<Passed, Refus
 }
 
 // Whether `plan` is a strong plan of at most 32 moves depth from `state` in the task that `rec` holds.
+#[tactic(auto, unfolding(crate::specs::Check::plan_check_of))]
 pub fn check_plan(rec: &[u8], state: &[u8], plan: &[u8]) -> Result<Passed, Refusal>
     ensures value { result ≡ plan_check_of rec.now state.now plan.now }
     ensures numbers { numbers_of result ≡ plan_by_lines rec.now state.now plan.now }
 {
-    check_state(rec, state)?;
-    check_bytes(rec, plan, cells_at(state, 0))
+    let checked = SoundRecord::new(rec)?;
+    checked.check_state(state)?;
+    check_bytes(&checked, plan, cells_at(state, 0))
 }

@@ -2,7 +2,6 @@
 ghost use Rattle.std.specs.Prelude.{◌≡◌, ◌<◌, ltb};
 ghost use Rattle.planning.specs.PlanCheck.{most_moves};
 ghost use Rattle.task_record.specs.Numbers.{action_count};
-ghost use Rattle.task_record.specs.Record.{Sound};
 ghost use Rattle.plan_check.specs.Tower.{tower, values_of};
 ghost use Rattle.plan_check.specs.Refusal.{byte_judged};
 
@@ -11,6 +10,7 @@ use std::marker::Model;
 use task_record::cells::action_count;
 use task_record::layout::{ACTION_SIZE, AT_ACTIONS, AT_GOAL, IN_PRECONDITION};
 use task_record::refusal::Refusal;
+use task_record::sound::SoundRecord;
 
 // "at most 32 moves depth"
 const MOST_MOVES: u32 = 32;
@@ -41,12 +41,12 @@ impl<'a> Model for Task<'a> {
 }
 
 impl<'a> Task<'a> {
-    pub(crate) fn of(rec: &'a [u8]) -> Task<'a>
-        requires { Sound rec.now }
-        ensures { result ≡ rec.now }
+    pub(crate) fn of(checked: &SoundRecord<'a>) -> Task<'a>
+        ensures { result ≡ checked.now }
     {
+        let rec = checked.cells;
         Task {
-            rec: rec,
+            rec,
             actions: action_count(rec),
             goal: cells_at(rec, AT_GOAL),
         }

@@ -6,4 +6,4 @@ use Rattle.plan_check.proofs.Reading.{Reading}
 use Rattle.plan_check.proofs.check.check_bytes.Given as goal
 
 abbrev pub invariant-loop-at : goal.invariant-loop-at
-invariant-loop-at l = Reading l.rec l.plan (check_plan (tower l.rec) most_moves (values_of l.rec l.fn.start) l.plan) l.stack l.state l.depth l.worst l.at
+invariant-loop-at l = Reading l.checked l.plan (check_plan (tower l.checked) most_moves (values_of l.checked l.fn.start) l.plan) l.stack l.state l.depth l.worst l.at
