@@ -77,9 +77,6 @@ module _ (a : List ℕ) (actions n mask : ℕ) (sizes p weights states new : Lis
         rw (w, weigh_padded (weights_from 1 (take n sizes) p) (16 - n) (get_or states i 0), s i b) (weigh-index 1 (take n sizes) p y z.values_few o ∙ index_at_state (take n sizes) p z.values_some i b);
   }
 
-pub lookable_as : (task : List ℕ) (mask mask₁ actions bytes : ℕ) → mask ≡ mask₁ → Lookable task mask₁ actions bytes → Lookable task mask actions bytes
-lookable_as task mask mask₁ actions bytes e h = rw e h
-
 -- Lists of the same length have the same states.
 pub indexed_as : (weights states : List ℕ) (n k : ℕ) → k ≡ n → Indexed weights states n → Indexed weights states k
 indexed_as weights states n k e h = rw e h

@@ -20,7 +20,7 @@ use Rattle.patterns.specs.Space.{entries_needed, judge_tables, table_check}
 use Rattle.patterns.specs.Estimate.{judge_estimate, estimate_check}
 use Rattle.task_record.specs.Refusals.{where_ok}
 use Rattle.task_record.specs.declared.refusal.Refusal.{Refusal}
-use Rattle.tables.specs.RecordTables.{table_build, Buildable, built_over, tables_built, tables_prepared}
+use Rattle.tables.specs.RecordTables.{table_build, Fits, Buildable, built_over, tables_built, tables_prepared}
 use Rattle.patterns.specs.Value.{value_of, values_of, state_value}
 use Rattle.patterns.proofs.Built.{built_length, unit_weights, call_on_built, finite_answer_admissible, infinite_answer_no_plan}
 use Rattle.patterns.proofs.Refusals.{ready_means, fits_means, checked_ready, answered_means}
@@ -38,6 +38,9 @@ judged_built : (r : List ℕ) (lent n : ℕ) → Sound r → judge_tables (task_
     table_build r lent ≡ Ok n
 unfolding Sound
 judged_built r lent n s h = rw (s, h)
+
+pub buildable_fits : {r : List ℕ} {lent : ℕ} → Buildable r lent → Fits r lent
+buildable_fits b = record { small = b.small; room = b.room }
 
 -- Where nothing is to be refused, the build refuses nothing.
 pub buildable_built : (r : List ℕ) (lent : ℕ) → Buildable r lent → table_build r lent ≡ Ok (entries_needed (task_of r).sizes (patterns_of r))
@@ -132,14 +135,14 @@ module _ (r tabs : List ℕ) where
           (table_entry (task_of r) pattern (λ a. a.weight) well_formed_lem weights_positive i inside)
 
   -- A build keeps the length of what it is lent, whatever it answers.
-  pub built_over-length : Buildable r (length tabs) → length (built_over r tabs) ≡ length tabs
+  pub built_over-length : Fits r (length tabs) → length (built_over r tabs) ≡ length tabs
   unfolding built_over
   built_over-length b =
       let a = length-append (tables (task_of r) (patterns_of r)) (drop (entries_needed (task_of r).sizes (patterns_of r)) tabs) in
       let e = built_length (task_of r) (patterns_of r) in let d = length-drop (entries_needed (task_of r).sizes (patterns_of r)) tabs in omega (arith, b.room)
 
   left_length : (t : Result ℕ Refusal) → table_check r (length tabs) ≡ t → length (where_ok t (built_over r tabs) tabs) ≡ length tabs
-  left_length (Ok n) h = built_over-length (fits_buildable r (length tabs) n h)
+  left_length (Ok n) h = built_over-length (buildable_fits (fits_buildable r (length tabs) n h))
   left_length (Err refused) h = refl
 
   pub build_keeps_length : length (tables_built r tabs) ≡ length tabs

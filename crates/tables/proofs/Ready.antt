@@ -1,23 +1,36 @@
--- What a build of a pattern's table rests on holds of a sound record, for each of its patterns. Assumes nothing.
-use Rattle.std.proofs.Common.{ℕ, ◌<◌, ◌≤◌, List}
+-- What a build of a pattern's table rests on holds of a sound record, for each of its patterns, and what it builds is the definition's table.
+-- Assumes nothing.
+use Rattle.std.proofs.Common.{◌≡◌, ℕ, not, List, ap₂, ap, ◌∙◌}
 use Rattle.planning.specs.Table.{state_count}
 use Rattle.task_record.specs.Layout.{at_pattern}
-use Rattle.task_record.specs.Numbers.{variable_count, action_count, pattern_count, size_of}
+use Rattle.task_record.specs.Numbers.{variable_count, action_count}
 use Rattle.task_record.specs.Record.{Sound}
-use Rattle.task_record.specs.TaskOf.{cells_at, task_of}
-use Rattle.task_record.specs.Window.{Sixteen}
-use Rattle.tables.specs.Packed.{compiled}
-use Rattle.tables.specs.Builder.{Ready}
+use Rattle.task_record.specs.TaskOf.{cells_at}
+use Rattle.patterns.proofs.Sizes.{sizes_taken}
+use Rattle.tables.specs.Packed.{pack_by, picking}
+use Rattle.tables.specs.Sets.{set_from}
+use Rattle.tables.specs.Steps.{idles}
+use Rattle.tables.specs.Patterned.{Ready, Chosen, PatternOf}
 use Rattle.tables.proofs.SoundPacked.{sound_readable}
 use Rattle.tables.proofs.Building.{sound_lookable}
 use Rattle.tables.proofs.Standing.{sound_walkable}
-use Rattle.tables.proofs.TableChain.{pattern_sized}
+use Rattle.tables.proofs.TableChain.{pattern_sized, built_is_table}
 
-pub sound_ready : (r : List ℕ) → Sound r → (p : ℕ) → p < pattern_count r → (sizes : List ℕ) → Sixteen (size_of r) sizes → state_count (task_of r).sizes (cells_at r (at_pattern p)) ≤ 4096 →
-    Ready (compiled (task_of r)) (action_count r) (variable_count r) sizes (cells_at r (at_pattern p))
-sound_ready r sound p known sizes sixteen few = record {
-  readable = sound_readable r sound;
-  lookable = sound_lookable r sound (cells_at r (at_pattern p));
-  walkable = sound_walkable r sound p known sizes sixteen few;
-  sized = pattern_sized r sound sizes sixteen (cells_at r (at_pattern p)) few;
-}
+module _ {r task sizes : List ℕ} {p : ℕ} (sound : Sound r) (c : Chosen r task sizes p)
+    {actions n mask live : ℕ} {picked : List ℕ} (a : actions ≡ action_count r) (v : n ≡ variable_count r) (q : picked ≡ cells_at r (at_pattern p)) where
+  pub sound_ready : mask ≡ pack_by picking picked → live ≡ set_from (λ m. not (idles task mask m)) 0 actions →
+      Ready (record { task = task; actions = actions; variables = n; sizes = sizes; picked = picked; mask = mask; live = live })
+  sound_ready m l = record {
+    readable = rw (c.task_is, a) (sound_readable r sound);
+    lookable = rw (m, c.task_is, a, v, q) (sound_lookable r sound (cells_at r (at_pattern p)));
+    walkable = rw (m, c.task_is, a, v, q) (sound_walkable r sound p c.known sizes c.sixteen c.few);
+    sized = rw (v, q) (pattern_sized r sound sizes c.sixteen (cells_at r (at_pattern p)) c.few);
+    masked = m;
+    lively = l;
+  }
+
+  pub sound_pattern : PatternOf r p (record { task = task; actions = actions; variables = n; sizes = sizes; picked = picked; mask = mask; live = live })
+  sound_pattern = record {
+    states = rw (v, q) (ap (λ z. state_count z (cells_at r (at_pattern p))) (sizes_taken r sound sizes c.sixteen));
+    table_is = λ entries b. built_is_table r sound sizes c.sixteen (cells_at r (at_pattern p)) c.few entries (rw (c.task_is, a, v, q) at b);
+  }

@@ -23,7 +23,7 @@ use Rattle.patterns.proofs.Built.{built_length, unit_weights}
 use Rattle.patterns.proofs.ByLines.{after_tables_lem}
 use Rattle.patterns.proofs.Reading.{patterns_length}
 use Rattle.tables.specs.Answers.{spread_numbers, short_row, spread_by_lines}
-use Rattle.tables.specs.RecordTables.{Buildable, built_over}
+use Rattle.tables.specs.RecordTables.{Fits, built_over}
 use Rattle.tables.specs.Spread.{costs_named, states_named, table_spread, tables_spread, row_spread}
 use Rattle.tables.proofs.TableChain.{entries-length}
 use Rattle.tables.proofs.BuiltTables.{built_over-length, chained_table}
@@ -63,7 +63,7 @@ module _ (entries : List ℕ) (bounded : EntriesBelow (suc most_cost) (map cost_
   counting_next = rw (add-one i, ← entry_cost) (spread_next (map cost_of entries) bounded i inside)
 
 -- Built tables have room for the tables, and stay as they are when they are built again.
-pub built_again : (r tabs new : List ℕ) → Buildable r (length tabs) → new ≡ built_over r tabs → Buildable r (length new) × (new ≡ built_over r new)
+pub built_again : (r tabs new : List ℕ) → Fits r (length tabs) → new ≡ built_over r tabs → Fits r (length new) × (new ≡ built_over r new)
 unfolding built_over
 built_again r tabs new b e = let t = task_of r in let n = entries_needed t.sizes (patterns_of r) in
     rw e (rw (built_over-length r tabs b) b, ap (λ rest. tables t (patterns_of r) ++ rest) (sym (drop_at (tables t (patterns_of r)) (drop n tabs) n (built_length t (patterns_of r)))))
@@ -89,7 +89,7 @@ read_back [] b = refl
 read_back (c ∷ tab) b = rw (cost_of_entry c (λ k e. let h = b 0 k e in omega arith), read_back tab (λ i k e. b (suc i) k e))
 
 -- The pattern of a number below P: its part of the tables, and what counting it gives.
-module _ (r tabs : List ℕ) (b : Buildable r (length tabs)) (built : tabs ≡ built_over r tabs) (p : ℕ) (l : p < pattern_count r) where
+module _ (r tabs : List ℕ) (b : Fits r (length tabs)) (built : tabs ≡ built_over r tabs) (p : ℕ) (l : p < pattern_count r) where
   abbrev pattern : List ℕ
   pattern = get_or (patterns_of r) p []
 

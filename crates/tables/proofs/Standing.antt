@@ -164,9 +164,6 @@ pub weights_short : (weights sizes p : List ℕ) (n : ℕ) → n ≤ 16 → weig
 weights_short weights sizes p n l e = let a = length-append (weights_from 1 (take n sizes) p) (replicate (16 - n) 0) in let b = length_weights 1 (take n sizes) p in
     let d = length-replicate {A = ℕ} (16 - n) 0 in rw e (omega (arith, a, b, d, take_short n sizes))
 
-pub walkable_as : {a : List ℕ} {k l actions n : ℕ} {sizes p : List ℕ} → k ≡ l → Walkable a l actions n sizes p → Walkable a k actions n sizes p
-walkable_as e g = rw e g
-
 -- What a build asks of a task beside what it reads holds of one that is well formed.
 task_walkable : (t : Task) → WellFormed t → Packable t → (p : List ℕ) (sizes : List ℕ) (n : ℕ) → take n sizes ≡ t.sizes → length p ≤ 16 → state_count t.sizes p ≤ 4096 → ((u : ℕ) → length t.sizes ≤ u → eqb (get_or p u 0) 1 ≡ false) →
     Walkable (compiled t) (pack_by picking p) (length t.actions) n sizes p

@@ -13,10 +13,9 @@ pub mod Edges
 pub mod Incoming
 pub mod Made
 pub mod Visits
-pub mod Patterned
 pub mod Graph
-pub mod Builder
 pub mod Built
+pub mod Patterned
 pub mod Compiling
 pub mod RecordTables
 pub mod Spread

@@ -21,7 +21,12 @@ table_build r lent = table_check r lent
 unfoldable pub built_over : List ℕ → List ℕ → List ℕ
 built_over r tabs = tables (task_of r) (patterns_of r) ++ drop (entries_needed (task_of r).sizes (patterns_of r)) tabs
 
--- Where nothing is refused: the record is sound, each pattern "has at most 4,096 states", and there is room for all tables.
+-- There is room: each pattern "has at most 4,096 states", and the lent entries hold all tables.
+pub record Fits (r : List ℕ) (lent : ℕ) : Type 0 where
+  pub small : Small (task_of r) (patterns_of r)
+  pub room : entries_needed (task_of r).sizes (patterns_of r) ≤ lent
+
+-- Where nothing is refused: the record is sound, and there is room.
 pub record Buildable (r : List ℕ) (lent : ℕ) : Type 0 where
   pub sound : Sound r
   pub small : Small (task_of r) (patterns_of r)

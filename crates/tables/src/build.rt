@@ -1,17 +1,14 @@
 // The table of one pattern.
-ghost use Rattle.std.specs.Prelude.{◌≡◌, ◌+◌, ◌/◌, ◌≤◌, length, take};
-ghost use Rattle.planning.specs.Table.{state_count};
-ghost use Rattle.tables.specs.Packed.{pack_by, picking};
+ghost use Rattle.std.specs.Prelude.{◌≡◌, ◌≤◌, min, length};
+ghost use Rattle.tables.specs.Patterned.{states_of, TableOf};
 ghost use Rattle.tables.specs.Spaces.{space_of};
-ghost use Rattle.tables.specs.Steps.{Readable, Sized};
 ghost use Rattle.tables.specs.Certified.{Lookable, Finished};
-ghost use Rattle.tables.specs.Built.{Built};
 
 use crate::certify::is_certified;
-use crate::packed::{DigitRule, pack};
+use crate::pattern::Pattern;
 use crate::ranking::{fill_states, weights_of};
 use crate::space::Space;
-use crate::sweep::{lively, settle, settles, start};
+use crate::sweep::{settle, settles, start};
 use crate::worklist::candidate;
 
 // A table from the goals backwards, and tested. One that is not right is made anew, by passes until one changes nothing. It needs much memory, which
@@ -59,51 +56,36 @@ fn build_over(x: &Space<'_>, sizes: &[u8; 16], bytes: usize, entries: &mut [u16]
     make(x, sizes, bytes, entries);
 }
 
-// A table with room for the words of so many states.
-fn build_within<const STATES: usize>(
-    task: &[u64; 1282],
-    actions: usize,
-    n: usize,
-    sizes: [u8; 16],
-    pattern: [u8; 16],
-    entries: &mut [u16],
-)
-    requires { (Readable task.now actions) × (Lookable task.now (pack_by picking pattern) actions ((n + 1) / 2)) × (Sized sizes pattern n) × (length entries.old ≡ state_count (take n sizes) pattern) × (length entries.old ≤ STATES) × (STATES ≤ 4096) }
-    ensures { Built task.now actions n sizes pattern entries.new }
+// A table with room for the words of so many states; none has more than 4,096.
+fn build_within<const STATES: usize>(pattern: &Pattern, entries: &mut [u16])
+    requires { (length entries.old ≡ states_of pattern.now) × (min (length entries.old) 4096 ≤ STATES) × (STATES ≤ 4096) }
+    ensures { TableOf pattern.now entries.new }
 {
     let mut states = [0u64; STATES];
-    fill_states(sizes, pattern, n, &mut states);
-    let weights = weights_of(sizes, pattern, n);
-    let mask = pack(DigitRule::Picking, &pattern);
+    fill_states(pattern.sizes, pattern.picked, pattern.n, &mut states);
+    let weights = weights_of(pattern.sizes, pattern.picked, pattern.n);
     let space = Space {
-        task,
-        mask,
+        task: pattern.task,
+        mask: pattern.mask,
         weights: &weights,
         states: &states,
         count: entries.len(),
-        actions,
-        live: lively(task, mask, actions),
+        actions: pattern.actions,
+        live: pattern.live,
     };
-    build_over(&space, &sizes, (n + 1) / 2, entries);
+    build_over(&space, &pattern.sizes, (pattern.n + 1) / 2, entries);
 }
 
 // Fills `entries` with the table of the pattern.
-pub(crate) fn build_table(
-    task: &[u64; 1282],
-    actions: usize,
-    n: usize,
-    sizes: [u8; 16],
-    pattern: [u8; 16],
-    entries: &mut [u16],
-)
-    requires { (Readable task.now actions) × (Lookable task.now (pack_by picking pattern) actions ((n + 1) / 2)) × (Sized sizes pattern n) × (length entries.old ≡ state_count (take n sizes) pattern) }
-    ensures { Built task.now actions n sizes pattern entries.new }
+pub(crate) fn build_table(pattern: &Pattern, entries: &mut [u16])
+    requires { length entries.old ≡ states_of pattern.now }
+    ensures { TableOf pattern.now entries.new }
 {
     if entries.len() <= 64 {
-        build_within::<64>(task, actions, n, sizes, pattern, entries);
+        build_within::<64>(pattern, entries);
     } else if entries.len() <= 512 {
-        build_within::<512>(task, actions, n, sizes, pattern, entries);
+        build_within::<512>(pattern, entries);
     } else {
-        build_within::<4096>(task, actions, n, sizes, pattern, entries);
+        build_within::<4096>(pattern, entries);
     }
 }

@@ -1,7 +1,6 @@
 // The compiled task of a record.
 ghost use Rattle.std.specs.Prelude.{◌≡◌, ℕ, ◌*◌, ◌<◌, ◌≤◌, length, slice_index};
 ghost use Rattle.task_record.specs.Numbers.{action_count};
-ghost use Rattle.task_record.specs.Record.{Sound};
 ghost use Rattle.task_record.specs.TaskOf.{task_of};
 ghost use Rattle.tables.specs.Packed.{compiled};
 ghost use Rattle.tables.specs.Compiling.{ActionsCompiled, Cleared};
@@ -9,14 +8,15 @@ ghost use Rattle.tables.specs.Compiling.{ActionsCompiled, Cleared};
 use crate::compile::{compile_action, named_digits, put};
 use crate::words::words_of;
 use task_record::cells::{action_count, goal_cells};
+use task_record::sound::SoundRecord;
 
 // The words of every action.
-fn compile_actions(rec: &[u8], task: &mut [u64])
-    requires { (Sound rec.now) × (1280 ≤ length task.old) }
-    ensures { ActionsCompiled rec.now task.old task.new (action_count rec.now) }
+fn compile_actions(record: &SoundRecord, task: &mut [u64])
+    requires { 1280 ≤ length task.old }
+    ensures { ActionsCompiled record.now task.old task.new (action_count record.now) }
 {
-    for m in 0..action_count(rec) {
-        compile_action(rec, m, task);
+    for m in 0..action_count(record.cells) {
+        compile_action(record.cells, m, task);
     }
 }
 
@@ -29,12 +29,12 @@ fn clear_from(task: &mut [u64], from: usize)
 }
 
 // The compiled task in words that are 0, those of the actions and of the goal aside.
-pub(crate) fn compile_cleared(rec: &[u8], task: &mut [u64; 1282])
-    requires { (Sound rec.now) × ((i : ℕ) → 20 * action_count rec.now ≤ i → i < 1280 → slice_index task.old i ≡ 0) }
-    ensures { task.new ≡ compiled (task_of rec.now) }
+pub(crate) fn compile_cleared(record: &SoundRecord, task: &mut [u64; 1282])
+    requires { (i : ℕ) → 20 * action_count record.now ≤ i → i < 1280 → slice_index task.old i ≡ 0 }
+    ensures { task.new ≡ compiled (task_of record.now) }
 {
-    compile_actions(rec, task);
-    let goal = goal_cells(rec);
+    compile_actions(record, task);
+    let goal = goal_cells(record.cells);
     let words = words_of(goal);
     let mask = named_digits(goal, words.keep);
     put(task, 1280, mask);
@@ -42,10 +42,9 @@ pub(crate) fn compile_cleared(rec: &[u8], task: &mut [u64; 1282])
 }
 
 // The compiled task in words that are lent.
-pub(crate) fn compile_record(rec: &[u8], task: &mut [u64; 1282])
-    requires { Sound rec.now }
-    ensures { task.new ≡ compiled (task_of rec.now) }
+pub(crate) fn compile_record(record: &SoundRecord, task: &mut [u64; 1282])
+    ensures { task.new ≡ compiled (task_of record.now) }
 {
-    clear_from(task, 20 * usize::from(action_count(rec)));
-    compile_cleared(rec, task);
+    clear_from(task, 20 * usize::from(action_count(record.cells)));
+    compile_cleared(record, task);
 }

@@ -2,7 +2,7 @@
 // a state meets as a set (`applying`), the abstract states of a pattern (`ranking`), a candidate for its table from the goals backwards
 // (`worklist`, and what that needs: `places`, `offsets`, `edges`, `incoming`, `visits`, `queue`), the test of a candidate (`certify`), passes
 // that need none (`sweep`), the table of one pattern (`build`), the same by one worklist that is itself proved (`proved_worklist`), what both have
-// in common (`builder`), all tables of a record (`record_tables`), how many states of a pattern have each cost (`spread`).
+// in common (`builder`, `pattern`), all tables of a record (`record_tables`), how many states of a pattern have each cost (`spread`).
 #![tactic(auto)]
 
 pub mod applying;
@@ -15,6 +15,7 @@ mod edges;
 mod incoming;
 mod offsets;
 mod packed;
+mod pattern;
 mod places;
 mod proved_worklist;
 mod queue;

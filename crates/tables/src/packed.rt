@@ -12,8 +12,6 @@ pub(crate) enum DigitRule {
     Picking,
 }
 
-pub(crate) const PICKING: DigitRule = DigitRule::Picking;
-
 // The digit of a cell by a rule.
 #[tactic(auto, unfolding(crate::specs::Packed::digit_by))]
 fn digit(rule: DigitRule, x: u8) -> u64

@@ -1,71 +1,66 @@
 // All tables of a record: the build, and what a search needs before it starts.
-ghost use Rattle.std.specs.Prelude.{◌≡◌, ◌+◌, ◌<◌, ◌≤◌, ◌++◌, map, length, take, drop};
+ghost use Rattle.std.specs.Prelude.{◌≡◌, ◌+◌, ◌≤◌, ◌++◌, map, length, take, drop};
 ghost use Rattle.planning.specs.Table.{state_count, table, entry_of};
 ghost use Rattle.task_record.specs.Layout.{at_pattern};
-ghost use Rattle.task_record.specs.Numbers.{pattern_count, size_of};
-ghost use Rattle.task_record.specs.Record.{Sound};
 ghost use Rattle.task_record.specs.TaskOf.{cells_at, task_of, start_of};
-ghost use Rattle.task_record.specs.Window.{Sixteen};
 ghost use Rattle.patterns.specs.Answers.{tables_by_lines, estimate_by_lines};
 ghost use Rattle.tables.specs.Answers.{table_build_numbers, prepare_numbers};
 ghost use Rattle.tables.specs.Packed.{pack_by, low, compiled};
-ghost use Rattle.tables.specs.RecordTables.{Buildable, table_build, built_over, tables_built, tables_prepared, words_prepared, sets_prepared, start_prepared};
+ghost use Rattle.tables.specs.Patterned.{Chosen};
+ghost use Rattle.tables.specs.RecordTables.{Fits, table_build, built_over, tables_built, tables_prepared, words_prepared, sets_prepared, start_prepared};
 
 use crate::applying::fill_sets;
 use crate::builder::{ProvedWorklist, TableBuilder, Tested};
 use crate::compile_record::{compile_cleared, compile_record};
 use crate::packed::{DigitRule, pack};
-use crate::ranking::state_count;
+use crate::pattern::Pattern;
 use patterns::estimate::check_estimate;
 use patterns::space::{check_tables, sizes_of};
-use task_record::cells::{
-    action_count, pattern_cells, pattern_count, start_cells, state_of, variable_count,
-};
+use task_record::cells::{action_count, pattern_count, start_cells, variable_count};
 use task_record::refusal::Refusal;
+use task_record::sound::SoundRecord;
 
 // The table of pattern p, from entry `begin` on; the entries before and after it stay. Answers where it ends.
 fn build_one<B: TableBuilder>(
-    rec: &[u8],
+    record: &SoundRecord,
     task: &[u64; 1282],
     sizes: [u8; 16],
     p: u8,
     begin: usize,
     tables: &mut [u16],
 ) -> usize
-    requires { (Sound rec.now) × (task.now ≡ compiled (task_of rec.now)) × (Sixteen (size_of rec.now) sizes) × (p < pattern_count rec.now) × (state_count (task_of rec.now).sizes (cells_at rec.now (at_pattern p)) ≤ 4096) × (begin + state_count (task_of rec.now).sizes (cells_at rec.now (at_pattern p)) ≤ length tables.old) }
-    ensures { (result ≡ begin + state_count (task_of rec.now).sizes (cells_at rec.now (at_pattern p))) × (tables.new ≡ take begin tables.old ++ (map entry_of (table (task_of rec.now) (cells_at rec.now (at_pattern p))) ++ drop result tables.old)) }
+    requires { (Chosen record.now task.now sizes p) × (begin + state_count (task_of record.now).sizes (cells_at record.now (at_pattern p)) ≤ length tables.old) }
+    ensures { (result ≡ begin + state_count (task_of record.now).sizes (cells_at record.now (at_pattern p))) × (tables.new ≡ take begin tables.old ++ (map entry_of (table (task_of record.now) (cells_at record.now (at_pattern p))) ++ drop result tables.old)) }
 {
-    let n = usize::from(variable_count(rec));
-    let actions = usize::from(action_count(rec));
-    let pattern = state_of(pattern_cells(rec, p));
-    let end = begin + state_count(sizes, pattern, n);
-    B::build_table(task, actions, n, sizes, pattern, &mut tables[begin..end]);
+    let pattern = Pattern::of(record, task, sizes, p);
+    let end = begin + pattern.states();
+    B::build_table(&pattern, &mut tables[begin..end]);
     end
 }
 
 // Each table begins where the one before ends.
-fn build_all<B: TableBuilder>(rec: &[u8], task: &[u64; 1282], tables: &mut [u16])
-    requires { (Buildable rec.now (length tables.old)) × (task.now ≡ compiled (task_of rec.now)) }
-    ensures { tables.new ≡ built_over rec.now tables.old }
+fn build_all<B: TableBuilder>(record: &SoundRecord, task: &[u64; 1282], tables: &mut [u16])
+    requires { (Fits record.now (length tables.old)) × (task.now ≡ compiled (task_of record.now)) }
+    ensures { tables.new ≡ built_over record.now tables.old }
 {
-    let sizes = sizes_of(rec);
+    let sizes = sizes_of(record.cells);
     let mut begin = 0usize;
-    for p in 0..pattern_count(rec) {
-        begin = build_one::<B>(rec, task, sizes, p, begin, tables);
+    for p in 0..pattern_count(record.cells) {
+        begin = build_one::<B>(record, task, sizes, p, begin, tables);
     }
 }
 
 // The compiled task is needed only while the tables are built, and not at all without patterns.
-pub(crate) fn build_checked<B: TableBuilder>(rec: &[u8], tables: &mut [u16])
-    requires { Buildable rec.now (length tables.old) }
-    ensures { tables.new ≡ built_over rec.now tables.old }
+pub(crate) fn build_checked<B: TableBuilder>(record: &SoundRecord, tables: &mut [u16])
+    requires { Fits record.now (length tables.old) }
+    ensures { tables.new ≡ built_over record.now tables.old }
 {
-    if pattern_count(rec) == 0 {
+    if pattern_count(record.cells) == 0 {
         return;
     }
     let mut task = [0u64; 1282];
-    compile_cleared(rec, &mut task);
-    build_all::<B>(rec, &task, tables);
+    compile_cleared(record, &mut task);
+    build_all::<B>(record, &task, tables);
 }
 
 // The tables of the task's patterns, one after the other; entries after the last stay.
@@ -74,7 +69,8 @@ fn build_tables_with<B: TableBuilder>(rec: &[u8], tables: &mut [u16]) -> Result<
     ensures numbers { table_build_numbers result ≡ tables_by_lines rec.now (length tables.old) }
 {
     let entries = check_tables(rec, tables.len())?;
-    build_checked::<B>(rec, tables);
+    let record = SoundRecord { cells: rec };
+    build_checked::<B>(&record, tables);
     Ok(entries)
 }
 
@@ -96,12 +92,11 @@ pub fn build_tables_by_worklist(rec: &[u8], tables: &mut [u16]) -> Result<u64, R
 }
 
 // The start as a word.
-fn start_word(rec: &[u8]) -> u64
-    requires { Sound rec.now }
-    ensures { result ≡ pack_by low (start_of rec.now) }
+fn start_word(record: &SoundRecord) -> u64
+    ensures { result ≡ pack_by low (start_of record.now) }
 {
-    let n = usize::from(variable_count(rec));
-    let cells = start_cells(rec);
+    let n = usize::from(variable_count(record.cells));
+    let cells = start_cells(record.cells);
     pack(DigitRule::Low, &cells[..n])
 }
 
@@ -118,12 +113,13 @@ fn prepare_with<B: TableBuilder>(
     ensures numbers { prepare_numbers result ≡ estimate_by_lines rec.now (length tables.old) }
 {
     check_estimate(rec, tables.len())?;
-    compile_record(rec, task);
-    build_all::<B>(rec, task, tables);
+    let record = SoundRecord { cells: rec };
+    compile_record(&record, task);
+    build_all::<B>(&record, task, tables);
     let actions = usize::from(action_count(rec));
     let bytes = (usize::from(variable_count(rec)) + 1) / 2;
     fill_sets(task, u64::MAX, actions, bytes, sets);
-    Ok(start_word(rec))
+    Ok(start_word(&record))
 }
 
 // All that a search needs before it starts. No entry of the product: `search` calls it. Needs less than 420 KiB of stack.

@@ -4,11 +4,10 @@ ghost use Rattle.std.specs.Prelude.{◌≡◌, suc, ◌+◌, ◌<◌, ◌≤◌,
 ghost use Rattle.planning.specs.Table.{cost_of, EntriesBelow, most_cost, Small};
 ghost use Rattle.planning.specs.Spread.{row_size, spread};
 ghost use Rattle.task_record.specs.Numbers.{pattern_count};
-ghost use Rattle.task_record.specs.Record.{Sound};
 ghost use Rattle.task_record.specs.TaskOf.{task_of, patterns_of};
 ghost use Rattle.patterns.specs.Space.{entries_needed};
 ghost use Rattle.tables.specs.Answers.{spread_numbers, spread_by_lines};
-ghost use Rattle.tables.specs.RecordTables.{Buildable, built_over};
+ghost use Rattle.tables.specs.RecordTables.{Fits, built_over};
 ghost use Rattle.tables.specs.Spread.{costs_named, states_named, table_spread, tables_spread, row_spread};
 
 use crate::builder::{ProvedWorklist, TableBuilder, Tested};
@@ -18,6 +17,7 @@ use patterns::space::{check_tables, sizes_of};
 use std::ops::Range;
 use task_record::cells::{pattern_cells, pattern_count, state_of, variable_count};
 use task_record::refusal::Refusal;
+use task_record::sound::SoundRecord;
 
 // A count for each cost that a table can hold, from 0 on, and after them one for infinity.
 const ROW: usize = 4097;
@@ -40,16 +40,16 @@ fn count_entries(entries: &[u16], row: &mut [u32])
 }
 
 // The part of the tables that pattern p's table takes: behind the entries of the patterns before it.
-fn part_of(rec: &[u8], p: u8) -> Range<usize>
-    requires { (Sound rec.now) × (Small (task_of rec.now) (patterns_of rec.now)) × (p < pattern_count rec.now) }
-    ensures { (result.start ≡ entries_needed (task_of rec.now).sizes (take p (patterns_of rec.now))) × (result.end ≡ entries_needed (task_of rec.now).sizes (take (p + 1) (patterns_of rec.now))) }
+fn part_of(record: &SoundRecord, p: u8) -> Range<usize>
+    requires { (Small (task_of record.now) (patterns_of record.now)) × (p < pattern_count record.now) }
+    ensures { (result.start ≡ entries_needed (task_of record.now).sizes (take p (patterns_of record.now))) × (result.end ≡ entries_needed (task_of record.now).sizes (take (p + 1) (patterns_of record.now))) }
 {
-    let sizes = sizes_of(rec);
-    let n = usize::from(variable_count(rec));
+    let sizes = sizes_of(record.cells);
+    let n = usize::from(variable_count(record.cells));
     let mut begin = 0usize;
     let mut end = 0usize;
     for q in 0..p + 1 {
-        let pattern = state_of(pattern_cells(rec, q));
+        let pattern = state_of(pattern_cells(record.cells, q));
         begin = end;
         end = begin + state_count(sizes, pattern, n);
     }
@@ -58,13 +58,13 @@ fn part_of(rec: &[u8], p: u8) -> Range<usize>
 
 // The spread of a pattern's table that stands among the tables of its record; of a number that names no pattern all counts are 0. Answers how
 // many states were counted.
-fn count_pattern(rec: &[u8], pattern: u64, tables: &[u16], row: &mut [u32]) -> u64
-    requires { (Buildable rec.now (length tables.now)) × (tables.now ≡ built_over rec.now tables.now) × (length row.old ≡ row_size) }
-    ensures { (result ≡ states_named rec.now pattern) × (row.new ≡ spread (costs_named rec.now pattern)) }
+fn count_pattern(record: &SoundRecord, pattern: u64, tables: &[u16], row: &mut [u32]) -> u64
+    requires { (Fits record.now (length tables.now)) × (tables.now ≡ built_over record.now tables.now) × (length row.old ≡ row_size) }
+    ensures { (result ≡ states_named record.now pattern) × (row.new ≡ spread (costs_named record.now pattern)) }
 {
     row.fill(0);
-    if pattern < u64::from(pattern_count(rec)) {
-        let part = part_of(rec, pattern as u8);
+    if pattern < u64::from(pattern_count(record.cells)) {
+        let part = part_of(record, pattern as u8);
         count_entries(&tables[part.start..part.end], row);
         return (part.end - part.start) as u64;
     }
@@ -87,8 +87,9 @@ fn spread_with<B: TableBuilder>(
     if row.len() < ROW {
         return Err(Refusal::ShortRow(row.len() as u64));
     }
-    build_checked::<B>(rec, tables);
-    Ok(count_pattern(rec, pattern, tables, &mut row[..ROW]))
+    let record = SoundRecord { cells: rec };
+    build_checked::<B>(&record, tables);
+    Ok(count_pattern(&record, pattern, tables, &mut row[..ROW]))
 }
 
 // How many abstract states of the pattern of a number have each cost, with the tables built anew. Needs as much stack as a build.

@@ -1,49 +1,23 @@
 // The table of one pattern. Arrays are cleared, which is most of what a small table costs: there are several sizes of them.
-ghost use Rattle.std.specs.Prelude.{◌≡◌, ◌*◌, ◌/◌, ◌≤◌, length, take};
-ghost use Rattle.planning.specs.Table.{state_count};
-ghost use Rattle.tables.specs.Packed.{pack_by, picking};
-ghost use Rattle.tables.specs.Steps.{Readable, Sized};
-ghost use Rattle.tables.specs.Edges.{outcomes_from, Walkable};
+ghost use Rattle.std.specs.Prelude.{◌≡◌, ◌*◌, ◌/◌, ◌≤◌, length};
+ghost use Rattle.tables.specs.Patterned.{states_of, TableOf};
+ghost use Rattle.tables.specs.Edges.{outcomes_from};
 ghost use Rattle.tables.specs.Incoming.{SetsRoom};
-ghost use Rattle.tables.specs.Built.{Built};
 
-use crate::packed::{PICKING, pack};
+use crate::pattern::Pattern;
 use crate::proved_worklist::edges::edge_count;
 use crate::proved_worklist::parts::parts_of;
 use crate::proved_worklist::worklist::settle;
 use crate::ranking::{fill_states, weights_of};
-use crate::sweep::{lively, start};
-use std::marker::Model;
-
-// A pattern of a compiled task: its mask, and the actions that leave no state of it as it is.
-#[derive(Drop)]
-struct Pattern<'a> {
-    task: &'a [u64; 1282],
-    actions: usize,
-    n: usize,
-    sizes: [u8; 16],
-    picked: [u8; 16],
-    mask: u64,
-    live: u64,
-}
-
-impl<'a> Model for Pattern<'a> {
-    ghost use Rattle.tables.specs.Patterned.{Patterned, Buildable};
-
-    ghost Value = { Patterned };
-
-    ghost view = { λ p. record { task = p.task.now; actions = p.actions; variables = p.n; sizes = p.sizes; picked = p.picked; mask = p.mask; live = p.live } };
-
-    ghost invariant = { λ p. Buildable (record { task = p.task.now; actions = p.actions; variables = p.n; sizes = p.sizes; picked = p.picked; mask = p.mask; live = p.live }) };
-}
+use crate::sweep::start;
 
 // The table, with room for so many states, twice as many tests as edges, and so many sets; with no room for sets the edges are tested one by one.
 fn build_within<const STATES: usize, const TESTS: usize, const EDGES: usize, const SETS: usize>(
     pattern: &Pattern,
     entries: &mut [u16],
 )
-    requires { (length entries.old ≡ state_count (take pattern.now.variables pattern.now.sizes) pattern.now.picked) × (length entries.old ≤ STATES) × (1 ≤ STATES) × (STATES ≤ 4096) × (outcomes_from pattern.now.task pattern.now.mask 0 pattern.now.actions ≤ TESTS / 2) × (TESTS ≤ 1024) × (4 * (TESTS / 2) ≤ EDGES) × (EDGES ≤ 2048) × (SetsRoom (length entries.old) (TESTS / 2) SETS) × (SETS ≤ 8704) }
-    ensures { Built pattern.now.task pattern.now.actions pattern.now.variables pattern.now.sizes pattern.now.picked entries.new }
+    requires { (length entries.old ≡ states_of pattern.now) × (length entries.old ≤ STATES) × (1 ≤ STATES) × (STATES ≤ 4096) × (outcomes_from pattern.now.task pattern.now.mask 0 pattern.now.actions ≤ TESTS / 2) × (TESTS ≤ 1024) × (4 * (TESTS / 2) ≤ EDGES) × (EDGES ≤ 2048) × (SetsRoom (length entries.old) (TESTS / 2) SETS) × (SETS ≤ 8704) }
+    ensures { TableOf pattern.now entries.new }
 {
     let mut states = [0u64; STATES];
     let mut tests = [0u64; TESTS];
@@ -72,8 +46,8 @@ fn build_within<const STATES: usize, const TESTS: usize, const EDGES: usize, con
 
 // Where every action may leave each state as it is, only the goals count.
 fn build_goals(pattern: &Pattern, entries: &mut [u16])
-    requires { (pattern.now.live ≡ 0) × (length entries.old ≡ state_count (take pattern.now.variables pattern.now.sizes) pattern.now.picked) }
-    ensures { Built pattern.now.task pattern.now.actions pattern.now.variables pattern.now.sizes pattern.now.picked entries.new }
+    requires { (pattern.now.live ≡ 0) × (length entries.old ≡ states_of pattern.now) }
+    ensures { TableOf pattern.now entries.new }
 {
     let mut words = [0u64; 4096];
     fill_states(pattern.sizes, pattern.picked, pattern.n, &mut words);
@@ -84,8 +58,8 @@ fn build_goals(pattern: &Pattern, entries: &mut [u16])
 // all its arrays where it begins, those of functions compiled into it among them, and one with a large array is not compiled into one that calls
 // itself. So a small table touches no page of the large arrays.
 fn build_sized(pattern: &Pattern, edges: usize, size: usize, entries: &mut [u16])
-    requires { (length entries.old ≡ state_count (take pattern.now.variables pattern.now.sizes) pattern.now.picked) × (outcomes_from pattern.now.task pattern.now.mask 0 pattern.now.actions ≤ edges) × (edges ≤ 512) }
-    ensures { Built pattern.now.task pattern.now.actions pattern.now.variables pattern.now.sizes pattern.now.picked entries.new }
+    requires { (length entries.old ≡ states_of pattern.now) × (outcomes_from pattern.now.task pattern.now.mask 0 pattern.now.actions ≤ edges) × (edges ≤ 512) }
+    ensures { TableOf pattern.now entries.new }
 {
     if pattern.live == 0 {
         return build_goals(pattern, entries);
@@ -109,28 +83,10 @@ fn build_sized(pattern: &Pattern, edges: usize, size: usize, entries: &mut [u16]
 }
 
 // Fills `entries` with the table of the pattern.
-pub(crate) fn build_table(
-    task: &[u64; 1282],
-    actions: usize,
-    n: usize,
-    sizes: [u8; 16],
-    pattern: [u8; 16],
-    entries: &mut [u16],
-)
-    requires { (Readable task.now actions) × (Walkable task.now (pack_by picking pattern) actions n sizes pattern) × (Sized sizes pattern n) × (length entries.old ≡ state_count (take n sizes) pattern) }
-    ensures { Built task.now actions n sizes pattern entries.new }
+pub(crate) fn build_table(pattern: &Pattern, entries: &mut [u16])
+    requires { length entries.old ≡ states_of pattern.now }
+    ensures { TableOf pattern.now entries.new }
 {
-    let mask = pack(PICKING, &pattern);
-    let live = lively(task, mask, actions);
-    let edges = edge_count(task, mask, actions, live);
-    let known = Pattern {
-        task,
-        actions,
-        n,
-        sizes,
-        picked: pattern,
-        mask,
-        live,
-    };
-    build_sized(&known, edges, 0, entries);
+    let edges = edge_count(pattern.task, pattern.mask, pattern.actions, pattern.live);
+    build_sized(pattern, edges, 0, entries);
 }

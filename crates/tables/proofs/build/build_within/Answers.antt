@@ -1,26 +1,36 @@
 -- `tables::build::build_within` meets its contract. Assumes nothing.
-use Rattle.std.proofs.Common.{refl, ◌∙◌, arith}
-use Rattle.tables.specs.Packed.{digit_by}
-use Rattle.tables.proofs.Building.{parts_build, parts_indexed, lookable_as}
+use Rattle.std.proofs.Common.{◌≡◌, ◌≤◌, min, length, refl, ◌∙◌, arith, rules}
+use Rattle.tables.proofs.Building.{parts_build, parts_indexed}
+use Rattle.tables.proofs.build.build_within.Given as given
 use Rattle.tables.proofs.build.build_within.Goals as goal
+use Rattle.tables.proofs.build.build_within.Goals.{After-pattern}
+
+enough : (g : given.Over) (c : After-pattern g) → length c.args.entries.now ≤ g.row.STATES
+enough g c = let p = rw (← c.pattern.view_is) at c.requires in omega (arith, p.0, p.1, c.pattern.invariant.sized.states_few)
+
+pub fill_states-requires : goal.fill_states-requires
+fill_states-requires g c = let p = rw (← c.pattern.view_is) at c.requires in let e = enough g (goal.at.fill_states-requires g c).After-pattern in
+    (c.pattern.invariant.sized, rw (← p.0) (search rules), search rules)
 
 pub invariant_of-space-clause-actions_few : goal.invariant_of-space-clause-actions_few
-invariant_of-space-clause-actions_few g c = c.requires.0.actions_few
+invariant_of-space-clause-actions_few g c = c.pattern.invariant.readable.actions_few
 
 pub invariant_of-space-clause-outcomes_few : goal.invariant_of-space-clause-outcomes_few
-invariant_of-space-clause-outcomes_few g c = c.requires.0.outcomes_few
+invariant_of-space-clause-outcomes_few g c = c.pattern.invariant.readable.outcomes_few
 
 pub invariant_of-space-clause-few : goal.invariant_of-space-clause-few
-invariant_of-space-clause-few g c = omega (arith, c.requires.3, c.requires.2.states_few)
+invariant_of-space-clause-few g c = let p = rw (← c.pattern.view_is) at c.requires in omega (arith, p.0, c.pattern.invariant.sized.states_few)
+
+pub invariant_of-space-clause-long : goal.invariant_of-space-clause-long
+invariant_of-space-clause-long g c = let e = enough g (goal.at.invariant_of-space-clause-long g c).After-pattern in search rules
 
 pub invariant_of-space-clause-placed : goal.invariant_of-space-clause-placed
-unfolding digit_by
-invariant_of-space-clause-placed g c = λ i b. (parts_indexed c.args.task.now c.args.actions c.args.n c.pack-mask.result c.args.sizes c.args.pattern c.weights_of-weights.result _ c.args.entries.now c.pack-mask.ensures c.weights_of-weights.ensures c.fill_states.ensures c.requires.2 (omega (arith, c.requires.3, c.requires.4, c.fill_states.auto.states))).place i (omega (arith, b, c.requires.3))
+invariant_of-space-clause-placed g c = let x = c.pattern.inside in let i = c.pattern.invariant in let p = rw (← c.pattern.view_is) at c.requires in
+    λ k b. (parts_indexed x.task.now x.actions x.n x.mask x.sizes x.picked c.weights_of-weights.result _ c.args.entries.now i.masked c.weights_of-weights.ensures c.fill_states.ensures i.sized (omega (arith, p.0, enough g (goal.at.invariant_of-space-clause-placed g c).After-pattern, c.fill_states.auto.states))).place k (omega (arith, b, p.0))
 
 pub build_over-requires : goal.build_over-requires
-unfolding digit_by
-build_over-requires g c = (lookable_as _ _ _ _ _ c.pack-mask.ensures c.requires.1, refl)
+build_over-requires g c = (c.pattern.invariant.lookable, refl)
 
 pub returns : goal.returns
-unfolding digit_by
-returns g c = parts_build c.args.task.now c.args.actions c.args.n c.pack-mask.result c.args.sizes c.args.pattern c.weights_of-weights.result _ _ c.pack-mask.ensures c.weights_of-weights.ensures c.fill_states.ensures (c.build_over.auto.entries ∙ c.requires.3) c.build_over.ensures
+returns g c = let x = c.pattern.inside in let i = c.pattern.invariant in let p = rw (← c.pattern.view_is) at c.requires in
+    rw (← c.pattern.view_is) (parts_build x.task.now x.actions x.n x.mask x.sizes x.picked c.weights_of-weights.result _ _ i.masked c.weights_of-weights.ensures c.fill_states.ensures (c.build_over.auto.entries ∙ p.0) c.build_over.ensures)

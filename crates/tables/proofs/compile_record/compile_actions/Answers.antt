@@ -6,20 +6,20 @@ use Rattle.tables.proofs.CompiledRecord.{no_actions, next_action}
 use Rattle.tables.proofs.compile_record.compile_actions.Goals as goal
 
 pub loop-m-init : goal.loop-m-init
-loop-m-init c = let h = no_actions c.args.rec.now c.args.task.now in (omega arith, h.long, h)
+loop-m-init c = let h = no_actions c.args.record.now c.args.task.now in (omega arith, h.long, h)
 
 pub compile_action-requires : goal.compile_action-requires
 compile_action-requires c =
-    let r = c.args.rec.now in let p = c.requires in let m = c.loop-m.m in
+    let r = c.record.inside.cells.now in let h = c.record.invariant in let m = c.loop-m.m in
     let b : m < action_count r = rw c.action_count-m-end.ensures at c.loop-m-test.true in
-    ((outcomes_right r p.0 m b).1, omega (arith, actions_right r p.0), omega (arith, p.1, c.loop-m.invariant.1))
+    ((outcomes_right r h m b).1, omega (arith, actions_right r h), omega (arith, c.requires, c.loop-m.invariant.1))
 
 pub loop-m-preserved : goal.loop-m-preserved
 loop-m-preserved c = let a = c.args in let l = c.loop-m in
-    let g = next_action a.rec.now a.task.now l.task _ l.m l.invariant.2 c.compile_action.ensures in
+    let g = next_action a.record.now a.task.now l.task _ l.m l.invariant.2 (rw c.record.view_is at c.compile_action.ensures) in
     (omega (arith, c.loop-m-test.true), g.long, g)
 
 pub returns : goal.returns
 returns c = let l = c.loop-m in
-    let e : l.m ≡ action_count c.args.rec.now = omega (arith, l.invariant.0, c.loop-m-test.false, c.action_count-m-end.ensures) in
+    let e : l.m ≡ action_count c.args.record.now = omega (arith, l.invariant.0, c.loop-m-test.false, rw c.record.view_is at c.action_count-m-end.ensures) in
     rw e at l.invariant.2

@@ -5,12 +5,13 @@ use Rattle.tables.proofs.CompiledRecord.{part_few, record_compiled}
 use Rattle.tables.proofs.compile_record.compile_cleared.Goals as goal
 
 pub words_of-words-requires : goal.words_of-words-requires
-words_of-words-requires c = rw c.goal_cells-goal.ensures (part_few (drop at_goal c.args.rec.now))
+words_of-words-requires c = rw c.goal_cells-goal.ensures (part_few (drop at_goal c.record.inside.cells.now))
 
 pub named_digits-mask-requires : goal.named_digits-mask-requires
-named_digits-mask-requires c = (rw c.goal_cells-goal.ensures (part_few (drop at_goal c.args.rec.now)), c.words_of-words.ensures.0)
+named_digits-mask-requires c = (rw c.goal_cells-goal.ensures (part_few (drop at_goal c.record.inside.cells.now)), c.words_of-words.ensures.0)
 
 pub returns : goal.returns
-returns c = record_compiled c.args.rec.now c.requires.0 c.args.task.now c.compile_actions.new.task _
-    (search rules) c.requires.1 c.compile_actions.ensures
-    (rw (c.put.ensures, c.named_digits-mask.ensures, c.words_of-words.ensures.1, c.goal_cells-goal.ensures) at c.put-2.ensures)
+returns c = let h = rw c.record.view_is at c.record.invariant in
+    record_compiled c.args.record.now h c.args.task.now c.compile_actions.new.task _
+    (search rules) c.requires c.compile_actions.ensures
+    (rw (c.put.ensures, c.named_digits-mask.ensures, c.words_of-words.ensures.1, c.goal_cells-goal.ensures, c.record.view_is) at c.put-2.ensures)

@@ -1,13 +1,10 @@
--- `prepare_with`: where nothing is refused, the record is sound and its tables can be built. Assumes nothing.
+-- `prepare_with`: where nothing is refused, the record is sound and its tables have room. Assumes nothing.
 use Rattle.std.proofs.Common.{length, sym, ◌∙◌}
-use Rattle.tables.proofs.BuiltTables.{ready_buildable}
+use Rattle.tables.proofs.BuiltTables.{buildable_fits, ready_buildable}
 use Rattle.tables.proofs.record_tables.prepare_with.Goals as goal
 
-pub compile_record-requires : goal.compile_record-requires
-compile_record-requires g c = let a = c.args in (ready_buildable a.rec.now (length a.tables.now) (sym c.check_estimate.ensures.value ∙ c.in_ok-check_estimate.was)).sound
+pub invariant_of-record : goal.invariant_of-record
+invariant_of-record g c = let a = c.args in (ready_buildable a.rec.now (length a.tables.now) (sym c.check_estimate.ensures.value ∙ c.in_ok-check_estimate.was)).sound
 
 pub build_all-requires : goal.build_all-requires
-build_all-requires g c = let a = c.args in (ready_buildable a.rec.now (length a.tables.now) (sym c.check_estimate.ensures.value ∙ c.in_ok-check_estimate.was), c.compile_record.ensures)
-
-pub start_word-requires : goal.start_word-requires
-start_word-requires g c = let a = c.args in (ready_buildable a.rec.now (length a.tables.now) (sym c.check_estimate.ensures.value ∙ c.in_ok-check_estimate.was)).sound
+build_all-requires g c = let a = c.args in (buildable_fits (ready_buildable a.rec.now (length a.tables.now) (sym c.check_estimate.ensures.value ∙ c.in_ok-check_estimate.was)), c.compile_record.ensures)

@@ -11,14 +11,14 @@ use Rattle.tables.proofs.spread.count_pattern.Goals.{After-from, After-part_of-p
 
 -- The number of patterns, once it was compared with.
 
-patterns-known : (c : After-from) → c.from.result ≡ pattern_count c.args.rec.now
-patterns-known c = c.from.ensures ∙ c.pattern_count.ensures
+patterns-known : (c : After-from) → c.from.result ≡ pattern_count c.args.record.now
+patterns-known c = c.from.ensures ∙ rw c.record.view_is at c.pattern_count.ensures
 
 -- A number that names a pattern: where its table begins and ends.
 
 module _ (c : After-part_of-part) where
   abbrev rec : List ℕ
-  rec = c.args.rec.now
+  rec = c.args.record.now
 
   abbrev number : ℕ
   number = c.args.pattern
@@ -27,7 +27,7 @@ module _ (c : After-part_of-part) where
   tabs = c.args.tables.now
 
   below : number < pattern_count rec
-  below = omega (arith, c.if-pattern-from.true, c.from.ensures ∙ c.pattern_count.ensures)
+  below = omega (arith, c.if-pattern-from.true, c.from.ensures ∙ rw c.record.view_is at c.pattern_count.ensures)
 
   begins : c.part_of-part.result.start ≡ entries_needed (task_of rec).sizes (take number (patterns_of rec))
   begins = c.part_of-part.ensures.0
@@ -74,5 +74,5 @@ returns-then-pattern-from c = let w = (goal.at.returns-then-pattern-from c).Afte
     (omega (arith, states_named_lem (rec w) (tabs w) p.0 p.1 (number w) l), c.count_entries.ensures ∙ ap spread (part_costs (rec w) (tabs w) p.0 p.1 (number w) l (part w) (part-is w)))
 
 pub returns : goal.returns
-returns c = let v = (goal.at.returns c).After-from in let l : pattern_count c.args.rec.now ≤ c.args.pattern = omega (arith, c.if-pattern-from.false, patterns-known v) in
-    (sym (no_states c.args.rec.now c.args.pattern l), cleared c.args.row.now _ c.requires.2 (c.fill.ensures.after (λ y e. e)) ∙ ap spread (sym (none_named c.args.rec.now c.args.pattern l)))
+returns c = let v = (goal.at.returns c).After-from in let l : pattern_count c.args.record.now ≤ c.args.pattern = omega (arith, c.if-pattern-from.false, patterns-known v) in
+    (sym (no_states c.args.record.now c.args.pattern l), cleared c.args.row.now _ c.requires.2 (c.fill.ensures.after (λ y e. e)) ∙ ap spread (sym (none_named c.args.record.now c.args.pattern l)))

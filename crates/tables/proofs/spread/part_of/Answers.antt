@@ -23,7 +23,7 @@ use Rattle.tables.proofs.spread.part_of.Goals.{After-state_of-pattern}
 
 module _ (c : After-state_of-pattern) where
   abbrev rec : List ℕ
-  rec = c.args.rec.now
+  rec = c.args.record.now
 
   abbrev number : ℕ
   number = c.loop-q.q
@@ -32,23 +32,23 @@ module _ (c : After-state_of-pattern) where
   sizes = c.sizes_of-sizes.result
 
   sound : Sound rec
-  sound = c.requires.0
+  sound = rw c.record.view_is at c.record.invariant
 
   below : number < pattern_count rec
-  below = omega (arith, c.loop-q-test.true, c.requires.2)
+  below = omega (arith, c.loop-q-test.true, c.requires.1)
 
   sixteen : Sixteen (size_of rec) sizes
-  sixteen = sixteen_sizes _ _ c.sizes_of-sizes.ensures
+  sixteen = sixteen_sizes _ _ (rw c.record.view_is at c.sizes_of-sizes.ensures)
 
   variables-known : c.from-n.result ≡ variable_count rec
-  variables-known = c.from-n.ensures ∙ c.variable_count.ensures
+  variables-known = c.from-n.ensures ∙ rw c.record.view_is at c.variable_count.ensures
 
   pattern_known : c.state_of-pattern.result ≡ cells_at rec (at_pattern number)
-  pattern_known = c.state_of-pattern.ensures ∙ ap state_cells c.pattern_cells.ensures ∙ sym (state_cells_whole (cells_at rec (at_pattern number)) (pattern_whole rec sound number below))
+  pattern_known = c.state_of-pattern.ensures ∙ ap state_cells (rw c.record.view_is at c.pattern_cells.ensures) ∙ sym (state_cells_whole (cells_at rec (at_pattern number)) (pattern_whole rec sound number below))
 
   few : state_count (task_of rec).sizes (get_or (patterns_of rec) number []) ≤ 4096
   unfolding Small
-  few = all_at (λ x. state_count (task_of rec).sizes x ≤ 4096) (patterns_of rec) [] c.requires.1 number (rw (patterns_length rec) below)
+  few = all_at (λ x. state_count (task_of rec).sizes x ≤ 4096) (patterns_of rec) [] c.requires.0 number (rw (patterns_length rec) below)
 
   states-known : state_count (take c.from-n.result sizes) c.state_of-pattern.result ≡ state_count (task_of rec).sizes (get_or (patterns_of rec) number [])
   states-known = ap₂ state_count (ap (λ k. take k sizes) variables-known ∙ sizes_taken rec sound sizes sixteen) (pattern_known ∙ sym (pattern_at rec number below))
@@ -57,7 +57,7 @@ same-sized : (zs p q : List ℕ) (n m : ℕ) → p ≡ q → n ≡ m → Sized z
 same-sized zs p q n m e f s = rw (e, f) s
 
 pub overflow_add-q-end : goal.overflow_add-q-end
-overflow_add-q-end c = let k = patterns_right c.args.rec.now c.requires.0 in omega (arith, c.requires.2)
+overflow_add-q-end c = let k = patterns_right c.args.record.now (rw c.record.view_is at c.record.invariant) in omega (arith, c.requires.1)
 
 pub loop-q-init : goal.loop-q-init
 unfolding entries_needed
@@ -87,4 +87,4 @@ loop-q-preserved c = let w = (goal.at.loop-q-preserved c).After-state_of-pattern
 pub returns : goal.returns
 returns c = let l = c.loop-q in let a = c.args in let t = c.loop-q-test.false in let i = l.invariant.0 in
     let e : l.q ≡ a.p + 1 = omega arith in let f : l.q - 1 ≡ a.p = omega arith in
-    let needed : ℕ → ℕ = λ k. entries_needed (task_of a.rec.now).sizes (take k (patterns_of a.rec.now)) in (l.invariant.1 ∙ ap needed f, l.invariant.2 ∙ ap needed e)
+    let needed : ℕ → ℕ = λ k. entries_needed (task_of a.record.now).sizes (take k (patterns_of a.record.now)) in (l.invariant.1 ∙ ap needed f, l.invariant.2 ∙ ap needed e)

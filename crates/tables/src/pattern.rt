@@ -1,0 +1,66 @@
+// A pattern of a compiled task: what the build of its table works on, however it is made, and what that rests on.
+ghost use Rattle.std.specs.Prelude.{◌≡◌};
+ghost use Rattle.tables.specs.Patterned.{Chosen, PatternOf, states_of};
+
+use crate::packed::{DigitRule, pack};
+use crate::ranking::state_count;
+use crate::sweep::lively;
+use std::marker::Model;
+use task_record::cells::{action_count, pattern_cells, state_of, variable_count};
+use task_record::sound::SoundRecord;
+
+// The compiled task and its number of actions; the number of variables and their sizes; the pattern, its mask, and the set of the actions of which
+// no outcome leaves every state as it is.
+#[derive(Drop)]
+pub(crate) struct Pattern<'a> {
+    pub(crate) task: &'a [u64; 1282],
+    pub(crate) actions: usize,
+    pub(crate) n: usize,
+    pub(crate) sizes: [u8; 16],
+    pub(crate) picked: [u8; 16],
+    pub(crate) mask: u64,
+    pub(crate) live: u64,
+}
+
+impl<'a> Model for Pattern<'a> {
+    ghost use Rattle.tables.specs.Patterned.{Patterned, Ready};
+
+    ghost Value = { Patterned };
+
+    ghost view = { λ p. record { task = p.task.now; actions = p.actions; variables = p.n; sizes = p.sizes; picked = p.picked; mask = p.mask; live = p.live } };
+
+    ghost invariant = { λ p. Ready (record { task = p.task.now; actions = p.actions; variables = p.n; sizes = p.sizes; picked = p.picked; mask = p.mask; live = p.live }) };
+}
+
+impl<'a> Pattern<'a> {
+    // Pattern p of a record.
+    pub(crate) fn of(
+        record: &SoundRecord,
+        task: &'a [u64; 1282],
+        sizes: [u8; 16],
+        p: u8,
+    ) -> Pattern<'a>
+        requires { Chosen record.now task.now sizes p }
+        ensures { PatternOf record.now p result }
+    {
+        let actions = usize::from(action_count(record.cells));
+        let picked = state_of(pattern_cells(record.cells, p));
+        let mask = pack(DigitRule::Picking, &picked);
+        Pattern {
+            task,
+            actions,
+            n: usize::from(variable_count(record.cells)),
+            sizes,
+            picked,
+            mask,
+            live: lively(task, mask, actions),
+        }
+    }
+
+    // The number of its abstract states.
+    pub(crate) fn states(&self) -> usize
+        ensures { result ≡ states_of self.now }
+    {
+        state_count(self.sizes, self.picked, self.n)
+    }
+}
