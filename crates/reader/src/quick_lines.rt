@@ -107,8 +107,7 @@ fn quick_list<'a>(
     None
 }
 
-// Pairs up to the end of their line, for a record of n variables. They are most of a text: so they have a loop of their own, and one that is short
-// enough to be compiled in place wherever it is called.
+// Pairs up to the end of their line, for a record of n variables. They are most of a text: so they have a loop of their own.
 // Stays: one loop for both would need a trait whose item, empty cell and end have laws, with three impls: longer than this loop.
 fn quick_pairs<'a>(s: &'a [u8], rec: &mut Record, n: usize, row: usize) -> Option<&'a [u8]>
     requires { (0 < length s.now) × (24 ≤ row) × (row + 16 ≤ record_size) × (n ≡ get_or rec.old 0 0) × (n ≤ 16) }
@@ -142,7 +141,8 @@ fn quick_pairs<'a>(s: &'a [u8], rec: &mut Record, n: usize, row: usize) -> Optio
     None
 }
 
-// A line with pairs.
+// A line with pairs. Compiled in place wherever it is called: there its key is known, and what is left of the text stays in registers.
+#[inline(always)]
 pub(crate) fn quick_pair_line<'a>(
     s: &'a [u8],
     rec: &mut Record,
