@@ -7,7 +7,7 @@ use native.Mathlib.Nat.{add_assoc, add-zero}
 use native.Mathlib.Omega.{arith}
 use lib.Dec.{eqb}
 use lib.ListN.{length, drop, get_or, set}
-use lib.Seq.{sets, drop-append_seam, get_or-set_same, get_or-set_other}
+use lib.Seq.{sets, drop-append_seam, get_or-set_other}
 use borrow.Author.Tests.{eqb-true, not-true}
 use Rattle.reader.specs.Text.{line_break, has_key, lines_of}
 use Rattle.reader.specs.Lists.{list_of, whole_list}
@@ -82,8 +82,8 @@ module _ (s rest key : List ℕ) (due : Due) (r r' : List ℕ) (plain : lacks li
 
 -- a number at the end of its line
 pub number_at : (s m : List ℕ) (lo hi : ℕ) (r : List ℕ) (cell n : ℕ) (r' : List ℕ) → s ≡ decimal n ++ m → n ≤ 255 → 0 < length m
-    → get_or m 0 0 ≡ line_break → lo ≤ n → n ≤ hi → r' ≡ set r cell n → NumberAt s lo hi r cell r' (drop 1 m)
-number_at s m lo hi r cell n r' h small more b l u e =
+    → get_or m 0 0 ≡ line_break → lo ≤ n → n ≤ hi → r' ≡ set r cell n → get_or r' cell 0 ≡ n → NumberAt s lo hi r cell r' (drop 1 m)
+number_at s m lo hi r cell n r' h small more b l u e held =
     record {
       number = n;
       line =
@@ -92,6 +92,7 @@ number_at s m lo hi r cell n r' h small more b l u e =
       least = l;
       most = u;
       stored = e;
+      held = held;
     }
 
 -- what a line with a number or a list leaves of the record
@@ -99,10 +100,8 @@ module _ (s key : List ℕ) (lo hi : ℕ) (r : List ℕ) (cell : ℕ) (r' rest :
   pub number_kept : (k : ℕ) → (k ≡ cell → ⊥) → get_or r' k 0 ≡ get_or r k 0
   number_kept k h = rw a.stands.stored (get_or-set_other r cell k a.stands.number 0 h)
 
-  pub number_range : cell < length r → (lo ≤ get_or r' cell 0) × (get_or r' cell 0 ≤ hi)
-  number_range h =
-      let e : get_or r' cell 0 ≡ a.stands.number = rw a.stands.stored (get_or-set_same r cell a.stands.number 0 h) in
-      rw e (a.stands.least, a.stands.most)
+  pub number_range : (lo ≤ get_or r' cell 0) × (get_or r' cell 0 ≤ hi)
+  number_range = rw a.stands.held (a.stands.least, a.stands.most)
 
 pub list_kept : (s key : List ℕ) (kind : Kind) (r : List ℕ) (row : ℕ) (r' rest : List ℕ) → ListLine s key kind r row r' rest → (k : ℕ) → k < row
     → get_or r' k 0 ≡ get_or r k 0

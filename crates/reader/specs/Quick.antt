@@ -39,6 +39,7 @@ pub record NumberAt (s : List ℕ) (low high : ℕ) (r : List ℕ) (cell : ℕ) 
   pub least : low ≤ number
   pub most : number ≤ high
   pub stored : r' ≡ set r cell number
+  pub held : get_or r' cell 0 ≡ number
 
 -- the same of whole lines, with their key in front
 pub record ListLine (s key : List ℕ) (kind : Kind) (r : List ℕ) (row : ℕ) (r' rest : List ℕ) : Type 0 where

@@ -1,11 +1,11 @@
 // The record before the first line: nothing is used. Assumes nothing.
 ghost use Rattle.std.specs.Prelude.{◌≡◌};
 ghost use Rattle.reader.specs.Grammar.{blank};
-ghost use Rattle.reader.specs.Stores.{all_unnamed, clear_actions};
+ghost use Rattle.reader.specs.Stores.{clear_actions};
 
 use crate::places::{at_action, at_pattern};
 use crate::store::{fill, put};
-use task_record::layout::{AT_GOAL, RECORD_SIZE};
+use task_record::layout::{AT_GOAL, RECORD_SIZE, UNNAMED};
 
 // The record that is filled, before it is copied out.
 pub type Record = [u8; RECORD_SIZE];
@@ -19,11 +19,11 @@ fn clear_actions(r: &mut [u8], n: u8)
     }
 }
 
-// A record with nothing used, made in place of one in which every cell is unnamed.
-pub(crate) fn clear_record(r: &mut [u8])
-    requires { r.old ≡ all_unnamed }
+// A record with nothing used, made in place.
+pub(crate) fn clear_record(r: &mut Record)
     ensures { r.new ≡ blank }
 {
+    fill(r, 0, RECORD_SIZE, UNNAMED);
     fill(r, 0, AT_GOAL, 0);
     fill(r, at_pattern(0), at_action(0) - at_pattern(0), 0);
     clear_actions(r, 64);

@@ -3,6 +3,7 @@
 
 mod blank;
 mod decimal;
+mod draft;
 mod grammar;
 mod lists;
 mod order;

@@ -171,6 +171,7 @@ pub(crate) fn read_list(rec: &[u8], kind: Kind, text: &[u8]) -> Gathered
         }
     }
     let mut rest = text;
+    // Stays: a loop, since `split` looks for the comma before the piece is read, and so at each byte twice.
     loop {
         let item = first_item(kind, gathered.next, rest);
         gathered.add(rec, item.pair);

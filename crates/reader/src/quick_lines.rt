@@ -1,17 +1,16 @@
 // Good lines at the front of a text, their cells written in place. Each function answers what stands behind its line, or nothing where it does not
 // know the line for good; then the record may hold anything. Assumes room for the cells.
-ghost use Rattle.std.specs.Prelude.{◌≡◌, true, false, ◌+◌, ◌<◌, ◌≤◌, ◌++◌, length, get_or, set, IfSome};
-ghost use Rattle.task_record.specs.Layout.{record_size};
+ghost use Rattle.std.specs.Prelude.{◌≡◌, true, false, ◌+◌, ◌<◌, ◌≤◌, ◌++◌, length, get_or, IfSome};
+ghost use Rattle.task_record.specs.Layout.{at_variables, record_size};
 ghost use Rattle.reader.specs.Lists.{pair_fits, is_values};
 ghost use Rattle.reader.specs.Quick.{ListAt, ListLine, NumberLine};
 
-use crate::blank::Record;
+use crate::draft::Draft;
 use crate::lists::{Kind, is_values, is_whole, unnamed_of};
 use crate::pieces::{COMMA, LINE_BREAK, begins};
 use crate::places::Field;
 use crate::quick_items::{quick_item, quick_pair, short_number};
-use crate::store::fill;
-use task_record::layout::{AT_SIZES, ROW_SIZE, UNNAMED};
+use task_record::layout::{AT_SIZES, UNNAMED};
 
 // In a good text at least so many bytes stand from the place of any line but the last on: those of the shortest last two lines.
 const LINE_ROOM: usize = 16;
@@ -30,26 +29,17 @@ fn behind<'a>(s: &'a [u8], key: &[u8]) -> Option<&'a [u8]>
     Some(&s[key.len()..])
 }
 
-// One cell.
-fn store(r: &mut Record, at: usize, x: u8)
-    requires { at < record_size }
-    ensures { r.new ≡ set r.old at x }
-{
-    r[at] = x;
-}
-
-// Whether a record of n variables allows a value of a variable that is not below `next`.
-fn fits(rec: &Record, n: usize, next: usize, v: usize, x: usize) -> bool
-    requires { (n ≡ get_or rec.now 0 0) × (n ≤ 16) }
-    ensures { result ≡ true → (pair_fits rec.now next v x ≡ true) × (v < n) × (x < 255) }
+// Whether the record allows a value of a variable that is not below `next`.
+fn fits(rec: &Draft, next: usize, v: usize, x: usize) -> bool
+    ensures { result ≡ true → (pair_fits rec.now next v x ≡ true) × (v < 16) × (x < 255) }
 {
     if v < next {
         return false;
     }
-    if n <= v {
+    if rec.variables() <= v {
         return false;
     }
-    let size = usize::from(rec[AT_SIZES + v]);
+    let size = usize::from(rec.cell(AT_SIZES + v));
     x < size
 }
 
@@ -66,32 +56,28 @@ fn is_empty(s: &[u8], kind: Kind) -> bool
     !is_values(kind)
 }
 
-// A list of values or of members up to the end of its line, for a record of n variables.
-fn quick_list<'a>(
-    s: &'a [u8],
-    rec: &mut Record,
-    kind: Kind,
-    n: usize,
-    row: usize,
-) -> Option<&'a [u8]>
-    requires { (24 ≤ row) × (row + 16 ≤ record_size) × (n ≡ get_or rec.old 0 0) × (n ≤ 16) }
+// A list of values or of members up to the end of its line.
+fn quick_list<'a>(s: &'a [u8], rec: &mut Draft, kind: Kind, row: usize) -> Option<&'a [u8]>
+    requires { (24 ≤ row) × (row + 16 ≤ record_size) }
     ensures { IfSome result (λ e. ListAt s.now kind rec.old row rec.new e.now) }
 {
-    fill(rec, row, ROW_SIZE, unnamed_of(kind));
+    let n = rec.variables();
+    rec.fill_row(row, unnamed_of(kind));
     if is_empty(s, kind) {
         return Some(&s[1..]);
     }
     let mut rest = s;
     let mut next = 0;
+    // Stays: a loop, since `split` at commas would run on past the line's end, and would not say what stands behind it.
     while rest.len() >= 3 {
         let item = quick_item(rest, kind, next)?;
         let v = item.pair.variable;
         let x = item.pair.value;
         let after = item.rest;
-        if !fits(rec, n, next, v, x) {
+        if !fits(rec, next, v, x) {
             return None;
         }
-        store(rec, row + v, x as u8);
+        rec.store(row + v, x as u8);
         if after[0] == LINE_BREAK {
             if is_whole(n, kind, v + 1) {
                 return Some(&after[1..]);
@@ -107,28 +93,30 @@ fn quick_list<'a>(
     None
 }
 
-// Pairs up to the end of their line, for a record of n variables. They are most of a text: so they have a loop of their own.
+// Pairs up to the end of their line. They are most of a text: so they have a loop of their own, and it is compiled in place.
 // Stays: one loop for both would need a trait whose item, empty cell and end have laws, with three impls: longer than this loop.
-fn quick_pairs<'a>(s: &'a [u8], rec: &mut Record, n: usize, row: usize) -> Option<&'a [u8]>
-    requires { (0 < length s.now) × (24 ≤ row) × (row + 16 ≤ record_size) × (n ≡ get_or rec.old 0 0) × (n ≤ 16) }
+#[inline(always)]
+fn quick_pairs<'a>(s: &'a [u8], rec: &mut Draft, row: usize) -> Option<&'a [u8]>
+    requires { (0 < length s.now) × (24 ≤ row) × (row + 16 ≤ record_size) }
     ensures { IfSome result (λ e. ListAt s.now Kind.Pairs rec.old row rec.new e.now) }
 {
-    fill(rec, row, ROW_SIZE, UNNAMED);
+    rec.fill_row(row, UNNAMED);
     if s[0] == LINE_BREAK {
         return Some(&s[1..]);
     }
     let mut rest = s;
     let mut next = 0;
+    // Stays: a loop, for the same reason.
     while rest.len() >= 6 {
         let item = quick_pair(rest)?;
         let v = item.pair.variable;
         let x = item.pair.value;
         let after = item.rest;
-        if !fits(rec, n, next, v, x) {
+        if !fits(rec, next, v, x) {
             return None;
         }
         let c = after[0];
-        store(rec, row + v, x as u8);
+        rec.store(row + v, x as u8);
         if c == LINE_BREAK {
             return Some(&after[1..]);
         }
@@ -145,42 +133,40 @@ fn quick_pairs<'a>(s: &'a [u8], rec: &mut Record, n: usize, row: usize) -> Optio
 #[inline(always)]
 pub(crate) fn quick_pair_line<'a>(
     s: &'a [u8],
-    rec: &mut Record,
+    rec: &mut Draft,
     key: &[u8],
-    n: usize,
     row: usize,
 ) -> Option<&'a [u8]>
-    requires { (24 ≤ row) × (row + 16 ≤ record_size) × (n ≡ get_or rec.old 0 0) × (n ≤ 16) × (length key.now ≤ 9) }
+    requires { (24 ≤ row) × (row + 16 ≤ record_size) × (length key.now ≤ 9) }
     ensures { IfSome result (λ e. ListLine s.now key.now Kind.Pairs rec.old row rec.new e.now) }
 {
     let value = behind(s, key)?;
-    quick_pairs(value, rec, n, row)
+    quick_pairs(value, rec, row)
 }
 
 // A line with a list of values or of members.
 pub(crate) fn quick_list_line<'a>(
     s: &'a [u8],
-    rec: &mut Record,
+    rec: &mut Draft,
     key: &[u8],
     kind: Kind,
-    n: usize,
     row: usize,
 ) -> Option<&'a [u8]>
-    requires { (24 ≤ row) × (row + 16 ≤ record_size) × (n ≡ get_or rec.old 0 0) × (n ≤ 16) × (length key.now ≤ 9) }
+    requires { (24 ≤ row) × (row + 16 ≤ record_size) × (length key.now ≤ 9) }
     ensures { IfSome result (λ e. ListLine s.now key.now kind rec.old row rec.new e.now) }
 {
     let value = behind(s, key)?;
-    quick_list(value, rec, kind, n, row)
+    quick_list(value, rec, kind, row)
 }
 
 // A line with a number.
 pub(crate) fn quick_number_line<'a>(
     s: &'a [u8],
-    rec: &mut Record,
+    rec: &mut Draft,
     key: &[u8],
     field: Field,
 ) -> Option<&'a [u8]>
-    requires { (field.at < record_size) × (length key.now ≤ 9) }
+    requires { (field.at < record_size) × (field.at ≡ at_variables → field.high ≤ 16) × (length key.now ≤ 9) }
     ensures { IfSome result (λ e. NumberLine s.now key.now field.low field.high rec.old field.at rec.new e.now) }
 {
     let value = behind(s, key)?;
@@ -196,6 +182,6 @@ pub(crate) fn quick_number_line<'a>(
     if usize::from(field.high) < x {
         return None;
     }
-    store(rec, field.at, x as u8);
+    rec.store(field.at, x as u8);
     Some(&rest[1..])
 }

@@ -9,7 +9,7 @@ use native.Mathlib.Omega.{arith}
 use Rattle.reader.specs.Lists.{unnamed, whole_list}
 use Rattle.reader.specs.declared.lists.Kind.{Kind}
 use Rattle.task_record.proofs.Rest.{part_rest}
-use Rattle.reader.proofs.QuickLists.{Listing, list_begun, list_empty, list_more, list_done, front_kept, fits_kept}
+use Rattle.reader.proofs.QuickLists.{Listing, list_begun, list_empty, list_more, list_done, fits_kept}
 use Rattle.reader.proofs.quick_lines.quick_list.Goals as goal
 
 -- the cells of the row are cleared
@@ -20,27 +20,25 @@ cleared rec new row u kind e f = e ∙ ap (λ (u : ℕ). sets rec row (replicate
 
 pub returns-then-is_empty : goal.returns-then-is_empty
 returns-then-is_empty c = let a = c.args in let e = c.is_empty.ensures c.if-is_empty.true in
-    rw (part_rest a.s.now 1, cleared a.rec.now c.fill.new.r a.row c.unnamed_of.result a.kind c.fill.ensures c.unnamed_of.ensures) (list_empty a.s.now a.kind a.rec.now a.row e.0 e.1 e.2)
+    rw (part_rest a.s.now 1, cleared a.rec.now c.fill_row.new.self a.row c.unnamed_of.result a.kind c.fill_row.ensures.0 c.unnamed_of.ensures) (list_empty a.s.now a.kind a.rec.now a.row e.0 e.1 e.2)
 
 pub loop-rest-init : goal.loop-rest-init
 loop-rest-init c = let a = c.args in
     (omega arith, λ r e. subst (λ (x : List ℕ). Listing a.s.now a.kind r a.row x 0 a.s.now) (sym e) (list_begun a.s.now a.kind r a.row))
 
-pub fits-requires : goal.fits-requires
-fits-requires c = let a = c.args in let l = c.loop-rest.invariant.1 a.rec.now (cleared a.rec.now c.fill.new.r a.row c.unnamed_of.result a.kind c.fill.ensures c.unnamed_of.ensures) in
-    (c.requires.2 ∙ sym (front_kept a.rec.now c.loop-rest.rec a.row l.cells 0 l.stored (omega (arith, c.requires.0))), c.requires.3)
-
 pub returns-then-is_whole : goal.returns-then-is_whole
 returns-then-is_whole c = let a = c.args in
     let o = c.loop-rest in
-    let l = o.invariant.1 a.rec.now (cleared a.rec.now c.fill.new.r a.row c.unnamed_of.result a.kind c.fill.ensures c.unnamed_of.ensures) in
+    let l = o.invariant.1 a.rec.now (cleared a.rec.now c.fill_row.new.self a.row c.unnamed_of.result a.kind c.fill_row.ensures.0 c.unnamed_of.ensures) in
     let f = c.fits.ensures c.if-not-fits.false in
     let h = c.in_ok-item.ensures in
     let i = c.in_ok-item.item in
     let q = i.pair in
-    let k = fits_kept a.rec.now o.rec a.row l.cells o.next q.variable q.value l.stored c.requires.0 (omega (arith, f.1, c.requires.3)) f.0 in
-    rw (part_rest i.rest.now 1, c.store.ensures)
-    (list_done a.s.now a.kind a.rec.now a.row o.rest.now i.rest.now o.next q.variable q.value o.rec l (h.2) k (omega (arith, f.1, c.requires.3)) (omega (arith, c.requires.1)) h.0 c.if-after-eq-LINE_BREAK.true (ap (λ (n : ℕ). whole_list n a.kind (q.variable + 1)) (sym c.requires.2) ∙ sym c.is_whole.ensures ∙ c.if-is_whole.true))
+    let n = length-sets a.rec.now a.row (replicate 16 c.unnamed_of.result) in
+    let z = ap length c.fill_row.ensures.0 in
+    let k = fits_kept a.rec.now o.rec a.row l.cells o.next q.variable q.value l.stored c.requires.0 f.1 f.0 in
+    rw (part_rest i.rest.now 1, c.store.ensures.0)
+    (list_done a.s.now a.kind a.rec.now a.row o.rest.now i.rest.now o.next q.variable q.value o.rec l (h.2) k f.1 (omega (arith, n, z, c.fill_row.ensures.1, c.requires.1)) h.0 c.if-after-eq-LINE_BREAK.true (ap (λ (n : ℕ). whole_list n a.kind (q.variable + 1)) (sym c.variables-n.ensures.0) ∙ sym c.is_whole.ensures ∙ c.if-is_whole.true))
 
 pub loop-rest-preserved : goal.loop-rest-preserved
 loop-rest-preserved c = let a = c.args in
@@ -49,11 +47,11 @@ loop-rest-preserved c = let a = c.args in
     let h = c.in_ok-item.ensures in
     let i = c.in_ok-item.item in
     let q = i.pair in (
-      omega (arith, f.1, c.requires.3),
+      omega (arith, f.1),
       λ r e. let m = o.invariant.1 r e in
           let n = length-sets r a.row (replicate 16 (unnamed a.kind)) in
           let z = ap length e in
-          rw (part_rest i.rest.now 1, c.store.ensures)
+          rw (part_rest i.rest.now 1, c.store.ensures.0)
           (list_more a.s.now a.kind r a.row o.rest.now i.rest.now o.next q.variable q.value o.rec m (h.2)
-          (fits_kept r o.rec a.row m.cells o.next q.variable q.value m.stored c.requires.0 (omega (arith, f.1, c.requires.3)) f.0) (omega (arith, f.1, c.requires.3)) (omega (arith, n, z, c.fill.auto.r, c.requires.1)) h.0 c.if-after-ne-COMMA.false),
+          (fits_kept r o.rec a.row m.cells o.next q.variable q.value m.stored c.requires.0 f.1 f.0) f.1 (omega (arith, n, z, c.fill_row.ensures.1, c.requires.1)) h.0 c.if-after-ne-COMMA.false),
     )

@@ -4,36 +4,34 @@ use Prim.Native.Nat.{ℕ}
 use lib.ListN.{length, replicate}
 use lib.Seq.{length-sets}
 use mathlib.Core.List.{List}
-use mathlib.Core.Path.{refl, sym, ap, subst, ◌∙◌}
+use mathlib.Core.Path.{refl, sym, ap, subst}
 use native.Mathlib.Omega.{arith}
 use Rattle.reader.specs.declared.lists.Kind.TheVariants.{Pairs}
 use Rattle.task_record.proofs.Rest.{part_rest}
-use Rattle.reader.proofs.QuickLists.{Listing, list_begun, list_empty, list_more, list_done, front_kept, fits_kept}
+use Rattle.reader.proofs.QuickLists.{Listing, list_begun, list_empty, list_more, list_done, fits_kept}
 use Rattle.reader.proofs.quick_lines.quick_pairs.Goals as goal
 
 pub returns-then-s-eq-LINE_BREAK : goal.returns-then-s-eq-LINE_BREAK
 returns-then-s-eq-LINE_BREAK c = let a = c.args in
-    rw (part_rest a.s.now 1, c.fill.ensures) (list_empty a.s.now Pairs a.rec.now a.row c.requires.0 c.if-s-eq-LINE_BREAK.true refl)
+    rw (part_rest a.s.now 1, c.fill_row.ensures.0) (list_empty a.s.now Pairs a.rec.now a.row c.requires.0 c.if-s-eq-LINE_BREAK.true refl)
 
 pub loop-rest-init : goal.loop-rest-init
 loop-rest-init c = let a = c.args in
     (omega arith, λ r e. subst (λ (x : List ℕ). Listing a.s.now Pairs r a.row x 0 a.s.now) (sym e) (list_begun a.s.now Pairs r a.row))
 
-pub fits-requires : goal.fits-requires
-fits-requires c = let a = c.args in let l = c.loop-rest.invariant.1 a.rec.now (c.fill.ensures) in
-    (c.requires.3 ∙ sym (front_kept a.rec.now c.loop-rest.rec a.row l.cells 0 l.stored (omega (arith, c.requires.1))), c.requires.4)
-
 pub returns-then-c-eq-LINE_BREAK : goal.returns-then-c-eq-LINE_BREAK
 returns-then-c-eq-LINE_BREAK c = let a = c.args in
     let o = c.loop-rest in
-    let l = o.invariant.1 a.rec.now (c.fill.ensures) in
+    let l = o.invariant.1 a.rec.now c.fill_row.ensures.0 in
     let f = c.fits.ensures c.if-not-fits.false in
     let h = c.in_ok-item.ensures in
     let i = c.in_ok-item.item in
     let q = i.pair in
-    let k = fits_kept a.rec.now o.rec a.row l.cells o.next q.variable q.value l.stored c.requires.1 (omega (arith, f.1, c.requires.4)) f.0 in
-    rw (part_rest i.rest.now 1, c.store.ensures)
-    (list_done a.s.now Pairs a.rec.now a.row o.rest.now i.rest.now o.next q.variable q.value o.rec l (h.2 o.next) k (omega (arith, f.1, c.requires.4)) (omega (arith, c.requires.2)) h.0 c.if-c-eq-LINE_BREAK.true refl)
+    let n = length-sets a.rec.now a.row (replicate 16 255) in
+    let z = ap length c.fill_row.ensures.0 in
+    let k = fits_kept a.rec.now o.rec a.row l.cells o.next q.variable q.value l.stored c.requires.1 f.1 f.0 in
+    rw (part_rest i.rest.now 1, c.store.ensures.0)
+    (list_done a.s.now Pairs a.rec.now a.row o.rest.now i.rest.now o.next q.variable q.value o.rec l (h.2 o.next) k f.1 (omega (arith, n, z, c.fill_row.ensures.1, c.requires.2)) h.0 c.if-c-eq-LINE_BREAK.true refl)
 
 pub loop-rest-preserved : goal.loop-rest-preserved
 loop-rest-preserved c = let a = c.args in
@@ -42,11 +40,11 @@ loop-rest-preserved c = let a = c.args in
     let h = c.in_ok-item.ensures in
     let i = c.in_ok-item.item in
     let q = i.pair in (
-      omega (arith, f.1, c.requires.4),
+      omega (arith, f.1),
       λ r e. let m = o.invariant.1 r e in
           let n = length-sets r a.row (replicate 16 255) in
           let z = ap length e in
-          rw (part_rest i.rest.now 1, c.store.ensures)
+          rw (part_rest i.rest.now 1, c.store.ensures.0)
           (list_more a.s.now Pairs r a.row o.rest.now i.rest.now o.next q.variable q.value o.rec m (h.2 o.next)
-          (fits_kept r o.rec a.row m.cells o.next q.variable q.value m.stored c.requires.1 (omega (arith, f.1, c.requires.4)) f.0) (omega (arith, f.1, c.requires.4)) (omega (arith, n, z, c.fill.auto.r, c.requires.2)) h.0 c.if-c-ne-COMMA.false),
+          (fits_kept r o.rec a.row m.cells o.next q.variable q.value m.stored c.requires.1 f.1 f.0) f.1 (omega (arith, n, z, c.fill_row.ensures.1, c.requires.2)) h.0 c.if-c-ne-COMMA.false),
     )

@@ -1,10 +1,10 @@
 -- `reader::quick_text::quick_action` meets its contract: the precondition, the number of outcomes, the outcomes. Assumes nothing.
-use Prim.Native.Nat.{◌+◌, ◌≤◌, ◌<◌, ℕ}
-use lib.ListN.{get_or, length}
+use Prim.Native.Nat.{◌+◌, ◌≤◌, ℕ}
+use lib.ListN.{get_or}
 use mathlib.Core.List.{List}
-use mathlib.Core.Path.{◌≡◌, sym, ap, ◌∙◌}
+use mathlib.Core.Path.{◌≡◌, ◌∙◌}
 use Rattle.std.proofs.lemmas.Option.{IfSome_then}
-use Rattle.task_record.specs.Layout.{record_size, at_action, at_precondition}
+use Rattle.task_record.specs.Layout.{at_action, at_precondition}
 use native.Mathlib.Omega.{arith}
 use Rattle.reader.specs.Bytes.{bytes}
 use Rattle.reader.specs.Quick.{ListLine, NumberLine, Leads}
@@ -17,15 +17,14 @@ use Rattle.reader.proofs.quick_text.quick_action.Goals as goal
 
 -- what is known before the outcomes
 
-before-outcomes : (m : ℕ) (s a b r₀ r₁ r₂ : List ℕ) → m < 64 → length r₁ ≡ record_size → ListLine s key_need Pairs r₀ (at_precondition m) r₁ a
+before-outcomes : (m : ℕ) (s a b r₀ r₁ r₂ : List ℕ) → ListLine s key_need Pairs r₀ (at_precondition m) r₁ a
     → NumberLine a key_outcomes 1 8 r₁ (at_action m) r₂ b
-    → (get_or r₂ 0 0 ≡ get_or r₀ 0 0) × (get_or r₂ 1 0 ≡ get_or r₀ 1 0) × ((1 ≤ get_or r₂ (at_action m) 0) × (get_or r₂ (at_action m) 0 ≤ 8)) × Leads (Need m) r₀ s (Eff m 0) r₂ b
-before-outcomes m s a b r₀ r₁ r₂ few whole p q =
+    → (get_or r₂ 1 0 ≡ get_or r₀ 1 0) × ((1 ≤ get_or r₂ (at_action m) 0) × (get_or r₂ (at_action m) 0 ≤ 8)) × Leads (Need m) r₀ s (Eff m 0) r₂ b
+before-outcomes m s a b r₀ r₁ r₂ p q =
     let kept = list_kept s key_need Pairs r₀ (at_precondition m) r₁ a p in
     let more = number_kept a key_outcomes 1 8 r₁ (at_action m) r₂ b q in (
-      more 0 (λ e. omega arith) ∙ kept 0 (omega arith),
       more 1 (λ e. omega arith) ∙ kept 1 (omega arith),
-      number_range a key_outcomes 1 8 r₁ (at_action m) r₂ b q (omega arith),
+      number_range a key_outcomes 1 8 r₁ (at_action m) r₂ b q,
       outcomes_on (Need m) r₀ s a b r₁ r₂ m (need_on (Need m) r₀ s s a r₀ r₁ m (leads_here (Need m) r₀ s) p) q,
     )
 
@@ -33,10 +32,9 @@ pub quick_outcomes-requires : goal.quick_outcomes-requires
 unfolding bytes
 quick_outcomes-requires c =
     let a = c.args in
-    let r = c.quick_number_line.new.rec in
-    let e = before-outcomes a.m a.s.now c.in_ok-a.a.now c.in_ok-b.b.now a.rec.now c.quick_pair_line.new.rec r c.requires.2 c.quick_pair_line.array_long
+    let e = before-outcomes a.m a.s.now c.in_ok-a.a.now c.in_ok-b.b.now a.rec.now c.quick_pair_line.new.rec c.quick_number_line.new.rec
     (rw c.at_precondition.ensures at c.in_ok-a.ensures) (rw (c.field_of.ensures, c.at_action.ensures) at c.in_ok-b.ensures) in
-    (c.requires.0 ∙ sym e.0, c.requires.1, c.requires.2, ap (λ (k : ℕ). get_or r k 0) c.at_action-2.ensures, rw c.at_action-2.ensures e.2.0, rw c.at_action-2.ensures e.2.1)
+    (c.requires, e.1.0, e.1.1)
 
 pub returns : goal.returns
 unfolding bytes
@@ -44,7 +42,7 @@ returns c =
     let a = c.args in
     let r = c.quick_number_line.new.rec in
     let b = c.in_ok-b.b.now in
-    let e = before-outcomes a.m a.s.now c.in_ok-a.a.now b a.rec.now c.quick_pair_line.new.rec r c.requires.2 c.quick_pair_line.array_long
+    let e = before-outcomes a.m a.s.now c.in_ok-a.a.now b a.rec.now c.quick_pair_line.new.rec r
     (rw c.at_precondition.ensures at c.in_ok-a.ensures) (rw (c.field_of.ensures, c.at_action.ensures) at c.in_ok-b.ensures) in
     IfSome_then c.quick_outcomes.result c.quick_outcomes.ensures
-    (λ x h. (h.0, h.1 ∙ e.1, leads_on (Need a.m) (Eff a.m 0) (action_from c.quick_outcomes.new.rec (a.m + 1)) a.rec.now r c.quick_outcomes.new.rec a.s.now b x.now e.3 h.2))
+    (λ x h. (h.0 ∙ e.0, leads_on (Need a.m) (Eff a.m 0) (action_from c.quick_outcomes.new.rec (a.m + 1)) a.rec.now r c.quick_outcomes.new.rec a.s.now b x.now e.2 h.1))

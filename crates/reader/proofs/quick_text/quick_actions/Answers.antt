@@ -15,9 +15,8 @@ loop-m-preserved c =
     let l = c.loop-m in
     let r = c.quick_action.new.rec in
     let q = c.in_ok-rest.ensures in
-    let z = q.1 ∙ l.invariant.1 in (
-      q.0,
+    let z = q.0 ∙ l.invariant.0 in (
       z,
-      leads_on (action_from a.rec.now 0) (Need l.m) (cond (ltb (l.m + 1) a.count) (Need (l.m + 1)) Goal) a.rec.now l.rec r a.s.now l.rest.now c.in_ok-rest.rest.now
-          (rw (lt-ltb l.m a.count c.loop-m-test.true) at l.invariant.2) (rw z at q.2),
+      leads_on (action_from a.rec.now 0) (Need l.m) (cond (ltb (l.m + 1) c.cell-count.result) (Need (l.m + 1)) Goal) a.rec.now l.rec r a.s.now l.rest.now c.in_ok-rest.rest.now
+          (rw (lt-ltb l.m c.cell-count.result c.loop-m-test.true) at l.invariant.1) (rw z at q.1),
     )

@@ -9,5 +9,5 @@ use Rattle.reader.specs.declared.order.Due.TheVariants.{Need, Goal}
 use Rattle.reader.proofs.quick_text.quick_actions.Given as goal
 
 abbrev pub invariant-loop-m : goal.invariant-loop-m
-invariant-loop-m l = (get_or l.rec 0 0 ≡ l.n) × (get_or l.rec 1 0 ≡ l.count)
+invariant-loop-m l = (get_or l.rec 1 0 ≡ l.count)
     × Leads (action_from l.initial.rec 0) l.initial.rec l.s (cond (ltb l.m l.count) (Need l.m) Goal) l.rec l.rest

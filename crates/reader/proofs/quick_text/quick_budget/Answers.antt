@@ -15,4 +15,4 @@ returns-in-None c = λ e. absurd (false≢true e)
 pub returns-else-n-gt1000000 : goal.returns-else-n-gt1000000
 unfolding take_budget
 returns-else-n-gt1000000 c = λ e. ap (take_budget c.args.rec.now Budget) (sym c.number.ensures ∙ c.in-Some.is)
-    ∙ simp (le-leb _ _ c.if-n-gt1000000.false) (ap (go_on Budget) (sym c.put_budget.ensures))
+    ∙ simp (le-leb _ _ c.if-n-gt1000000.false) (ap (go_on Budget) (sym c.store_budget.ensures))

@@ -11,5 +11,5 @@ returns c =
     let r₁ = c.quick_front.new.rec in
     let r₂ = c.quick_states.new.rec in
     let b = c.in_ok-b.b.now in
-    let f = leads_on Vars Goal Patterns r₀ r₁ r₂ s c.in_ok-a.a.now b c.in_ok-a.ensures.1 c.in_ok-b.ensures.1 in
+    let f = leads_on Vars Goal Patterns r₀ r₁ r₂ s c.in_ok-a.a.now b c.in_ok-a.ensures c.in_ok-b.ensures in
     IfSome_then c.quick_tail.result c.quick_tail.ensures (λ x h. leads_on Vars Patterns Budget r₀ r₂ c.quick_tail.new.rec s b x.now f h)

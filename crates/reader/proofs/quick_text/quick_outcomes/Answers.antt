@@ -20,6 +20,6 @@ loop-k-preserved c =
     let e = c.in_ok-rest.rest.now in
     let q = rw c.at_outcome.ensures at c.in_ok-rest.ensures in
     let kept = list_kept l.rest.now key_eff Pairs l.rec (at_outcome a.m l.k) r e q in
-    let z = kept (at_action a.m) (omega arith) ∙ l.invariant.2 in
-    let w = eff_on (Eff a.m 0) a.rec.now a.s.now l.rest.now e l.rec r a.m l.k (rw (lt-ltb l.k a.count c.loop-k-test.true) at l.invariant.3) q in
-    (kept 0 (omega arith) ∙ l.invariant.0, kept 1 (omega arith) ∙ l.invariant.1, z, rw z at w)
+    let z = kept (at_action a.m) (omega arith) ∙ l.invariant.1 in
+    let w = eff_on (Eff a.m 0) a.rec.now a.s.now l.rest.now e l.rec r a.m l.k (rw (lt-ltb l.k c.cell-count.result c.loop-k-test.true) at l.invariant.2) q in
+    (kept 1 (omega arith) ∙ l.invariant.0, z, rw z at w)

@@ -11,5 +11,5 @@ use Rattle.reader.specs.declared.order.Due.TheVariants.{Eff}
 use Rattle.reader.proofs.quick_text.quick_outcomes.Given as goal
 
 abbrev pub invariant-loop-k : goal.invariant-loop-k
-invariant-loop-k l = (get_or l.rec 0 0 ≡ l.n) × (get_or l.rec 1 0 ≡ get_or l.initial.rec 1 0) × (get_or l.rec (at_action l.m) 0 ≡ l.count)
+invariant-loop-k l = (get_or l.rec 1 0 ≡ get_or l.initial.rec 1 0) × (get_or l.rec (at_action l.m) 0 ≡ l.count)
     × Leads (Eff l.m 0) l.initial.rec l.s (cond (ltb l.k l.count) (Eff l.m l.k) (action_from l.rec (l.m + 1))) l.rec l.rest

@@ -19,6 +19,6 @@ loop-p-preserved c =
     let e = c.in_ok-rest.rest.now in
     let q = rw c.at_pattern.ensures at c.in_ok-rest.ensures in
     let kept = list_kept l.rest.now key_pattern Members l.rec (at_pattern l.p) r e q in
-    let z = kept 2 (omega arith) ∙ l.invariant.1 in
-    let w = pattern_on (pattern_from a.rec.now 0) a.rec.now a.s.now l.rest.now e l.rec r l.p (rw (lt-ltb l.p a.count c.loop-p-test.true) at l.invariant.2) q in
-    (kept 0 (omega arith) ∙ l.invariant.0, z, rw z at w)
+    let z = kept 2 (omega arith) ∙ l.invariant.0 in
+    let w = pattern_on (pattern_from a.rec.now 0) a.rec.now a.s.now l.rest.now e l.rec r l.p (rw (lt-ltb l.p c.cell-count.result c.loop-p-test.true) at l.invariant.1) q in
+    (z, rw z at w)

@@ -9,5 +9,5 @@ use Rattle.reader.specs.declared.order.Due.TheVariants.{Pattern, Limit}
 use Rattle.reader.proofs.quick_text.quick_patterns.Given as goal
 
 abbrev pub invariant-loop-p : goal.invariant-loop-p
-invariant-loop-p l = (get_or l.rec 0 0 ≡ l.n) × (get_or l.rec 2 0 ≡ l.count)
+invariant-loop-p l = (get_or l.rec 2 0 ≡ l.count)
     × Leads (pattern_from l.initial.rec 0) l.initial.rec l.s (cond (ltb l.p l.count) (Pattern l.p) Limit) l.rec l.rest

@@ -19,4 +19,4 @@ loop-i-preserved c =
     let e = c.in_ok-rest.rest.now in
     let q = rw c.field_of.ensures at c.in_ok-rest.ensures in
     let z = number_kept l.rest.now key_size 2 16 l.rec (8 + l.i) r e q 0 (λ e. omega arith) ∙ l.invariant.0 in
-    (z, rw z at (size_on (Size 0) a.rec.now a.s.now l.rest.now e l.rec r l.i (rw (lt-ltb l.i a.n c.loop-i-test.true) at l.invariant.1) q))
+    (z, rw z at (size_on (Size 0) a.rec.now a.s.now l.rest.now e l.rec r l.i (rw (lt-ltb l.i c.variables-n.result c.loop-i-test.true) at l.invariant.1) q))

@@ -11,7 +11,7 @@ use Rattle.task_record.specs.declared.refusal.Refusal.{Refusal}
 use Rattle.reader.specs.Text.{lines_of}
 use Rattle.reader.specs.declared.order.Due.TheVariants.{Vars}
 use Rattle.reader.proofs.Answers.{answers_read, answers_refused}
-use Rattle.reader.proofs.Stores.{sets_front, fill_whole}
+use Rattle.reader.proofs.Stores.{sets_front}
 use Rattle.reader.proofs.text.read_slowly.Goals.{After-read_lines}
 use Rattle.reader.proofs.text.read_slowly.Goals as goal
 
@@ -20,9 +20,6 @@ use Rattle.reader.proofs.text.read_slowly.Goals as goal
 whole-text : (c : After-read_lines) → read_whole c.args.text.now ≡ whole_of c.read_lines.result c.read_lines.new.rec
 unfolding read_whole
 whole-text c = ap (λ (r : List ℕ). read_from 1 Vars r (lines_of c.args.text.now)) (sym c.clear_record.ensures) ∙ c.read_lines.ensures
-
-pub clear_record-requires : goal.clear_record-requires
-clear_record-requires c = c.fill.ensures ∙ fill_whole c.args.local.now (search rules)
 
 pub returns-in_err-read_lines : goal.returns-in_err-read_lines
 returns-in_err-read_lines c = let a = c.args in

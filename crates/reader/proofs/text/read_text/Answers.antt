@@ -17,7 +17,6 @@ use Rattle.reader.specs.Answers.{read_numbers, whole_numbers, text_by_lines}
 use Rattle.std.proofs.Common.{Result, Err}
 use mathlib.Core.Bool.{Bool, true, false, cond}
 use Rattle.task_record.specs.Layout.{record_size}
-use Rattle.reader.specs.Stores.{all_unnamed}
 use Rattle.reader.specs.Text.{lines_of}
 use Rattle.reader.specs.declared.order.Due.TheVariants.{Vars}
 use Rattle.reader.proofs.Answers.{answers_read}
@@ -29,7 +28,7 @@ use Rattle.reader.proofs.text.read_text.Goals as goal
 
 good-text : (c : Then-is_good) → read_whole c.args.text.now ≡ complete c.is_good.new.rec
 unfolding read_whole
-good-text c = ap (λ (r : List ℕ). read_from 1 Vars r (lines_of c.args.text.now)) (sym c.clear_record.ensures) ∙ c.is_good.ensures c.if-is_good.true
+good-text c = ap (λ (r : List ℕ). read_from 1 Vars r (lines_of c.args.text.now)) (sym c.clear.ensures) ∙ c.is_good.ensures c.if-is_good.true
 
 whole-told : (x : Whole) → read_numbers (answer_of x) ≡ whole_numbers x
 unfolding read_numbers whole_numbers
@@ -50,14 +49,10 @@ pub returns-then-record-lt-RECORD_SIZE : goal.returns-then-record-lt-RECORD_SIZE
 unfolding read_answer read_leaves
 returns-then-record-lt-RECORD_SIZE c = let both = told c.args.text.now c.args.record.now _ (simp (lt-ltb _ _ c.if-record-lt-RECORD_SIZE.true), simp (lt-ltb _ _ c.if-record-lt-RECORD_SIZE.true)) in record { value = both.0; numbers = both.1 }
 
-pub clear_record-requires : goal.clear_record-requires
-unfolding all_unnamed
-clear_record-requires c = refl
-
 pub returns-then-is_good : goal.returns-then-is_good
 returns-then-is_good c = let a = c.args in
-    let l = c.is_good.new.rec in
-    let d = answers_read a.text.now a.record.now c.if-record-lt-RECORD_SIZE.false l (good-text (goal.at.returns-then-is_good c).Then-is_good) in
+    let l = c.draft.inside.cells in
+    let d = answers_read a.text.now a.record.now c.if-record-lt-RECORD_SIZE.false l (good-text (goal.at.returns-then-is_good c).Then-is_good ∙ ap complete (sym c.draft.view_is)) in
     let both = told a.text.now a.record.now _ (d.0, c.put_cells.ensures ∙ sets_front a.record.now l record_size (search rules) c.if-record-lt-RECORD_SIZE.false ∙ d.1) in record { value = both.0; numbers = both.1 }
 
 pub returns : goal.returns
