@@ -5,6 +5,7 @@ ghost use Rattle.patterns.specs.Space.{all_sizes, judge_tables, table_check};
 ghost use Rattle.patterns.specs.Answers.{table_numbers, tables_by_lines};
 
 use crate::places::state_count;
+use std::array;
 use task_record::cells::{pattern_cells, pattern_count, size_of, variable_count};
 use task_record::layout::AT_SIZES;
 use task_record::refusal::Refusal;
@@ -14,14 +15,12 @@ use task_record::sound::SoundRecord;
 pub fn sizes_of(rec: &[u8]) -> [u8; 16]
     ensures { result ≡ all_sizes rec.now }
 {
-    let mut sizes = [0u8; 16];
-    for (v, size) in sizes.iter_mut().enumerate() {
-        *size = size_of(rec, v as u8);
-    }
-    sizes
+    array::from_fn(|v| size_of(rec, v as u8))
 }
 
 // The pattern's cells and the sizes are read once; the sum stops at the first pattern that is too large.
+// Stays: a `for` over numbers, since the number of a pattern is both what finds its row and what the refusal tells; and `as`, since a length has no
+// `From` into a word.
 pub(crate) fn judge_room(record: &SoundRecord, sizes: &[u8], lent: usize) -> Result<u64, Refusal>
     requires { sizes.now ≡ (task_of record.now).sizes }
     ensures { result ≡ judge_tables (task_of record.now).sizes (patterns_of record.now) lent }

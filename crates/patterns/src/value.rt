@@ -17,6 +17,7 @@ use task_record::refusal::Refusal;
 use task_record::sound::SoundRecord;
 
 // Sizes and state have a cell for each variable of the task. The tables follow each other, so each begins where the one before ends.
+// Stays: a `for` over numbers, since a pattern's row is asked for by its number.
 fn sum_entries(record: &SoundRecord, sizes: &[u8], state: &[u8], tables: &[u16]) -> Option<u64>
     requires { (sizes.now ≡ (task_of record.now).sizes) × (State (task_of record.now) state.now) × (Small (task_of record.now) (patterns_of record.now)) × (entries_needed (task_of record.now).sizes (patterns_of record.now) ≤ length tables.now) }
     ensures { result ≡ value_of (value (task_of record.now).sizes (patterns_of record.now) tables.now state.now) }

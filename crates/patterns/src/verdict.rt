@@ -1,4 +1,5 @@
 // The additivity verdict: whether each action affects at most one pattern.
+// Stays: `for` over numbers, since actions, outcomes and patterns are asked for by their numbers, which a conflict tells.
 ghost use Rattle.std.specs.Prelude.{◌≡◌, ℕ, ◌+◌, ◌*◌, ◌≤◌, ◌<◌, true, cond, eqb, length, get_or};
 ghost use Rattle.planning.specs.Pattern.{affects, affects_pattern, additive, verdict};
 ghost use Rattle.task_record.specs.Layout.{at_pattern, at_outcome};
@@ -33,6 +34,7 @@ fn named(cell: u8, set: u8) -> u8
 
 // What the outcomes of an action have in common at the cells of a variable, the first at offset `at`: less than 255 where one of them names it.
 // All eight rows are read, since those that are not used name nothing.
+// Stays: a `for` over numbers, since the cells stand 16 apart: `rec[at..].iter().step_by(16).take(8)` says no more than the offset does.
 fn common_cell(rec: &[u8], at: usize) -> u8
     requires { (at + 112 < length rec.now) × (at ≤ 65536) }
     ensures low { (k : ℕ) → k < 8 → result ≤ get_or rec.now (at + 16 * k) 0 }

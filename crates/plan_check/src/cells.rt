@@ -4,16 +4,14 @@ ghost use Rattle.std.specs.Prelude.{◌≡◌, ◌+◌, ◌≤◌, eqb, length};
 ghost use Rattle.planning.specs.Task.{meets_cell, meets, apply_cell, apply};
 ghost use Rattle.task_record.specs.TaskOf.{cells_at};
 
-// Stays: a loop and no `copy_from_slice`, with which the check of a plan takes 76.6 instructions a byte in place of 40.1.
+use std::array;
+
+// Cell by cell and not by `copy_from_slice`, with which the check of a plan takes 76.6 instructions a byte in place of 40.1.
 pub(crate) fn cells_at(rec: &[u8], at: usize) -> [u8; 16]
     requires { at + 16 ≤ length rec.now }
     ensures { result ≡ cells_at rec.now at }
 {
-    let mut r = [0u8; 16];
-    for (i, x) in r.iter_mut().enumerate() {
-        *x = rec[at + i];
-    }
-    r
+    array::from_fn(move |i| rec[at + i])
 }
 
 // 0, or 1 where the state misses what the cell names: a byte, since faults are gathered in bytes.

@@ -20,6 +20,7 @@ pub struct Passed {
 }
 
 // The plan of the start ends at offset `end`.
+// Stays: `as`, since an offset has no `From` into a word, and `try_from` would have a case that never comes.
 #[tactic(auto, unfolding(crate::specs::Check::end_of, crate::specs::Check::answer_of, crate::specs::Check::refusal_of))]
 fn ended(plan: &[u8], end: usize, cost: u32) -> Result<Passed, Refusal>
     ensures { result ≡ answer_of (end_of plan.now end cost) }

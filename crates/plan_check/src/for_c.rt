@@ -23,7 +23,7 @@ pub extern "C" fn planner_check_plan(rec: &[u8], state: &[u8], plan: &[u8]) -> P
         Err(refusal) => {
             let (number, second) = refusal.numbers();
             PlannerAnswer {
-                number: number,
+                number,
                 kind: 0,
                 first: second,
                 second: 0,

@@ -27,7 +27,7 @@ impl Frame {
     {
         let action = AT_ACTIONS + ACTION_SIZE * usize::from(m);
         Frame {
-            state: state,
+            state,
             next: action + IN_OUTCOMES,
             depth: depth + 1,
             left: u32::from(task.rec[action]),

@@ -74,6 +74,7 @@ impl<'a> Task<'a> {
     }
 
     // The byte at offset `at`.
+    // Stays: `as`, since an offset has no `From` into a word.
     pub(crate) fn judge_byte(
         &self,
         at: usize,

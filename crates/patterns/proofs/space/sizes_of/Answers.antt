@@ -1,14 +1,9 @@
--- `sizes_of`: the sizes passed are right. Assumes nothing.
-use Rattle.std.proofs.Common.{arith, length-set}
-use Rattle.task_record.specs.Numbers.{size_of}
-use Rattle.task_record.proofs.Sixteens.{filled_next}
+-- `sizes_of`: each cell is what the record says of its number. Assumes nothing.
+use Rattle.std.proofs.Common.{rules}
 use Rattle.patterns.proofs.Sizes.{sixteen_are_sizes}
 use Rattle.patterns.proofs.space.sizes_of.Goals as goal
 
-pub loop-v-preserved : goal.loop-v-preserved
-loop-v-preserved c = let l = c.loop-v in let r = c.args.rec.now in
-    (simp length-set l.invariant.0, filled_next (size_of r) l.size-items l.v c.size_of.result (omega arith) c.size_of.ensures l.invariant.1)
-
 pub returns : goal.returns
-returns c = let l = c.loop-v in let r = c.args.rec.now in
-    sixteen_are_sizes r l.size-items (record { whole = l.invariant.0; cell = λ k h. l.invariant.1 k (omega arith) })
+returns c =
+    let made = c.from_fn.ensures.items in
+    sixteen_are_sizes _ _ (record { whole = made.long; cell = λ k h. let ran = (made.at k 0 h).2 in search rules })
