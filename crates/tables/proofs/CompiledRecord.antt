@@ -1,5 +1,5 @@
 -- The words of a sound record's task, action after action, then 0 and the goal: the compiled task. Assumes nothing.
-use Rattle.std.proofs.Common.{◌≡◌, ℕ, ◌+◌, ◌*◌, ◌<◌, ◌≤◌, List, length, get_or, take, set, sym, refl, ap, ◌∙◌, inl, inr, ⊎_elim, arith, length-set, length-take, get_or-set_other, get_or-set_same}
+use Rattle.std.proofs.Common.{◌≡◌, ℕ, ◌+◌, ◌*◌, ◌<◌, ◌≤◌, List, length, get_or, take, set, sym, refl, ap, ◌∙◌, inl, inr, arith, length-set, length-take, get_or-set_other, get_or-set_same}
 use native.Mathlib.Decide.{dec_lt}
 use Rattle.task_record.specs.Layout.{at_goal}
 use Rattle.task_record.specs.Numbers.{action_count}
@@ -7,7 +7,7 @@ use Rattle.task_record.specs.Record.{Sound}
 use Rattle.task_record.specs.TaskOf.{cells_at, action_of, task_of}
 use Rattle.task_record.proofs.SoundTask.{actions_right}
 use Rattle.tables.specs.Packed.{pack_by, naming, setting, action_words, compiled}
-use Rattle.tables.specs.Compiling.{ActionCompiled, ActionsCompiled, Cleared}
+use Rattle.tables.specs.Compiling.{ActionCompiled, ActionsCompiled}
 use Rattle.tables.proofs.Compiled.{words_are_compiled}
 use Rattle.patterns.proofs.Reading.{actions_length, action_at_lem}
 
@@ -24,20 +24,6 @@ next_action r old now new m h a = record { long = a.long ∙ h.long; words = λ 
     word : (j i : ℕ) → Dec (j < m) → j < m + 1 → i < 20 → get_or new (20 * j + i) 0 ≡ get_or (action_words (action_of r j)) i 0
     word j i (yes b) l k = a.others (20 * j + i) (inl (omega arith)) ∙ h.words j i b k
     word j i (no b) l k = let e : j ≡ m = omega arith in rw e (a.words i k)
-
-pub none_cleared : (old : List ℕ) (from : ℕ) → Cleared old old from from
-none_cleared old from = record { long = refl; zeros = λ i k l. absurd (omega arith); others = λ i l. refl }
-
-pub next_cleared : (old now new : List ℕ) (from i : ℕ) → from ≤ i → i < length old → new ≡ set now i 0 → Cleared old now from i → Cleared old new from (i + 1)
-next_cleared old now new from i f l e h = rw e (record {
-  long = length-set now i 0 ∙ h.long;
-  zeros = λ j k u. zero_at j k (dec_lt j i) u;
-  others = λ j u. get_or-set_other now i j 0 0 (λ z. ⊎_elim (λ q. omega arith) (λ q. omega arith) u) ∙ h.others j (⊎_elim (λ q. inl q) (λ q. inr (omega arith)) u);
-})
-  where
-    zero_at : (j : ℕ) → from ≤ j → Dec (j < i) → j < i + 1 → get_or (set now i 0) j 0 ≡ 0
-    zero_at j k (yes b) u = get_or-set_other now i j 0 0 (λ z. omega arith) ∙ h.zeros j k b
-    zero_at j k (no b) u = let z : j ≡ i = omega arith in rw z (get_or-set_same now i 0 0 (omega (arith, h.long)))
 
 module _ (r : List ℕ) (sound : Sound r) (old actions new : List ℕ) (whole : length old ≡ 1282)
     (z : (i : ℕ) → 20 * action_count r ≤ i → i < 1280 → get_or old i 0 ≡ 0) (a : ActionsCompiled r old actions (action_count r))

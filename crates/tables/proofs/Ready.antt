@@ -1,6 +1,6 @@
 -- What a build of a pattern's table rests on holds of a sound record, for each of its patterns, and what it builds is the definition's table.
 -- Assumes nothing.
-use Rattle.std.proofs.Common.{◌≡◌, ℕ, not, List, ap₂, ap, ◌∙◌}
+use Rattle.std.proofs.Common.{◌≡◌, ℕ, not, List, ap}
 use Rattle.planning.specs.Table.{state_count}
 use Rattle.task_record.specs.Layout.{at_pattern}
 use Rattle.task_record.specs.Numbers.{variable_count, action_count}

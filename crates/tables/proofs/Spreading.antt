@@ -11,7 +11,7 @@ use Rattle.planning.proofs.Spread.{place_inside, counts_few, raised_at, spread_o
 use Rattle.task_record.specs.Numbers.{pattern_count}
 use Rattle.task_record.specs.TaskOf.{task_of, patterns_of}
 use Rattle.task_record.specs.Answers.{short_record, bad_cell}
-use Rattle.task_record.specs.Refusals.{answer_numbers, after, where_ok}
+use Rattle.task_record.specs.Refusals.{answer_numbers, after}
 use Rattle.task_record.specs.declared.refusal.Refusal.{Refusal}
 use Rattle.task_record.specs.declared.refusal.Refusal.TheVariants.{ShortRow}
 use Rattle.task_record.proofs.ByLines.{line-told, after_record_lem, after_after, told_alone}
@@ -24,7 +24,7 @@ use Rattle.patterns.proofs.ByLines.{after_tables_lem}
 use Rattle.patterns.proofs.Reading.{patterns_length}
 use Rattle.tables.specs.Answers.{spread_numbers, short_row, spread_by_lines}
 use Rattle.tables.specs.RecordTables.{Fits, built_over}
-use Rattle.tables.specs.Spread.{costs_named, states_named, table_spread, tables_spread, row_spread}
+use Rattle.tables.specs.Spread.{costs_named, states_named, table_spread}
 use Rattle.tables.proofs.TableChain.{entries-length}
 use Rattle.tables.proofs.BuiltTables.{built_over-length, chained_table}
 

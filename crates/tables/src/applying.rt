@@ -32,8 +32,8 @@ pub(crate) fn enter(slots: &mut [u64], need: u64, value: u64, bit: u64, digits: 
 }
 
 // Enters every action.
-fn enter_all(task: &[u64; 1282], mask: u64, actions: usize, digits: usize, slots: &mut [u64])
-    requires { (length slots.old ≡ 272) × (actions ≤ 64) × (digits ≤ 16) × ((i : ℕ) → slice_index slots.old i ≡ 0) }
+fn enter_all(task: &[u64; 1282], mask: u64, actions: usize, digits: usize, slots: &mut [u64; 272])
+    requires { (actions ≤ 64) × (digits ≤ 16) × ((i : ℕ) → slice_index slots.old i ≡ 0) }
     ensures { SlotsOf (action_need task.now mask) actions digits slots.new }
 {
     let mut bit = 1u64;
@@ -46,8 +46,8 @@ fn enter_all(task: &[u64; 1282], mask: u64, actions: usize, digits: usize, slots
 }
 
 // The sixteen sets of row q: the upper digit of their byte is the same.
-fn fill_row(slots: &[u64; 272], sets: &mut [u64], q: usize)
-    requires { (length sets.old ≡ 2048) × (q < 128) }
+fn fill_row(slots: &[u64; 272], sets: &mut [u64; 2048], q: usize)
+    requires { q < 128 }
     ensures { RowFilled slots.now sets.old sets.new q }
 {
     let at = 34 * (q / 16);
@@ -70,8 +70,8 @@ fn spread_of(bytes: usize) -> usize
     8
 }
 
-fn fill_rows(slots: &[u64; 272], sets: &mut [u64], bytes: usize)
-    requires { (length sets.old ≡ 2048) × (bytes ≤ 8) }
+fn fill_rows(slots: &[u64; 272], sets: &mut [u64; 2048], bytes: usize)
+    requires { bytes ≤ 8 }
     ensures { RowsFilled slots.now sets.old sets.new bytes }
 {
     for q in 0..16 * bytes {

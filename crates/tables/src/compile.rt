@@ -1,6 +1,6 @@
 // The words of an action in a compiled task, from its cells in the record.
 ghost use Rattle.std.specs.Prelude.{◌≡◌, ◌+◌, ◌<◌, ◌≤◌, length, slice_set};
-ghost use Rattle.task_record.specs.Numbers.{outcome_count};
+ghost use Rattle.task_record.specs.Numbers.{action_count};
 ghost use Rattle.task_record.specs.TaskOf.{action_of};
 ghost use Rattle.tables.specs.Packed.{pack_by, naming, leaving, setting};
 ghost use Rattle.tables.specs.Compiling.{outcome_word, ActionCompiled};
@@ -8,12 +8,13 @@ ghost use Rattle.tables.specs.Compiling.{outcome_word, ActionCompiled};
 use crate::packed::{DigitRule, pack};
 use crate::words::{Words, words_of};
 use task_record::cells::{outcome_cells, outcome_count, precondition_cells};
+use task_record::sound::SoundRecord;
 
 // Every action weighs 1.
 const WEIGHT: u64 = 1;
 
-pub(crate) fn put(task: &mut [u64], at: usize, x: u64)
-    requires { at < length task.old }
+pub(crate) fn put(task: &mut [u64; 1282], at: usize, x: u64)
+    requires { at < 1282 }
     ensures { task.new ≡ slice_set task.old at x }
 {
     task[at] = x;
@@ -29,8 +30,8 @@ fn outcome_words(rec: &[u8], m: u8, k: u8) -> Words
     Words { keep: 0, value: 0 }
 }
 
-fn put_outcome(rec: &[u8], m: u8, k: u8, task: &mut [u64], at: usize)
-    requires { (at + 1 < length task.old) × (at < 2000) }
+fn put_outcome(rec: &[u8], m: u8, k: u8, task: &mut [u64; 1282], at: usize)
+    requires { at + 1 < 1282 }
     ensures { task.new ≡ slice_set (slice_set task.old at (outcome_word leaving rec.now m k)) (at + 1) (outcome_word setting rec.now m k) }
 {
     let words = outcome_words(rec, m, k);
@@ -50,8 +51,8 @@ pub(crate) fn named_digits(pre: &[u8], keep: u64) -> u64
 }
 
 // The four words before the outcomes.
-fn put_head(pre: &[u8], count: u64, task: &mut [u64], at: usize)
-    requires { (length pre.now ≤ 16) × (at + 3 < length task.old) × (at < 2000) }
+fn put_head(pre: &[u8], count: u64, task: &mut [u64; 1282], at: usize)
+    requires { (length pre.now ≤ 16) × (at + 3 < 1282) }
     ensures { task.new ≡ slice_set (slice_set (slice_set (slice_set task.old at (pack_by naming pre.now)) (at + 1) (pack_by setting pre.now)) (at + 2) count) (at + 3) 1 }
 {
     let words = words_of(pre);
@@ -63,18 +64,18 @@ fn put_head(pre: &[u8], count: u64, task: &mut [u64], at: usize)
 }
 
 // The words of action m, and no other.
-pub(crate) fn compile_action(rec: &[u8], m: u8, task: &mut [u64])
-    requires { (outcome_count rec.now m ≤ 8) × (m < 64) × (1280 ≤ length task.old) }
-    ensures { ActionCompiled task.old task.new m (action_of rec.now m) }
+pub(crate) fn compile_action(record: &SoundRecord, m: u8, task: &mut [u64; 1282])
+    requires { m < action_count record.now }
+    ensures { ActionCompiled task.old task.new m (action_of record.now m) }
 {
     let at = 20 * usize::from(m);
     put_head(
-        precondition_cells(rec, m),
-        u64::from(outcome_count(rec, m)),
+        precondition_cells(record.cells, m),
+        u64::from(outcome_count(record.cells, m)),
         task,
         at,
     );
     for k in 0..8u8 {
-        put_outcome(rec, m, k, task, at + 4 + 2 * usize::from(k));
+        put_outcome(record.cells, m, k, task, at + 4 + 2 * usize::from(k));
     }
 }

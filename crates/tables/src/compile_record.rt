@@ -1,5 +1,5 @@
 // The compiled task of a record.
-ghost use Rattle.std.specs.Prelude.{◌≡◌, ℕ, ◌*◌, ◌<◌, ◌≤◌, length, slice_index};
+ghost use Rattle.std.specs.Prelude.{◌≡◌, ℕ, ◌*◌, ◌<◌, ◌≤◌, slice_index};
 ghost use Rattle.task_record.specs.Numbers.{action_count};
 ghost use Rattle.task_record.specs.TaskOf.{task_of};
 ghost use Rattle.tables.specs.Packed.{compiled};
@@ -11,18 +11,17 @@ use task_record::cells::{action_count, goal_cells};
 use task_record::sound::SoundRecord;
 
 // The words of every action.
-fn compile_actions(record: &SoundRecord, task: &mut [u64])
-    requires { 1280 ≤ length task.old }
+fn compile_actions(record: &SoundRecord, task: &mut [u64; 1282])
     ensures { ActionsCompiled record.now task.old task.new (action_count record.now) }
 {
     for m in 0..action_count(record.cells) {
-        compile_action(record.cells, m, task);
+        compile_action(record, m, task);
     }
 }
 
 // 0 in the words of the actions that are not there.
-fn clear_from(task: &mut [u64], from: usize)
-    requires { (from ≤ 1280) × (1280 ≤ length task.old) }
+fn clear_from(task: &mut [u64; 1282], from: usize)
+    requires { from ≤ 1280 }
     ensures { Cleared task.old task.new from 1280 }
 {
     task[from..1280].fill(0);

@@ -64,11 +64,11 @@ pub(crate) fn permits(task: &[u64; 1282], mask: u64, m: usize, s: u64) -> bool
     s & (task[20 * m] & mask) == task[20 * m + 1] & mask
 }
 
-pub(crate) fn state_after(task: &[u64; 1282], mask: u64, m: usize, o: usize, s: u64) -> u64
-    requires { (m < 64) × (o < 8) }
-    ensures { result ≡ after task.now mask m o s }
+fn state_after(x: &Space<'_>, m: usize, o: usize, s: u64) -> u64
+    requires { (m < x.now.actions) × (o < 8) }
+    ensures { result ≡ after x.now.task.now x.now.mask m o s }
 {
-    ((s & task[20 * m + 4 + 2 * o]) | task[20 * m + 5 + 2 * o]) & mask
+    ((s & x.task[20 * m + 4 + 2 * o]) | x.task[20 * m + 5 + 2 * o]) & x.mask
 }
 
 // The entry of the state after outcome o. Its index is guessed, and the guess is right if the state's word stands there.
@@ -76,7 +76,7 @@ fn entry_after(x: &Space<'_>, entries: &[u16], m: usize, o: usize, s: u64, guess
     requires { (m < x.now.actions) × (o < 8) × (length entries.now ≡ x.now.count) }
     ensures { result ≡ outcome_entry x.now.task.now x.now.mask x.now.weights.now entries.now m s o }
 {
-    let z = state_after(x.task, x.mask, m, o, s);
+    let z = state_after(x, m, o, s);
     if guess < entries.len() {
         if x.states[guess] == z {
             return entries[guess];
@@ -239,6 +239,7 @@ pub(crate) fn settles(x: &Space<'_>, entries: &mut [u16], passes: usize) -> bool
 }
 
 // Passes until one changes nothing.
+// Stays: a pass is the loop's test, and how many there are is known only when one changes nothing.
 pub(crate) fn settle(x: &Space<'_>, entries: &mut [u16])
     requires { length entries.old ≡ x.now.count }
     ensures { Settled (space_of x.now) entries.old entries.new }

@@ -1,5 +1,5 @@
 -- `tables::build::build_within` meets its contract. Assumes nothing.
-use Rattle.std.proofs.Common.{◌≡◌, ◌≤◌, min, length, refl, ◌∙◌, arith, rules}
+use Rattle.std.proofs.Common.{◌≤◌, length, refl, ◌∙◌, arith, rules}
 use Rattle.tables.proofs.Building.{parts_build, parts_indexed}
 use Rattle.tables.proofs.build.build_within.Given as given
 use Rattle.tables.proofs.build.build_within.Goals as goal

@@ -1,7 +1,6 @@
 -- `tables::compile_record::compile_actions` meets its contract. Assumes nothing.
-use Rattle.std.proofs.Common.{◌≡◌, ◌<◌, arith}
+use Rattle.std.proofs.Common.{◌≡◌, arith}
 use Rattle.task_record.specs.Numbers.{action_count}
-use Rattle.task_record.proofs.SoundTask.{actions_right, outcomes_right}
 use Rattle.tables.proofs.CompiledRecord.{no_actions, next_action}
 use Rattle.tables.proofs.compile_record.compile_actions.Goals as goal
 
@@ -9,14 +8,11 @@ pub loop-m-init : goal.loop-m-init
 loop-m-init c = let h = no_actions c.args.record.now c.args.task.now in (omega arith, h.long, h)
 
 pub compile_action-requires : goal.compile_action-requires
-compile_action-requires c =
-    let r = c.record.inside.cells.now in let h = c.record.invariant in let m = c.loop-m.m in
-    let b : m < action_count r = rw c.action_count-m-end.ensures at c.loop-m-test.true in
-    ((outcomes_right r h m b).1, omega (arith, actions_right r h), omega (arith, c.requires, c.loop-m.invariant.1))
+compile_action-requires c = rw (c.action_count-m-end.ensures, c.record.view_is) at c.loop-m-test.true
 
 pub loop-m-preserved : goal.loop-m-preserved
 loop-m-preserved c = let a = c.args in let l = c.loop-m in
-    let g = next_action a.record.now a.task.now l.task _ l.m l.invariant.2 (rw c.record.view_is at c.compile_action.ensures) in
+    let g = next_action a.record.now a.task.now l.task _ l.m l.invariant.2 c.compile_action.ensures in
     (omega (arith, c.loop-m-test.true), g.long, g)
 
 pub returns : goal.returns

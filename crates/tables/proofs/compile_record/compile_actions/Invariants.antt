@@ -1,5 +1,5 @@
 -- `tables::compile_record::compile_actions` meets its contract. Assumes nothing.
-use Rattle.std.proofs.Common.{◌≡◌, ◌-◌, ◌≤◌, length}
+use Rattle.std.proofs.Common.{◌≡◌, ◌≤◌, length}
 use Rattle.tables.specs.Compiling.{ActionsCompiled}
 use Rattle.tables.proofs.compile_record.compile_actions.Given as goal
 

@@ -4,7 +4,7 @@ use Rattle.task_record.proofs.SoundTask.{actions_right}
 use Rattle.tables.proofs.compile_record.compile_record.Goals as goal
 
 pub clear_from-requires : goal.clear_from-requires
-clear_from-requires c = (omega (arith, c.from.ensures, c.action_count.ensures, actions_right c.record.inside.cells.now c.record.invariant), omega arith)
+clear_from-requires c = omega (arith, c.from.ensures, c.action_count.ensures, actions_right c.record.inside.cells.now c.record.invariant)
 
 pub compile_cleared-requires : goal.compile_cleared-requires
 compile_cleared-requires c = rw (← c.record.view_is) (rw (c.from.ensures, c.action_count.ensures) at c.clear_from.ensures).zeros

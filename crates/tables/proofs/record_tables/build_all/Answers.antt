@@ -1,5 +1,5 @@
 -- `build_all`: the patterns passed have their tables, and the rest of the slice is as lent. Assumes nothing.
-use Rattle.std.proofs.Common.{◌≡◌, ◌+◌, ◌-◌, ◌<◌, ◌≤◌, [], length, get_or, arith}
+use Rattle.std.proofs.Common.{◌≡◌, ◌+◌, ◌<◌, ◌≤◌, [], length, get_or, arith}
 use Rattle.planning.specs.Table.{state_count, Small}
 use Rattle.planning.proofs.Finite.{all_at}
 use Rattle.task_record.specs.Numbers.{pattern_count}

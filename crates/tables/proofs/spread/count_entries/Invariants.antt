@@ -1,5 +1,5 @@
 -- `count_entries`: the row is the spread of the entries passed. Assumes nothing.
-use Rattle.std.proofs.Common.{◌≡◌, ◌-◌, ◌≤◌, map, length, take}
+use Rattle.std.proofs.Common.{◌≡◌, ◌≤◌, map, length, take}
 use Rattle.planning.specs.Table.{cost_of}
 use Rattle.planning.specs.Spread.{spread}
 use Rattle.tables.proofs.spread.count_entries.Given as goal
