@@ -68,14 +68,15 @@ pub(crate) fn compile_action(record: &SoundRecord, m: u8, task: &mut [u64; 1282]
     requires { m < action_count record.now }
     ensures { ActionCompiled task.old task.new m (action_of record.now m) }
 {
+    let rec = record.cells;
     let at = 20 * usize::from(m);
     put_head(
-        precondition_cells(record.cells, m),
-        u64::from(outcome_count(record.cells, m)),
+        precondition_cells(rec, m),
+        u64::from(outcome_count(rec, m)),
         task,
         at,
     );
     for k in 0..8u8 {
-        put_outcome(record.cells, m, k, task, at + 4 + 2 * usize::from(k));
+        put_outcome(rec, m, k, task, at + 4 + 2 * usize::from(k));
     }
 }
