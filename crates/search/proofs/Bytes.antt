@@ -1,46 +1,8 @@
--- Laws of the plan's buffer: filling it from a place on, and bytes that stand one after the other. Assumes nothing.
-use Rattle.std.proofs.Common.{◌≡◌, ℕ, zero, suc, ◌+◌, ◌-◌, ◌<◌, ◌≤◌, cond, ltb, List, [], ◌∷◌, ◌++◌, length, get_or, set, sym, refl, ap, ◌∙◌, add-zero, zero-add, arith, length-append, length-set, get_or-set_other, get_or-set_same, get_or-append-add, ext_get_or, le-ltb, lt-ltb}
-use native.Mathlib.Decide.{dec_lt, ℕ_discrete}
+-- Laws of the plan's buffer: bytes that stand one after the other. Assumes nothing.
+use Rattle.std.proofs.Common.{◌≡◌, ℕ, zero, suc, ◌+◌, ◌-◌, ◌<◌, ◌≤◌, List, [], ◌∷◌, ◌++◌, length, get_or, set, sym, refl, ap, ◌∙◌, add-zero, arith, length-append, length-set, get_or-set_other, get_or-set_same, get_or-append-add}
+use native.Mathlib.Decide.{dec_lt}
 use lib.ListN.{get_or-append}
-use Rattle.planning.specs.Finite.{tabulate}
-use Rattle.planning.proofs.Finite.{length-tabulate, get_or_tabulate}
-use Rattle.search.specs.Buffer.{Keeps, Holds, filled}
-
--- A list is a table of f if it is so at each place.
-pub tabled : (f : ℕ → ℕ) (l : List ℕ) (n : ℕ) → length l ≡ n → ((j : ℕ) → j < n → get_or l j 0 ≡ f j) → l ≡ tabulate f 0 n
-tabled f l n e h =
-    ext_get_or 0 l _ (e ∙ sym (length-tabulate f 0 n)) (λ j u. h j (omega arith) ∙ sym (get_or_tabulate f 0 n j 0 (omega arith) ∙ ap f (zero-add j)))
-
--- A buffer on the way: below `from` as it was, from there to i the byte x.
-pub record Filling (from x : ℕ) (old new : List ℕ) (i : ℕ) : Type 0 where
-  pub past : from ≤ i
-  pub same_length : length new ≡ length old
-  pub below : (j : ℕ) → j < from → get_or new j 0 ≡ get_or old j 0
-  pub above : (j : ℕ) → from ≤ j → j < i → j < length new → get_or new j 0 ≡ x
-
-pub filling_begins : (from x : ℕ) (a : List ℕ) → Filling from x a a from
-filling_begins from x a = record { past = omega arith; same_length = refl; below = λ j h. refl; above = λ j h l. absurd (omega arith) }
-
-module _ {from x : ℕ} {old new : List ℕ} {i : ℕ} (v : Filling from x old new i) where
-  stored : i < length new → (j : ℕ) → Dec (j ≡ i) → from ≤ j → j < i + 1 → j < length (set new i x) → get_or (set new i x) j 0 ≡ x
-  stored l j (yes e) p q u = rw e (get_or-set_same new i x 0 l)
-  stored l j (no n) p q u = get_or-set_other new i j x 0 n ∙ v.above j p (omega arith) (rw length-set at u)
-
-  pub filling_goes_on : i < length new → Filling from x old (set new i x) (i + 1)
-  filling_goes_on l = record {
-    past = omega (arith, v.past);
-    same_length = length-set new i x ∙ v.same_length;
-    below = λ j h. get_or-set_other new i j x 0 (λ e. omega (arith, v.past)) ∙ v.below j h;
-    above = λ j. stored l j (ℕ_discrete j i);
-  }
-
-  byte_at : (j : ℕ) → Dec (j < from) → length new ≤ i → j < length old → get_or new j 0 ≡ cond (ltb j from) (get_or old j 0) x
-  byte_at j (yes p) l u = rw (lt-ltb j from p) (v.below j p)
-  byte_at j (no p) l u = let q : from ≤ j = omega arith in rw (le-ltb j from q) (v.above j q (omega (arith, v.same_length)) (omega (arith, v.same_length)))
-
-  pub filling_ends : length new ≤ i → new ≡ filled from x old
-  unfolding filled
-  filling_ends l = tabled _ new (length old) v.same_length (λ j u. byte_at j (dec_lt j from) l u)
+use Rattle.search.specs.Buffer.{Keeps, Holds}
 
 pub keeps_itself : (at : ℕ) (old : List ℕ) → Keeps at old old
 unfolding Keeps

@@ -1,25 +1,24 @@
 -- Laws of rounds: one round more, how a round ends them, and the answer and the buffer for each end. Assumes nothing.
-use Rattle.std.proofs.Common.{◌≡◌, ℕ, zero, suc, ◌+◌, ◌-◌, ◌<◌, ◌≤◌, cond, ltb, List, Option, Some, None, Ok, Err, [], ◌++◌, length, get_or, take, replicate, sym, refl, ap, ◌∙◌, zero-add, add-one, arith, length-append, length-take, take_all, get_or-take, get_or-append-add, ext_get_or, le-ltb, lt-ltb, le-leb}
-use native.Mathlib.Decide.{dec_lt}
+use Rattle.std.proofs.Common.{◌≡◌, ℕ, zero, suc, ◌+◌, ◌-◌, ◌<◌, ◌≤◌, cond, ltb, List, Option, Some, None, Ok, Err, [], ◌++◌, length, take, drop, replicate, sym, refl, ap, ◌∙◌, zero-add, add-one, arith, get_or-take, ext_get_or, le-ltb, lt-ltb, le-leb}
 use borrow.Author.Tests.{lt-leb}
-use lib.ListN.{length-replicate, get_or-replicate, get_or-append}
-use Rattle.planning.specs.Finite.{choose, tabulate}
+use Rattle.std.proofs.Math.Seq.{take-append-add}
+use Rattle.std.proofs.lemmas.List.{append-nil, drop_all, length-drop, length-take-le, take-replicate}
+use borrow.Rule.Slice.PartMut.{put_mid}
+use Rattle.planning.specs.Finite.{choose}
 use Rattle.planning.specs.Extended.{ℕ∞, fin, inf}
 use Rattle.planning.specs.System.{System}
 use Rattle.planning.specs.Plan.{Plan, encode}
 use Rattle.planning.specs.Search.{succeeded, failed, stopped, examination, found, over, spent, none, end_round, rounds, search_from, search, plan_bytes, plan_buffer}
 use Rattle.planning.specs.Search as planning
-use Rattle.planning.proofs.Finite.{length-tabulate, get_or_tabulate}
 use Rattle.planning.proofs.Shift.{succeeded_anywhere}
 use Rattle.tables.specs.Packed.{packed_system}
 use Rattle.search.specs.declared.instance.Instance.{Instance}
 use Rattle.search.specs.declared.entry.SearchAnswer.TheVariants as outcome
-use Rattle.search.specs.Buffer.{Holds, filled}
+use Rattle.search.specs.Buffer.{Holds}
 use Rattle.patterns.specs.Value.{value_of}
 use Rattle.search.specs.Packed.{guided_examination, guided_value}
 use Rattle.search.specs.Examination.{plan_size, plan_head}
 use Rattle.search.specs.Answer.{guided_rounds, answer_of, buffer_of, Replied, FoundBy, Left}
-use Rattle.search.proofs.Bytes.{holds_nothing}
 use Rattle.search.proofs.Endings.{Success}
 
 -- The rounds from d on: none left, or the next one; and how the next one ends them.
@@ -97,56 +96,53 @@ module _ (Y : System ℕ) (h : ℕ → ℕ∞) (budget limit s : ℕ) where
   unfolding search
   search-rounds v e l = from_within (h s) v e l ∙ rounds_begin Y h budget limit s v l
 
--- A buffer filled after the bytes p that it holds, as the definition says it.
-module _ (p mid : List ℕ) (h : Holds p 0 mid) where
-  filled-byte : (j : ℕ) → Dec (j < length p) → j < length mid → cond (ltb j (length p)) (get_or mid j 0) 255 ≡ get_or (p ++ replicate (length mid) 255) j 0
+-- A buffer that holds the bytes p and is filled up after them, as the definition says it.
+module _ (p mid : List ℕ) (h : Holds p 0 mid) (l : length p ≤ length mid) where
+  held : take (length p) mid ≡ p
   unfolding Holds
-  filled-byte j (yes q) u = rw (lt-ltb j (length p) q) (rw zero-add at (h j q (omega (arith, zero-add j))) ∙ sym (get_or-append p _ 0 j q))
-  filled-byte j (no q) u =
-      let l : length p ≤ j = omega arith in
-      let e : j ≡ length p + (j - length p) = omega arith in
-      rw (le-ltb j (length p) l) (sym (ap (λ (n : ℕ). get_or (p ++ replicate (length mid) 255) n 0) e ∙ get_or-append-add p _ (j - length p) 0 ∙ get_or-replicate (length mid) (j - length p) 255 0 (omega arith)))
+  held = ext_get_or 0 _ _ (length-take-le _ _ l) (λ j u. let v : j < length p = omega (arith, u, length-take-le (length p) mid l) in get_or-take (length p) mid j 0 v ∙ rw zero-add at (h j v (omega arith)))
 
-  pub filled-after : filled (length p) 255 mid ≡ take (length mid) (p ++ replicate (length mid) 255)
-  unfolding filled
-  filled-after = ext_get_or 0 _ _
-      (length-tabulate _ 0 (length mid) ∙ sym (length-take (length mid) (p ++ replicate (length mid) 255) ∙ omega (arith, length-append p (replicate (length mid) 255), length-replicate {A = ℕ} (length mid) 255)))
-      (λ j u. at_each j (omega (arith, length-tabulate (λ i. cond (ltb i (length p)) (get_or mid i 0) 255) 0 (length mid))))
-    where
-      at_each : (j : ℕ) → j < length mid → get_or (tabulate (λ i. cond (ltb i (length p)) (get_or mid i 0) 255) 0 (length mid)) j 0 ≡ get_or (take (length mid) (p ++ replicate (length mid) 255)) j 0
-      at_each j u = get_or_tabulate _ 0 (length mid) j 0 u ∙ ap (λ (n : ℕ). cond (ltb n (length p)) (get_or mid n 0) 255) (zero-add j) ∙ filled-byte j (dec_lt j (length p)) u ∙ sym (get_or-take (length mid) _ j 0 u)
+  pub filled_up : take (length p) mid ++ replicate (length mid - length p) 255 ≡ take (length mid) (p ++ replicate (length mid) 255)
+  filled_up = let e : length mid ≡ length p + (length mid - length p) = omega arith in
+      ap (λ (q : List ℕ). q ++ replicate (length mid - length p) 255) held
+      ∙ sym (ap (λ (n : ℕ). take n (p ++ replicate (length mid) 255)) e ∙ take-append-add p _ (length mid - length p)
+      ∙ ap (λ (q : List ℕ). p ++ q) (take-replicate (length mid - length p) (length mid) 255 (omega arith)))
 
-pub filled_whole : (mid : List ℕ) → filled 0 255 mid ≡ replicate (length mid) 255
-filled_whole mid = filled-after [] mid (holds_nothing 0 mid) ∙ take_all (length mid) (replicate (length mid) 255) (omega (arith, length-replicate {A = ℕ} (length mid) 255))
+-- The same buffer as the fill of its rest leaves it.
+pub rest_filled : (k n : ℕ) (mid ys : List ℕ) → length mid ≡ n → k ≤ n → ys ≡ replicate (length (take (length mid - k) (drop k mid))) 255 → put_mid k (length mid - k) mid ys ≡ take k mid ++ replicate (n - k) 255
+rest_filled k n mid ys l h e =
+    let d : length (drop k mid) ≡ n - k = length-drop k mid ∙ omega arith in
+    let r : ys ≡ replicate (n - k) 255 = e ∙ ap (λ (m : ℕ). replicate m 255) (length-take-le (length mid - k) (drop k mid) (omega (arith, d)) ∙ omega arith) in
+    ap (λ (q : List ℕ). take k mid ++ q) (rw (r, drop_all (length mid - k) (drop k mid) (omega (arith, d))) (append-nil _))
 
 -- The answer and the buffer for each end; n is the buffer's length.
-module _ (n : ℕ) (mid new : List ℕ) (l : length mid ≡ n) (x : planning.Answer) where
-  nothing_left : new ≡ filled 0 255 mid → new ≡ take n ([] ++ replicate n 255)
-  nothing_left e = e ∙ rw (← l) (filled-after [] mid (holds_nothing 0 mid))
+module _ (n : ℕ) (new : List ℕ) (x : planning.Answer) where
+  module _ (e : new ≡ replicate n 255) where
+    nothing_left : new ≡ take n ([] ++ replicate n 255)
+    nothing_left = e ∙ sym (take-replicate n n 255 (omega arith))
 
-  module _ (e : new ≡ filled 0 255 mid) where
     pub ends_over : (c : ℕ) → x ≡ over c → Replied n x new (Ok (outcome.Over c))
     unfolding answer_of buffer_of plan_buffer plan_bytes
-    ends_over c w = rw w (record { answer = refl; buffer = nothing_left e })
+    ends_over c w = rw w (record { answer = refl; buffer = nothing_left })
 
     pub ends_spent : (d c : ℕ) → x ≡ spent d c → Replied n x new (Ok (outcome.Spent d c))
     unfolding answer_of buffer_of plan_buffer plan_bytes
-    ends_spent d c w = rw w (record { answer = refl; buffer = nothing_left e })
+    ends_spent d c w = rw w (record { answer = refl; buffer = nothing_left })
 
     pub ends_none : (c : ℕ) → x ≡ none c → Replied n x new (Ok (outcome.None c))
     unfolding answer_of buffer_of plan_buffer plan_bytes
-    ends_none c w = rw w (record { answer = refl; buffer = nothing_left e })
+    ends_none c w = rw w (record { answer = refl; buffer = nothing_left })
 
   module _ (instance : Instance) (s d c k : ℕ) (f : FoundBy instance s x d c k) where
-    pub too_long : n < k → new ≡ filled 0 255 mid → Replied n x new (Err (record { count = c; bytes = k }))
+    pub too_long : n < k → new ≡ replicate n 255 → Replied n x new (Err (record { count = c; bytes = k }))
     unfolding answer_of buffer_of
     too_long h e = let g : k ≡ plan_size f.plan = sym f.sized in let t = lt-leb (plan_size f.plan) n (omega (arith, h, g)) in
-        rw f.is (record { answer = rw (t, g); buffer = rw t (e ∙ rw (← l) (filled_whole mid)) })
+        rw f.is (record { answer = rw (t, g); buffer = rw t e })
 
-    pub fits : k ≤ n → Holds (encode f.plan) 0 mid → new ≡ filled k 255 mid → Replied n x new (Ok (outcome.Found d c k))
+    pub fits : (mid : List ℕ) → length mid ≡ n → k ≤ n → Holds (encode f.plan) 0 mid → new ≡ take k mid ++ replicate (n - k) 255 → Replied n x new (Ok (outcome.Found d c k))
     unfolding answer_of buffer_of plan_buffer plan_bytes
-    fits h b e = let g : k ≡ plan_size f.plan = sym f.sized in let t = le-leb (plan_size f.plan) n (omega (arith, h, g)) in
-        rw f.is (record { answer = rw (t, g); buffer = rw t (e ∙ rw (g, ← l) (filled-after (encode f.plan) mid b)) })
+    fits mid l h b e = let g : k ≡ plan_size f.plan = sym f.sized in let t = le-leb (plan_size f.plan) n (omega (arith, h, g)) in
+        rw f.is (record { answer = rw (t, g); buffer = rw t (e ∙ rw (g, ← l) (filled_up (encode f.plan) mid b (omega (arith, h, g, l)))) })
 
 -- Rounds that may make as many examinations as any budget has are finished.
 pub always_ends : {instance : Instance} {s d c : ℕ} {x : planning.Answer} {C : Type 0} → instance.guide.budget ≤ 1000000 → Left instance s x 1000000 d c → C

@@ -1,4 +1,5 @@
 -- Laws about the definitions of specs/, which the proofs of the functions cite.
+pub mod Props
 pub mod RowSums
 pub mod ByteSums
 pub mod PlacesFilled

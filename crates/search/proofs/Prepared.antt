@@ -1,5 +1,6 @@
 -- What the search answers and leaves, by what its preparation found out. Assumes nothing.
-use Rattle.std.proofs.Common.{◌≡◌, ℕ, ◌+◌, ◌/◌, ◌≤◌, List, ◌++◌, length, drop, Result, Ok, Err, ap, ◌∙◌, arith}
+use Rattle.std.proofs.Common.{◌≡◌, ℕ, ◌+◌, ◌/◌, ◌≤◌, List, ◌++◌, length, drop, Result, Ok, Err, sym, ap, ◌∙◌, arith}
+use Rattle.std.proofs.Math.Seq.{drop-append_seam}
 use Rattle.planning.specs.Pattern.{Additive}
 use Rattle.planning.specs.Table.{tables, Small}
 use Rattle.planning.proofs.Verdict.{verdict-additive}
@@ -69,7 +70,10 @@ module _ (r tabs : List ℕ) {start : ℕ} (q : start_prepared r (length tabs) �
 
   prepared_holds : {new : List ℕ} → new ≡ tables_prepared r tabs → HoldsTables r new
   unfolding built_over
-  prepared_holds e = record { rest = drop (entries_needed (task_of r).sizes (patterns_of r)) tabs; built = e ∙ rw h }
+  prepared_holds e =
+      let t = tables (task_of r) (patterns_of r) in
+      let w = e ∙ rw h in
+      record { built = w ∙ ap (λ (l : List ℕ). t ++ l) (sym (ap (drop (length t)) w ∙ drop-append_seam t (drop (entries_needed (task_of r).sizes (patterns_of r)) tabs))) }
 
   prepared_sets : (sets : List ℕ) → sets_prepared r (length tabs) sets ≡ sets_filled (compiled (task_of r)) 18446744073709551615 (action_count r) ((variable_count r + 1) / 2) sets
   prepared_sets sets = rw h

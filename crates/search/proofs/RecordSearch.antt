@@ -1,11 +1,11 @@
 -- The search of a sound record's compiled task with built tables is the search of the task itself, and what the code asks of the record
 -- holds. Assumes nothing.
-use Rattle.std.proofs.Common.{◌≡◌, ℕ, ◌+◌, ◌*◌, ◌/◌, ◌≤◌, leb, List, Result, Ok, Err, length, refl, ap, ◌∙◌, arith, leb-true}
+use Rattle.std.proofs.Common.{◌≡◌, ℕ, ◌+◌, ◌*◌, ◌/◌, ◌≤◌, leb, List, Result, Ok, Err, length, drop, refl, ap, ◌∙◌, arith, leb-true}
 use Rattle.planning.specs.Plan.{encode}
 use Rattle.planning.specs.Search.{found, over, spent, none, search, answer}
 use Rattle.planning.specs.Search as planning
 use Rattle.planning.specs.Task.{system}
-use Rattle.planning.specs.Table.{estimate, Small}
+use Rattle.planning.specs.Table.{estimate, tables, Small}
 use Rattle.planning.proofs.Table.{value_of_built}
 use Rattle.planning.proofs.Test.{by_test}
 use Rattle.planning.proofs.Simulation.{same_search}
@@ -82,7 +82,7 @@ module _ (r : List ℕ) (sound : Sound r) where
         packed_value rows offsets tabs (length (patterns_of r)) (length (task_of r).sizes) s ≡ estimate (task_of r) (patterns_of r)
         (cells_of (length (task_of r).sizes) s)
     packed_estimate s o = packed_value_lem (task_of r) (sound_packable r sound) (patterns_of r) rows offsets f tabs s o
-        ∙ rw b.built (value_of_built (task_of r) (cells_of (length (task_of r).sizes) s) o.0 (unit_weights r) (patterns_of r) small b.rest)
+        ∙ rw b.built (value_of_built (task_of r) (cells_of (length (task_of r).sizes) s) o.0 (unit_weights r) (patterns_of r) small (drop (length (tables (task_of r) (patterns_of r))) tabs))
 
     -- So the search of words is the search of the task.
     pub packed_search_lem : (budget : ℕ) → packed_search (compiled (task_of r)) rows offsets tabs (action_count r) (pattern_count r) (variable_count r) budget

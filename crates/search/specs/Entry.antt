@@ -1,6 +1,6 @@
 -- What the search of a record answers, and what it leaves in the plan's buffer: document 01, "Search" and "Where a call can say no", lines
 -- 5 to 9 and 11. Assumes nothing.
-use Rattle.std.specs.Prelude.{◌≡◌, ℕ, ◌+◌, ◌/◌, ◌≤◌, cond, List, ◌++◌, length, Result, Ok, Err, nat_le, nat_lt}
+use Rattle.std.specs.Prelude.{◌≡◌, ℕ, ◌+◌, ◌/◌, ◌≤◌, cond, List, ◌++◌, length, drop, Result, Ok, Err, nat_le, nat_lt}
 use Rattle.planning.specs.Examinations.{Examined, examinations}
 use Rattle.planning.specs.Numbers.{Numbers, answered, refused_if}
 use Rattle.planning.specs.Pattern.{Additive}
@@ -87,8 +87,7 @@ Counts (Err e) n = Unit {0}
 
 -- The tables of the record's task stand at the start of the lent ones.
 pub record HoldsTables (r tabs : List ℕ) : Type 0 where
-  pub rest : List ℕ
-  pub built : tabs ≡ tables (task_of r) (patterns_of r) ++ rest
+  pub built : tabs ≡ tables (task_of r) (patterns_of r) ++ drop (length (tables (task_of r) (patterns_of r))) tabs
 
 -- All that the search of a record with a budget goes by is prepared.
 pub record Prepared (r : List ℕ) (budget : ℕ) (task sets : List ℕ) (start : ℕ) (tabs : List ℕ) : Type 0 where

@@ -1,7 +1,6 @@
-// Writing the plan's buffer: a byte at a place that may lie past its end, and one byte from a place on.
+// Writing the plan's buffer: a byte at a place that may lie past its end.
 // Asks nothing of the caller.
 ghost use Rattle.std.specs.Prelude.{◌≡◌, slice_set};
-ghost use Rattle.search.specs.Buffer.{filled};
 
 // Stores b at `at`, where the buffer reaches that far.
 pub(crate) fn put(plan: &mut [u8], at: usize, b: u8)
@@ -9,14 +8,5 @@ pub(crate) fn put(plan: &mut [u8], at: usize, b: u8)
 {
     if at < plan.len() {
         plan[at] = b;
-    }
-}
-
-// Stores x at every place from `from` on.
-pub(crate) fn fill(plan: &mut [u8], from: usize, x: u8)
-    ensures { plan.new ≡ filled from x plan.old }
-{
-    for i in from..plan.len() {
-        plan[i] = x;
     }
 }

@@ -3,8 +3,9 @@
 ghost use Rattle.std.specs.Prelude.{◌≡◌, length};
 ghost use Rattle.tables.specs.RecordTables.{tables_prepared};
 ghost use Rattle.search.specs.Answer.{answer_of, buffer_of};
-ghost use Rattle.search.specs.Entry.{Prepared, answer_within, search_answer, plan_after, search_numbers, search_by_lines};
+ghost use Rattle.search.specs.Entry.{answer_within, search_answer, plan_after, search_numbers, search_by_lines};
 
+use crate::built::BuiltTask;
 use crate::byte_rows::{Places, fill_places};
 use crate::guide::guide_of;
 use crate::instance::Instance;
@@ -23,19 +24,10 @@ pub enum SearchAnswer {
     None(u64),
 }
 
-// The search with all that is prepared: words that are compiled, sets of actions, the start as a word, tables that are built.
-fn search_built(
-    rec: &[u8],
-    budget: u32,
-    task: &[u64; 1282],
-    sets: &[u64; 2048],
-    start: u64,
-    tables: &[u16],
-    plan: &mut [u8],
-) -> Result<SearchAnswer, TooLong>
-    requires { Prepared rec.now budget task.now sets.now start tables.now }
-    ensures answer { result ≡ answer_of (length plan.old) (answer_within budget rec.now) }
-    ensures buffer { plan.new ≡ buffer_of (length plan.old) (answer_within budget rec.now) }
+// The search of a built task.
+fn search_built(built: &BuiltTask, plan: &mut [u8]) -> Result<SearchAnswer, TooLong>
+    ensures answer { result ≡ answer_of (length plan.old) (answer_within built.now.budget built.now.rec.now) }
+    ensures buffer { plan.new ≡ buffer_of (length plan.old) (answer_within built.now.budget built.now.rec.now) }
 {
     let mut places = Places {
         sums: [0; 4096],
@@ -43,18 +35,18 @@ fn search_built(
     };
     let mut rows = [0u16; 2048];
     let mut offsets = [0u32; 8];
-    fill_rows(rec, &mut rows, &mut offsets);
-    let guide = guide_of(rec, budget, task, offsets);
+    fill_rows(built, &mut rows, &mut offsets);
+    let guide = guide_of(built, offsets);
     fill_places(&rows, guide.patterns, guide.variables, &mut places);
     let instance = Instance {
-        task,
-        sets,
+        task: built.task,
+        sets: built.sets,
         places: &places,
         rows: &rows,
         guide,
-        tables,
+        tables: built.tables,
     };
-    run_rounds(&instance, plan, start)
+    run_rounds(&instance, plan, built.start)
 }
 
 // The search from the record's start with its limit and budget. A found plan stands at the start of `plan`; `tables` are built here.
@@ -67,6 +59,14 @@ pub fn search(rec: &[u8], tables: &mut [u16], plan: &mut [u8]) -> Result<SearchA
     let mut task = [0u64; 1282];
     let mut sets = [0u64; 2048];
     let start = prepare(rec, tables, &mut task, &mut sets)?;
-    let answer = search_built(rec, budget(rec), &task, &sets, start, tables, plan)?;
+    let built = BuiltTask {
+        rec,
+        budget: budget(rec),
+        task: &task,
+        sets: &sets,
+        start,
+        tables,
+    };
+    let answer = search_built(&built, plan)?;
     Ok(answer)
 }

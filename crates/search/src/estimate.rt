@@ -14,15 +14,15 @@ fn lowest_digit(s: u64) -> usize
 }
 
 // The index of a state in the table of pattern p.
-pub(crate) fn index_of(rows: &[u16; 2048], s: u64, p: usize, variables: usize) -> usize
-    requires { (p < 8) × (variables ≤ 16) }
-    ensures { (result ≡ packed_index rows.now p 0 variables s) × (result ≤ 65535 * 16) }
+pub(crate) fn index_of(instance: &Instance, s: u64, p: usize) -> usize
+    requires { p < instance.now.guide.patterns }
+    ensures { (result ≡ packed_index instance.now.rows.now p 0 instance.now.guide.variables s) × (result ≤ 65535 * 16) }
 {
     let mut i = 0usize;
     let mut rest = s;
-    for v in 0..variables {
+    for v in 0..instance.guide.variables {
         let x = lowest_digit(rest);
-        i = i + usize::from(rows[(16 * v + x) * 8 + p]);
+        i = i + usize::from(instance.rows[(16 * v + x) * 8 + p]);
         rest = rest / 16;
     }
     i
@@ -40,7 +40,7 @@ fn entry_at(tables: &[u16], i: usize) -> u16
 
 // The cost that the table of pattern p gives at an index.
 pub(crate) fn cost_at(instance: &Instance, p: usize, i: usize) -> u64
-    requires { (p < 8) × (i ≤ 65535 * 16) }
+    requires { (p < instance.now.guide.patterns) × (i ≤ 65535 * 16) }
     ensures { (result ≡ slice_index_or instance.now.tables.now (slice_index instance.now.guide.offsets p + i) 65535) × (result < 65536) }
 {
     u64::from(entry_at(instance.tables, instance.guide.offsets[p] as usize + i))
@@ -52,11 +52,7 @@ pub(crate) fn value_of(instance: &Instance, s: u64) -> Option<u64>
 {
     let mut sum = 0u64;
     for p in 0..instance.guide.patterns {
-        let e = cost_at(
-            instance,
-            p,
-            index_of(instance.rows, s, p, instance.guide.variables),
-        );
+        let e = cost_at(instance, p, index_of(instance, s, p));
         if e == 65535 {
             return None;
         }

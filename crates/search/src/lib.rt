@@ -3,8 +3,10 @@
 #![tactic(auto)]
 
 mod buffer;
+mod built;
 mod byte_rows;
 mod carried;
+mod column;
 mod compiled;
 pub mod entry;
 mod estimate;

@@ -7,7 +7,6 @@ ghost use Rattle.search.specs.Memory.{Remembers};
 ghost use Rattle.search.specs.Packed.{guided_examination};
 ghost use Rattle.search.specs.Answer.{Begun, FoundBy, Startable, Concludes, Replies, Replied, guided_rounds, guided_search};
 
-use crate::buffer::fill;
 use crate::entry::SearchAnswer;
 use crate::estimate::value_of;
 use crate::examine::{Ending, Visit, examine_any};
@@ -108,14 +107,14 @@ fn tell_found(
 {
     let bytes = n as usize;
     if plan.len() < bytes {
-        fill(plan, 0, 255);
+        plan.fill(255);
         return Err(TooLong {
             count: v.count,
             bytes: n,
         });
     }
     write_found(instance, memory, plan, v.s, v.d);
-    fill(plan, bytes, 255);
+    plan[bytes..].fill(255);
     Ok(found_with(v, n))
 }
 
@@ -136,11 +135,11 @@ fn conclude(
             Ok(tell_found(instance, memory, plan, w, n))
         }
         Conclusion::Over(c) => {
-            fill(plan, 0, 255);
+            plan.fill(255);
             Ok(Ok(SearchAnswer::Over(u64::from(c))))
         }
         Conclusion::Spent(d, c) => {
-            fill(plan, 0, 255);
+            plan.fill(255);
             Ok(Ok(SearchAnswer::Spent(u64::from(d), u64::from(c))))
         }
     }
@@ -208,12 +207,12 @@ pub(crate) fn run_rounds(
 {
     match value_of(instance, s) {
         None => {
-            fill(plan, 0, 255);
+            plan.fill(255);
             Ok(SearchAnswer::None(0))
         }
         Some(value) => {
             if u64::from(instance.guide.limit) < value {
-                fill(plan, 0, 255);
+                plan.fill(255);
                 return Ok(SearchAnswer::Over(0));
             }
             let v = Visit {

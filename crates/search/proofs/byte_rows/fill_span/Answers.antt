@@ -1,25 +1,19 @@
 -- `search::byte_rows::fill_span` meets its contract. The loop's invariant: blocks below j are written. Assumes nothing.
-use Rattle.std.proofs.Common.{sym, ◌∙◌, arith}
+use Rattle.std.proofs.Common.{arith, rules}
 use Rattle.search.proofs.PlacesFilled.{spanning_starts, spanning_goes_on, spanning_fails, spanning_ends}
 use Rattle.search.proofs.byte_rows.fill_span.Goals as goal
 
 pub loop-j-init : goal.loop-j-init
-loop-j-init c = let a = c.args in let q = c.requires in (omega arith, spanning_starts a.rows.now a.variables a.p a.first a.count a.sums.now a.at q.0)
-
-pub shape_of-sums-then-not-is_entry : goal.shape_of-sums-then-not-is_entry
-shape_of-sums-then-not-is_entry c = c.loop-j.invariant.1.long ∙ sym c.requires.0
+loop-j-init c = let a = c.args in let b = a.column.now in let w = a.span in (omega arith, spanning_starts b.rows.now b.variables b.p w.first w.count a.sums.now w.at (search rules))
 
 pub returns-then-not-is_entry : goal.returns-then-not-is_entry
 returns-then-not-is_entry c = spanning_fails c.loop-j.invariant.1
 
 pub fill_block-requires : goal.fill_block-requires
-fill_block-requires c = let q = c.requires in (c.loop-j.invariant.1.long, omega (arith, q.4))
+fill_block-requires c = omega (arith, c.requires.1)
 
 pub loop-j-preserved : goal.loop-j-preserved
-loop-j-preserved c = (omega arith, spanning_goes_on c.loop-j.invariant.1 c.requires.5 c.loop-j-test.true c.fill_block.ensures c.fill_block.auto.sums c.values_of-low.ensures c.values_of-high.ensures (c.is_entry.ensures c.if-not-is_entry.false))
-
-pub shape_of-sums : goal.shape_of-sums
-shape_of-sums c = c.loop-j.invariant.1.long ∙ sym c.requires.0
+loop-j-preserved c = (omega arith, spanning_goes_on c.loop-j.invariant.1 c.args.column.now.weighted.times c.loop-j-test.true c.fill_block.ensures c.values_of-low.ensures c.values_of-high.ensures (c.is_entry.ensures c.if-not-is_entry.false))
 
 pub returns : goal.returns
 returns c = spanning_ends c.loop-j.invariant.1 c.loop-j-test.false

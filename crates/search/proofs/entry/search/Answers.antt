@@ -9,8 +9,8 @@ use Rattle.search.proofs.Prepared.{search-refused, plan_refused, search_ready, p
 use Rattle.search.proofs.RecordSearch.{answered_so, refused_so}
 use Rattle.search.proofs.entry.search.Goals as goal
 
-pub search_built-requires : goal.search_built-requires
-search_built-requires c = let a = c.args in let e = c.prepare.ensures in prepared a.rec.now a.tables.now (sym e.value.0 ∙ c.in_ok-start.was) (replicate 1282 0) (replicate 2048 0) e.value.1 e.value.2 e.sets c.budget.ensures
+pub invariant_of-built : goal.invariant_of-built
+invariant_of-built c = let a = c.args in let e = c.prepare.ensures in record { prepared = ∣ prepared a.rec.now a.tables.now (sym e.value.0 ∙ c.in_ok-start.was) (replicate 1282 0) (replicate 2048 0) e.value.1 e.value.2 e.sets c.budget.ensures ∣₁ }
 
 pub returns-in_err-start : goal.returns-in_err-start
 returns-in_err-start c = let a = c.args in let r = a.rec.now in let h = start_refused r (length a.tables.now) (sym c.prepare.ensures.value.0 ∙ c.in_err-start.was) in

@@ -6,20 +6,15 @@ use Rattle.search.specs.Answer.{answer_of, buffer_of}
 use Rattle.search.proofs.RowsFilled.{sizes_number}
 use Rattle.search.proofs.PlacesFilled.{rows_linear}
 use Rattle.search.proofs.RecordSearch.{limit_right, searched, sound_ready}
+use Rattle.search.proofs.Props.{known}
 use Rattle.search.proofs.entry.search_built.Goals as goal
 
-pub fill_rows-requires : goal.fill_rows-requires
-fill_rows-requires c = let p = c.requires in (search rules, search rules, p.sound, p.small)
-
-pub guide_of-guide-requires : goal.guide_of-guide-requires
-guide_of-guide-requires c = let p = c.requires in (p.sound, p.additive, p.words)
-
 pub fill_places-requires : goal.fill_places-requires
-fill_places-requires c = let p = c.requires in let r = c.args.rec.now in let b = patterns_right r p.sound in let v = variables_right r p.sound in let z = c.guide_of-guide.ensures.sized in
+fill_places-requires c = let p = known c.args.built.now.prepared in let r = c.args.built.now.rec.now in let b = patterns_right r p.sound in let v = variables_right r p.sound in let z = c.guide_of-guide.ensures.sized in
     (omega (arith, b, z.patterns), omega (arith, v.1, z.variables), rw (z.patterns, z.variables, ← patterns_length r, ← sizes_number r p.sound) (rows_linear _ _ _ _ c.fill_rows.ensures))
 
 pub invariant_of-instance : goal.invariant_of-instance
-invariant_of-instance c = let p = c.requires in let r = c.args.rec.now in let z = c.guide_of-guide.ensures.sized in record {
+invariant_of-instance c = let p = known c.args.built.now.prepared in let r = c.args.built.now.rec.now in let z = c.guide_of-guide.ensures.sized in record {
   guided = record {
     ready = rw (p.words, z.actions, z.patterns, z.variables, z.spends) (sound_ready r p.sound _ p.budgeted);
     applying = rw (z.actions, z.variables) p.applying;
@@ -29,11 +24,11 @@ invariant_of-instance c = let p = c.requires in let r = c.args.rec.now in let z 
 }
 
 pub run_rounds-requires : goal.run_rounds-requires
-run_rounds-requires c = omega (arith, limit_right c.args.rec.now c.requires.sound, c.guide_of-guide.ensures.sized.limit)
+run_rounds-requires c = omega (arith, limit_right c.args.built.now.rec.now (known c.args.built.now.prepared).sound, c.guide_of-guide.ensures.sized.limit)
 
 pub returns : goal.returns
-returns c = let p = c.requires in let a = c.args in let r = a.rec.now in let z = c.guide_of-guide.ensures.sized in
-    let e = searched r p.sound p.small _ _ a.tables.now (rw (← c.guide_of-guide.ensures.placed) at c.fill_rows.ensures) p.holds p.words z.actions z.patterns z.variables z.spends z.limit p.started in
+returns c = let a = c.args in let b = a.built.now in let p = known b.prepared in let r = b.rec.now in let z = c.guide_of-guide.ensures.sized in
+    let e = searched r p.sound p.small _ _ b.tables.now (rw (← c.guide_of-guide.ensures.placed) at c.fill_rows.ensures) p.holds p.words z.actions z.patterns z.variables z.spends z.limit p.started in
     let w = c.run_rounds.ensures in record {
       answer = w.answer ∙ ap (answer_of (length a.plan.now)) e;
       buffer = w.buffer ∙ ap (buffer_of (length a.plan.now)) e;

@@ -4,7 +4,7 @@ use Rattle.search.specs.Value.{packed_index}
 use Rattle.search.proofs.estimate.index_of.Given as goal
 
 abbrev pub invariant-loop-v : goal.invariant-loop-v
-invariant-loop-v l = (packed_index l.rows l.p 0 l.variables l.s ≡ l.i + packed_index l.rows l.p l.v (l.variables - l.v) l.rest) × (l.v ≤ l.variables) × (l.i ≤ 65535 * l.v)
+invariant-loop-v l = (packed_index l.instance.rows.now l.p 0 l.instance.guide.variables l.s ≡ l.i + packed_index l.instance.rows.now l.p l.v (l.instance.guide.variables - l.v) l.rest) × (l.v ≤ l.instance.guide.variables) × (l.i ≤ 65535 * l.v)
 
 abbrev pub decreases-loop-v : goal.decreases-loop-v
-decreases-loop-v l = l.variables - l.v
+decreases-loop-v l = l.instance.guide.variables - l.v

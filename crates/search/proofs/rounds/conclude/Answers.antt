@@ -1,5 +1,5 @@
 -- `search::rounds::conclude` meets its contract: what each end of the rounds leaves. Assumes nothing.
-use Rattle.std.proofs.Common.{refl, arith}
+use Rattle.std.proofs.Common.{arith}
 use Rattle.search.specs.Answer.{Concludes, Replies}
 use Rattle.search.proofs.Conclusions.{ends_over, ends_spent}
 use Rattle.search.proofs.rounds.conclude.Goals as goal
@@ -12,7 +12,7 @@ pub returns-in-Found : goal.returns-in-Found
 returns-in-Found c = c.tell_found.ensures _ (rw (c.in_ok-d.was, c.in-Found.is) at c.deepen.ensures.conclusion)
 
 pub returns-in-Over : goal.returns-in-Over
-returns-in-Over c = rw c.from.ensures (ends_over _ _ _ refl _ c.fill.ensures _ (rw (c.in_ok-d.was, c.in-Over.is) at c.deepen.ensures.conclusion))
+returns-in-Over c = rw c.from.ensures (ends_over _ _ _ (c.fill.ensures.after (λ y h. h)) _ (rw (c.in_ok-d.was, c.in-Over.is) at c.deepen.ensures.conclusion))
 
 pub returns-in-Spent : goal.returns-in-Spent
-returns-in-Spent c = rw (c.from-in-Spent.ensures, c.from-in-Spent-2.ensures) (ends_spent _ _ _ refl _ c.fill-in-Spent.ensures _ _ (rw (c.in_ok-d.was, c.in-Spent.is) at c.deepen.ensures.conclusion))
+returns-in-Spent c = rw (c.from-in-Spent.ensures, c.from-in-Spent-2.ensures) (ends_spent _ _ _ (c.fill-in-Spent.ensures.after (λ y h. h)) _ _ (rw (c.in_ok-d.was, c.in-Spent.is) at c.deepen.ensures.conclusion))

@@ -7,7 +7,7 @@ use Rattle.search.proofs.RowsFilled.{FillingPattern}
 use Rattle.search.proofs.rows.fill_pattern.Given as goal
 
 abbrev pub invariant-loop-v : goal.invariant-loop-v
-invariant-loop-v l = FillingPattern (task_of l.rec).sizes (cells_at l.rec (at_pattern l.p)) l.initial.rows l.rows l.p l.weight l.v × (length l.rows ≡ 2048)
+invariant-loop-v l = let r = l.built.rec.now in FillingPattern (task_of r).sizes (cells_at r (at_pattern l.p)) l.initial.rows l.rows l.p l.weight l.v × (length l.rows ≡ 2048)
 
 abbrev pub decreases-loop-v : goal.decreases-loop-v
-decreases-loop-v l = variable_count l.rec - l.v
+decreases-loop-v l = variable_count l.built.rec.now - l.v

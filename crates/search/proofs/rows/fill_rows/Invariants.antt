@@ -6,7 +6,7 @@ use Rattle.search.proofs.RowsFilled.{FillingRows}
 use Rattle.search.proofs.rows.fill_rows.Given as goal
 
 abbrev pub invariant-loop-p : goal.invariant-loop-p
-invariant-loop-p l = FillingRows (task_of l.rec).sizes (patterns_of l.rec) l.rows l.offsets l.begin l.p × (length l.rows ≡ 2048)
+invariant-loop-p l = let r = l.built.rec.now in FillingRows (task_of r).sizes (patterns_of r) l.rows l.offsets l.begin l.p × (length l.rows ≡ 2048)
 
 abbrev pub decreases-loop-p : goal.decreases-loop-p
-decreases-loop-p l = pattern_count l.rec - l.p
+decreases-loop-p l = pattern_count l.built.rec.now - l.p

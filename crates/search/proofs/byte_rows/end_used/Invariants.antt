@@ -1,7 +1,0 @@
--- `search::byte_rows::end_used` meets its contract. The loop's invariant: no variable from v on adds anything. Assumes nothing.
-use Rattle.std.proofs.Common.{◌≡◌, ℕ, ◌<◌, ◌≤◌}
-use Rattle.search.specs.Value.{row_entry}
-use Rattle.search.proofs.byte_rows.end_used.Given as goal
-
-abbrev pub invariant-loop-v : goal.invariant-loop-v
-invariant-loop-v l = (l.v ≤ l.variables) × ((u : ℕ) → l.v ≤ u → u < l.variables → row_entry l.rows u 1 l.p ≡ 0)
