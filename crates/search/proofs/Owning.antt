@@ -175,10 +175,10 @@ module _ (r : List ℕ) (sound : Sound r) where
   owning_begins owners n = record { long = n; owns = λ m q l h e. absurd (omega arith) }
 
   module _ (add : Additive (task_of r) (patterns_of r)) where
-    pub owning_goes_on : (old new : List ℕ) (p : ℕ) → p < pattern_count r → Owning old p →
+    pub owning_goes_on : (old new : List ℕ) (p : ℕ) → p < pattern_count r → length new ≡ 64 → Owning old p →
         Marked (compiled (task_of r)) (pack_by picking (cells_at r (at_pattern p))) p (action_count r) old new → Owning new (p + 1)
     unfolding Additive
-    owning_goes_on old new p b g h = record { long = h.long ∙ g.long; owns = λ m q l k e. at_one m q l e (ℕ_discrete q p) k }
+    owning_goes_on old new p b n g h = record { long = n; owns = λ m q l k e. at_one m q l e (ℕ_discrete q p) k }
       where
         touched : (m : ℕ) → m < action_count r → touches (compiled (task_of r)) (pack_by picking (cells_at r (at_pattern p))) m ≡ affects_pattern (action_at (task_of r) m) (get_or (patterns_of r) p [])
         touched m l = rw (pattern_at r p b) (touches_is m l (cells_at r (at_pattern p)) (part_few (drop (at_pattern p) r)))
@@ -233,7 +233,7 @@ module _ {task : List ℕ} {mask p : ℕ} {old new : List ℕ} {i : ℕ} (g : Ma
       at_one m (no q) k = g.done m (earlier m i k q)
 
   pub marking_ends : (actions : ℕ) → actions ≤ i → Marked task mask p actions old new
-  marking_ends actions l = record { long = g.long; marks = λ m k. g.done m (omega arith) }
+  marking_ends actions l = record { marks = λ m k. g.done m (omega arith) }
 
 -- The outcomes of an action from number k on, n in all: one names a variable under the mask, or the next is looked at.
 module _ (task : List ℕ) (mask m k n : ℕ) where

@@ -1,5 +1,6 @@
 -- Filling the blocks: sixteen sums, a block, the blocks of a pattern, and those of every pattern. Assumes nothing.
 use Rattle.std.proofs.Common.{◌≡◌, ℕ, ◌+◌, ◌-◌, ◌*◌, ◌/◌, ◌%◌, ◌<◌, ◌≤◌, Bool, true, false, ltb, ◌⊎◌, List, Option, Some, None, length, get_or, set, sym, refl, ap, ◌∙◌, inl, inr, ⊎_elim, true≢false, mul-le-mul_right, mod-eq_of_lt, arith, ltb→lt, length-set, get_or-set_other, get_or-set_same}
+use Rattle.std.specs.Option.{SomeIff, is_some}
 use native.Mathlib.Decide.{ℕ_discrete}
 use Rattle.planning.proofs.Test.{by_test}
 use Rattle.search.specs.Value.{row_entry}
@@ -7,20 +8,6 @@ use Rattle.search.specs.Rows.{RowsOf}
 use Rattle.search.specs.declared.byte_rows.Places.{Places}
 use Rattle.search.specs.declared.byte_rows.Span.{Span}
 use Rattle.search.specs.ByteRows.{digit_adds, byte_adds, BlockAt, SpanAt, BytesOf, Linear, SumsFilled, BlockFilled, SpanFilled, PatternPlaced}
-
--- Values below x are taken.
-pub record Taking (f : ℕ → ℕ) (r : List ℕ) (x : ℕ) : Type 0 where
-  pub taken : (y : ℕ) → y < x → get_or r y 0 ≡ f y
-
-pub taking_starts : (f : ℕ → ℕ) (r : List ℕ) → Taking f r 0
-taking_starts f r = record { taken = λ y h. absurd (omega arith) }
-
-taken-after : {f : ℕ → ℕ} {r : List ℕ} {x w : ℕ} → Taking f r x → x < length r → w ≡ f x → (y : ℕ) → Dec (y ≡ x) → y < x + 1 → get_or (set r x w) y 0 ≡ f y
-taken-after {f} {r} {x} {w} t l e y (yes q) h = rw q (get_or-set_same r x w 0 l ∙ e)
-taken-after {f} {r} {x} {w} t l e y (no q) h = get_or-set_other r x y w 0 q ∙ t.taken y (omega arith)
-
-pub taking_goes_on : {f : ℕ → ℕ} {r : List ℕ} {x : ℕ} (w : ℕ) → Taking f r x → x < length r → w ≡ f x → Taking f (set r x w) (x + 1)
-taking_goes_on {f} {r} {x} w t l e = record { taken = λ y. taken-after t l e y (ℕ_discrete y x) }
 
 -- Sums below l are written.
 pub record Summing (low : List ℕ) (high : ℕ) (old new : List ℕ) (at l : ℕ) : Type 0 where
@@ -44,7 +31,7 @@ module _ {low old new : List ℕ} {high at l : ℕ} (s : Summing low high old ne
   }
 
 pub summing_ends : {low old new : List ℕ} {high at l : ℕ} → Summing low high old new at l → 16 ≤ l → SumsFilled low high old new at
-summing_ends s h = record { long = s.long; sums = λ k i. s.sums k (omega arith); kept = s.kept }
+summing_ends s h = record { sums = λ k i. s.sums k (omega arith); kept = s.kept }
 
 -- Rows below h of a block are written.
 pub record Blocking (low high old new : List ℕ) (at h : ℕ) : Type 0 where
@@ -56,21 +43,20 @@ pub blocking_starts : (low high old : List ℕ) (at : ℕ) → length old ≡ 40
 blocking_starts low high old at h = record { long = h; sums = λ k l m. absurd (omega arith); kept = λ i l. refl }
 
 module _ {low high old new : List ℕ} {at h : ℕ} (s : Blocking low high old new at h) where
-  module _ {next : List ℕ} (m : h < 16) (g : SumsFilled low (get_or high h 0) new next (at + 16 * h)) where
+  module _ {next : List ℕ} (m : h < 16) (g : SumsFilled low (get_or high h 0) new next (at + 16 * h)) (long : length next ≡ 4096) where
     block_after : (k l : ℕ) → Dec (k ≡ h) → k < h + 1 → l < 16 → get_or next (at + 16 * k + l) 0 ≡ (get_or low l 0 + get_or high k 0) % 65536
     block_after k l (yes q) i j = rw q (g.sums l j)
     block_after k l (no q) i j = let e : k < h = omega arith in g.kept (at + 16 * k + l) (inl (omega arith)) ∙ s.sums k l e j
 
     pub blocking_goes_on : Blocking low high old next at (h + 1)
     blocking_goes_on = record {
-      long = g.long;
+      long = long;
       sums = λ k l. block_after k l (ℕ_discrete k h);
       kept = λ i o. g.kept i (⊎_elim (λ q. inl (omega arith)) (λ q. inr (omega arith)) o) ∙ s.kept i o;
     }
 
   pub blocking_ends : 16 ≤ h → BlockFilled low high old new at
   blocking_ends l = record {
-    long = s.long;
     sums = λ x i. let e : at + 16 * (x / 16) + x % 16 ≡ at + x = omega arith in rw e at (s.sums (x / 16) (x % 16) (omega arith) (omega arith));
     kept = s.kept;
   }
@@ -111,6 +97,11 @@ module _ (rows : List ℕ) (variables p : ℕ) (linear : (v x : ℕ) → v < var
       (λ e. let l : v < variables = ltb→lt v variables (rw e tt) in rw (e, linear v x l h, z l) (omega arith))
       (λ e. rw e)
 
+-- What a checked sum that is there needs.
+pub checked_fits : (o : Option ℕ) {P : Type 0} (v : ℕ) → SomeIff o P v → is_some o ≡ true → P
+checked_fits None v f e = absurd (true≢false (sym e))
+checked_fits (Some x) v f e = f.0
+
 -- Blocks below j of a span are written.
 pub record Spanning (rows : List ℕ) (variables p first count : ℕ) (old new : List ℕ) (at j : ℕ) : Type 0 where
   pub long : length new ≡ 4096
@@ -122,7 +113,7 @@ spanning_starts rows variables p first count old at h = record { long = h; block
 
 module _ {rows old new : List ℕ} {variables p first count at j : ℕ} (s : Spanning rows variables p first count old new at j) where
   module _ (linear : (v x : ℕ) → v < variables → x < 16 → row_entry rows v x p ≡ x * row_entry rows v 1 p)
-      {low high next : List ℕ} (m : j < count) (g : BlockFilled low high new next (at + 256 * j))
+      {low high next : List ℕ} (m : j < count) (g : BlockFilled low high new next (at + 256 * j)) (long : length next ≡ 4096)
       (lows : (x : ℕ) → x < 16 → get_or low x 0 ≡ digit_adds rows variables p (2 * (first + j)) x) (highs : (x : ℕ) → x < 16 → get_or high x 0 ≡ digit_adds rows variables p (2 * (first + j) + 1) x)
       (fits : get_or low 15 0 + get_or high 15 0 < 65536) where
     block_here : BlockAt rows variables p (first + j) next (at + 256 * j)
@@ -139,16 +130,16 @@ module _ {rows old new : List ℕ} {variables p first count at j : ℕ} (s : Spa
 
     pub spanning_goes_on : Spanning rows variables p first count old next at (j + 1)
     spanning_goes_on = record {
-      long = g.long;
+      long = long;
       blocks = λ k. blocks_after k (ℕ_discrete k j);
       kept = λ i o. g.kept i (⊎_elim (λ q. inl (omega arith)) (λ q. inr (omega arith)) o) ∙ s.kept i o;
     }
 
   pub spanning_fails : SpanFilled rows variables p first count old new at false
-  spanning_fails = record { long = s.long; blocks = λ e. absurd (true≢false (sym e)); kept = s.kept }
+  spanning_fails = record { blocks = λ e. absurd (true≢false (sym e)); kept = s.kept }
 
   pub spanning_ends : count ≤ j → SpanFilled rows variables p first count old new at true
-  spanning_ends l = record { long = s.long; blocks = λ e k h. s.blocks k (omega arith); kept = s.kept }
+  spanning_ends l = record { blocks = λ e k h. s.blocks k (omega arith); kept = s.kept }
 
 -- A pattern whose blocks were written.
 module _ {rows old mid : List ℕ} {variables p at first count : ℕ} where

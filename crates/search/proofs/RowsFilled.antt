@@ -47,7 +47,7 @@ module _ {old new : List ℕ} {v p weight x : ℕ} (f : FillingValues old new v 
   }
 
   pub values_end : 16 ≤ x → ValuesFilled old new v p weight
-  values_end l = record { long = f.long; values = λ y h. f.values y (omega arith); kept = f.kept }
+  values_end l = record { values = λ y h. f.values y (omega arith); kept = f.kept }
 
 -- Variables below v have their rows in pattern p, and w is the weight of the next one in the pattern.
 pub record FillingPattern (zs cells old new : List ℕ) (p w v : ℕ) : Type 0 where
@@ -105,9 +105,8 @@ module _ (zs cells : List ℕ) (long : length zs ≤ length cells) where
     pub weight_small : Positive zs → state_count zs cells ≤ 4096 → w ≤ 4096
     weight_small h s = let b = counting_below zs cells long w v f.counting h in omega arith
 
-    pub pattern_ends : length new ≡ 2048 → length zs ≤ v → PatternFilled zs cells old new p w
-    pattern_ends n l = record {
-      long = n;
+    pub pattern_ends : length zs ≤ v → PatternFilled zs cells old new p w
+    pattern_ends l = record {
       entries = λ u x h m. f.entries u x (omega arith) m;
       kept = f.kept;
       states = sym (counting_done zs cells long w v f.counting l);

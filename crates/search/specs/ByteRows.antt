@@ -1,6 +1,6 @@
 -- The index of a state in a pattern's table by the bytes of its word: a block of 256 entries for each byte that the pattern has says what
 -- the two digits of that byte add. Assumes nothing.
-use Rattle.std.specs.Prelude.{◌≡◌, ℕ, zero, suc, ◌+◌, ◌*◌, ◌/◌, ◌%◌, ◌<◌, ◌≤◌, Bool, true, cond, ◌⊎◌, List, Option, Some, None, length, nat_lt, slice_index, slice_index_or}
+use Rattle.std.specs.Prelude.{◌≡◌, ℕ, zero, suc, ◌+◌, ◌*◌, ◌/◌, ◌%◌, ◌<◌, ◌≤◌, Bool, true, cond, ◌⊎◌, List, Option, Some, None, nat_lt, slice_index, slice_index_or}
 use Rattle.search.specs.Value.{row_entry}
 use Rattle.search.specs.declared.byte_rows.Places.{Places}
 use Rattle.search.specs.declared.byte_rows.Span.{Span}
@@ -47,19 +47,16 @@ pub record Weighted (rows : List ℕ) (p variables : ℕ) : Type 0 where
 
 -- Sixteen sums were written from `at` on, and nothing else.
 pub record SumsFilled (low : List ℕ) (high : ℕ) (old new : List ℕ) (at : ℕ) : Type 0 where
-  pub long : length new ≡ 4096
   pub sums : (l : ℕ) → l < 16 → slice_index new (at + l) ≡ (slice_index low l + high) % 65536
   pub kept : (i : ℕ) → (i < at) ⊎ (at + 16 ≤ i) → slice_index new i ≡ slice_index old i
 
 -- A block was written from `at` on, and nothing else.
 pub record BlockFilled (low high old new : List ℕ) (at : ℕ) : Type 0 where
-  pub long : length new ≡ 4096
   pub sums : (x : ℕ) → x < 256 → slice_index new (at + x) ≡ (slice_index low (x % 16) + slice_index high (x / 16)) % 65536
   pub kept : (i : ℕ) → (i < at) ⊎ (at + 256 ≤ i) → slice_index new i ≡ slice_index old i
 
 -- The blocks of `count` bytes were written from `at` on, and nothing else.
 pub record SpanFilled (rows : List ℕ) (variables p first count : ℕ) (old new : List ℕ) (at : ℕ) (r : Bool) : Type 0 where
-  pub long : length new ≡ 4096
   pub blocks : r ≡ true → (j : ℕ) → j < count → BlockAt rows variables p (first + j) new (at + 256 * j)
   pub kept : (i : ℕ) → (i < at) ⊎ (at + 256 * count ≤ i) → slice_index new i ≡ slice_index old i
 

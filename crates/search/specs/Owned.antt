@@ -1,5 +1,5 @@
 -- The one pattern that each action of a compiled task may move a word in: its owner. Assumes nothing.
-use Rattle.std.specs.Prelude.{◌≡◌, ℕ, ◌<◌, Bool, cond, not, List, length, ◌==◌, ◌≢◌, bit_and, bit_or, slice_index}
+use Rattle.std.specs.Prelude.{◌≡◌, ℕ, ◌<◌, Bool, cond, not, List, ◌==◌, ◌≢◌, bit_and, bit_or, slice_index}
 use Rattle.planning.specs.Finite.{any_from}
 use Rattle.tables.specs.Packed.{outcome_count, keep_mask, set_value}
 use Rattle.search.specs.Value.{packed_index}
@@ -16,5 +16,4 @@ touches a k m = any_from 0 (outcome_count a m) (λ o. not (bit_and (keep_mask a 
 
 -- The actions below `actions` that touch the variables under a mask were given the owner p; the others have the one that they had.
 pub record Marked (task : List ℕ) (mask p actions : ℕ) (old new : List ℕ) : Type 0 where
-  pub long : length new ≡ length old
   pub marks : (m : ℕ) → m < actions → slice_index new m ≡ cond (touches task mask m) p (slice_index old m)

@@ -18,13 +18,11 @@ pub record RowsOf (zs : List ℕ) (ps : List (List ℕ)) (rows offsets : List �
 
 -- The rows of variable v in pattern p were written with a weight; those of lower variables and of lower patterns are as they were.
 pub record ValuesFilled (old new : List ℕ) (v p weight : ℕ) : Type 0 where
-  pub long : length new ≡ 2048
   pub values : (x : ℕ) → x < 16 → row_entry new v x p ≡ x * weight
   pub kept : (u x q : ℕ) → x < 16 → q < 8 → (u < v) ⊎ (q < p) → row_entry new u x q ≡ row_entry old u x q
 
 -- The rows of pattern number p were written, of every variable, and n is the number of its abstract states.
 pub record PatternFilled (zs cells old new : List ℕ) (p n : ℕ) : Type 0 where
-  pub long : length new ≡ 2048
   pub entries : (v x : ℕ) → v < length zs → x < 16 → row_entry new v x p ≡ x * weight_at zs cells v
   pub kept : (u x q : ℕ) → x < 16 → q < p → row_entry new u x q ≡ row_entry old u x q
   pub states : n ≡ state_count zs cells

@@ -79,22 +79,12 @@ fn fill_block(sums: &mut [u16; 4096], at: usize, low: [u16; 16], high: [u16; 16]
     requires { at + 256 ≤ 4096 }
     ensures { BlockFilled low high sums.old sums.new at }
 {
-    for h in 0..16usize {
-        fill_sums(sums, at + 16 * h, low, high[h]);
+    for (h, upper) in high.iter().enumerate() {
+        fill_sums(sums, at + 16 * h, low, *upper);
     }
 }
 
-// Whether the most that a byte adds is an entry.
-fn is_entry(low: u16, high: u16) -> bool
-    ensures { result ≡ true → low + high < 65536 }
-{
-    if usize::from(low) + usize::from(high) < 65536 {
-        return true;
-    }
-    false
-}
-
-// The blocks of a span; false if an entry would be too large.
+// The blocks of a span; false if the most that a byte adds would be no entry.
 fn fill_span(column: &Column, sums: &mut [u16; 4096], span: Span) -> bool
     requires { (span.first + span.count ≤ 8) × (span.at + 256 * span.count ≤ 4096) }
     ensures { SpanFilled column.now.rows.now column.now.variables column.now.p span.first span.count sums.old sums.new span.at result }
@@ -103,7 +93,7 @@ fn fill_span(column: &Column, sums: &mut [u16; 4096], span: Span) -> bool
         let v = 2 * (span.first + j);
         let low = column.values_of(v);
         let high = column.values_of(v + 1);
-        if !is_entry(low[15], high[15]) {
+        if low[15].checked_add(high[15]).is_none() {
             return false;
         }
         fill_block(sums, span.at + 256 * j, low, high);

@@ -29,8 +29,8 @@ impl<'a> Column<'a> {
         ensures { (x : ℕ) → x < 16 → slice_index result x ≡ digit_adds self.now.rows.now self.now.variables self.now.p v x }
     {
         let mut r = [0u16; 16];
-        for x in 0..16usize {
-            r[x] = self.digit_adds(v, x);
+        for (x, adds) in r.iter_mut().enumerate() {
+            *adds = self.digit_adds(v, x);
         }
         r
     }

@@ -10,7 +10,7 @@ pub fill_sums-requires : goal.fill_sums-requires
 fill_sums-requires c = omega (arith, c.requires)
 
 pub loop-h-preserved : goal.loop-h-preserved
-loop-h-preserved c = (omega arith, blocking_goes_on c.loop-h.invariant.1 c.loop-h-test.true c.fill_sums.ensures)
+loop-h-preserved c = (omega arith, blocking_goes_on c.loop-h.invariant.1 c.loop-h-test.true c.fill_sums.ensures c.fill_sums.array_long)
 
 pub returns : goal.returns
 returns c = blocking_ends c.loop-h.invariant.1 c.loop-h-test.false

@@ -11,7 +11,7 @@ loop-p-init c = (owning_begins _ (known c.args.built.now.prepared).sound _ (sear
 pub loop-p-preserved : goal.loop-p-preserved
 loop-p-preserved c = let b = c.args.built.now in let q = known b.prepared in let r = b.rec.now in let l = c.loop-p in
     let t : l.p < pattern_count r = rw c.pattern_count-p-end.ensures at c.loop-p-test.true in
-    (owning_goes_on r q.sound q.additive _ _ l.p t l.invariant.0 (rw q.words at c.mark.ensures), omega arith)
+    (owning_goes_on r q.sound q.additive _ _ l.p t c.mark.array_long l.invariant.0 (rw q.words at c.mark.ensures), omega arith)
 
 pub returns : goal.returns
 returns c = let b = c.args.built.now in let q = known b.prepared in let l = c.loop-p in

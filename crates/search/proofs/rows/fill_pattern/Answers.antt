@@ -37,10 +37,10 @@ loop-v-preserved c = let b = c.args.built.now in let q = known b.prepared in let
       rw (c.weight_after-weight.ensures, c.size_of.ensures, ← (size_read r q.sound l.v t), c.from.ensures, c.pattern_cells-cells.ensures)
           (pattern_goes_on (task_of r).sizes (cells_at r (at_pattern c.args.p)) (sizes_within r q.sound c.args.p c.requires) l.invariant.0 (omega (arith, sizes_number r q.sound))
           (rw (c.from-in-loop-v.ensures, c.from-in-loop-v-2.ensures, c.weight_in.ensures.0, c.from.ensures, c.pattern_cells-cells.ensures) at c.fill_values.ensures) (omega (arith, c.requires))),
-      c.fill_values.ensures.long,
+      c.fill_values.array_long,
     )
 
 pub returns : goal.returns
 returns c = let b = c.args.built.now in let q = known b.prepared in let r = b.rec.now in
-    pattern_ends (task_of r).sizes (cells_at r (at_pattern c.args.p)) (sizes_within r q.sound c.args.p c.requires) c.loop-v.invariant.0 c.loop-v.invariant.1
+    pattern_ends (task_of r).sizes (cells_at r (at_pattern c.args.p)) (sizes_within r q.sound c.args.p c.requires) c.loop-v.invariant.0
     (omega (arith, sizes_number r q.sound, c.variable_count-v-end.ensures, c.loop-v-test.false))

@@ -30,7 +30,7 @@ loop-p-preserved c = let b = c.args.built.now in let r = b.rec.now in let l = c.
     let k = patterns_right r (known b.prepared).sound in let h = pattern_small r (known b.prepared).sound (known b.prepared).small l.p t in (
       rw (c.from.ensures, c.from-begin.ensures) (rows-go_on (task_of r).sizes (patterns_of r) l.invariant.0 (rw (patterns_length r) t) (omega arith)
           (rw (pattern_at r l.p t) c.fill_pattern.ensures) (rw (pattern_at r l.p t) h)),
-      c.fill_pattern.ensures.long,
+      c.fill_pattern.array_long,
     )
 
 pub returns : goal.returns
