@@ -1,5 +1,5 @@
 -- Laws of rounds: one round more, how a round ends them, and the answer and the buffer for each end. Assumes nothing.
-use Rattle.std.proofs.Common.{◌≡◌, ℕ, zero, suc, ◌+◌, ◌-◌, ◌<◌, ◌≤◌, cond, ltb, List, Option, Some, None, Ok, Err, [], ◌++◌, length, take, drop, replicate, sym, refl, ap, ◌∙◌, zero-add, add-one, arith, get_or-take, ext_get_or, le-ltb, lt-ltb, le-leb}
+use Rattle.std.proofs.Common.{◌≡◌, ℕ, zero, suc, ◌+◌, ◌-◌, ◌<◌, ◌≤◌, List, Some, None, Ok, Err, [], ◌++◌, length, take, drop, replicate, sym, refl, ap, ◌∙◌, zero-add, add-one, arith, get_or-take, ext_get_or, le-leb}
 use borrow.Author.Tests.{lt-leb}
 use Rattle.std.proofs.Math.Seq.{take-append-add}
 use Rattle.std.proofs.lemmas.List.{append-nil, drop_all, length-drop, length-take-le, take-replicate}

@@ -1,5 +1,5 @@
 -- Filling the blocks: sixteen sums, a block, the blocks of a pattern, and those of every pattern. Assumes nothing.
-use Rattle.std.proofs.Common.{◌≡◌, ℕ, ◌+◌, ◌-◌, ◌*◌, ◌/◌, ◌%◌, ◌<◌, ◌≤◌, Bool, true, false, ltb, ◌⊎◌, List, Option, Some, None, length, get_or, set, sym, refl, ap, ◌∙◌, inl, inr, ⊎_elim, true≢false, mul-le-mul_right, mod-eq_of_lt, arith, ltb→lt, length-set, get_or-set_other, get_or-set_same}
+use Rattle.std.proofs.Common.{◌≡◌, ℕ, ◌+◌, ◌-◌, ◌*◌, ◌/◌, ◌%◌, ◌<◌, ◌≤◌, true, false, ltb, ◌⊎◌, List, Option, Some, None, length, get_or, set, sym, refl, ap, ◌∙◌, inl, inr, ⊎_elim, true≢false, mul-le-mul_right, mod-eq_of_lt, arith, ltb→lt, length-set, get_or-set_other, get_or-set_same}
 use Rattle.std.specs.Option.{SomeIff, is_some}
 use native.Mathlib.Decide.{ℕ_discrete}
 use Rattle.planning.proofs.Test.{by_test}

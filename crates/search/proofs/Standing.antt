@@ -1,7 +1,6 @@
 -- Laws of plans that stand in the buffer: none do at first, bytes written behind them leave them, one may be noted, and a copy of one is that plan
 -- written. Assumes nothing.
-use Rattle.std.proofs.Common.{◌≡◌, ℕ, ◌+◌, ◌-◌, ◌*◌, ◌<◌, ◌≤◌, List, length, get_or, set, replicate, refl, ap, ◌∙◌, ⊎_elim, arith, length-set, get_or-set_other, get_or-set_same}
-use native.Mathlib.Decide.{ℕ_discrete}
+use Rattle.std.proofs.Common.{◌≡◌, ℕ, ◌+◌, ◌-◌, ◌<◌, ◌≤◌, List, length, get_or, set, replicate, ap, ◌∙◌, ⊎_elim, arith, length-set}
 use lib.ListN.{length-replicate}
 use Rattle.planning.specs.Plan.{Plan, encode}
 use Rattle.planning.specs.Search.{Result, succeeded}

@@ -1,6 +1,6 @@
 -- The estimate of a packed state from rows: what each value of each variable adds to the index in each pattern's table. Assumes nothing.
 use Rattle.std.specs.Prelude.{◌≡◌, ℕ, zero, suc, ◌+◌, ◌-◌, ◌*◌, ◌/◌, ◌%◌, ◌<◌, cond, List, nat_le, nat_lt, slice_index, slice_index_or}
-use Rattle.planning.specs.Extended.{ℕ∞, fin, inf, add∞, ◌≤?◌}
+use Rattle.planning.specs.Extended.{ℕ∞, fin, add∞, ◌≤?◌}
 use Rattle.planning.specs.Table.{cost_of}
 
 -- What value x of variable v adds to the index in pattern p.

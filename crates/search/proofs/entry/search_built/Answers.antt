@@ -1,5 +1,5 @@
 -- `search::entry::search_built` meets its contract: the search of words is the search of the task. Assumes nothing.
-use Rattle.std.proofs.Common.{length, ap, ◌∙◌, arith, rules}
+use Rattle.std.proofs.Common.{length, ap, ◌∙◌, arith}
 use Rattle.patterns.proofs.Reading.{patterns_length}
 use Rattle.task_record.proofs.SoundTask.{variables_right, patterns_right}
 use Rattle.search.specs.Answer.{answer_of, buffer_of}

@@ -2,7 +2,7 @@
 -- actions: those left, from the count so far, are the whole examination (`Examining`). Invariant of the loop over outcomes: the result of the
 -- outcomes left makes that of the whole row (`Following`). Both keep a memory that is true. The depth falls by the action's weight from
 -- `outcomes` to `examine`. Assumes nothing.
-use Rattle.std.proofs.Common.{◌+◌, ◌-◌, length, sym, refl, ap, ◌∙◌, arith, ltb-false, ltb-true}
+use Rattle.std.proofs.Common.{length, sym, refl, ap, ◌∙◌, arith, ltb-false, ltb-true}
 use Rattle.tables.specs.Packed.{action_weight}
 use Rattle.search.proofs.Looking.{seen_decided, seen_open}
 use Rattle.search.proofs.Examining.{examining_begins, action_known, action_asks, action_stops, action_fails, win_counted, action_wins, examining_ends, action_refused, following_begins, outcome_examinable, outcome_stops, outcome_fails, outcome_small, outcome_succeeds, following_ends}

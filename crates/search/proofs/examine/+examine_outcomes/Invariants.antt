@@ -2,7 +2,7 @@
 -- actions: those left, from the count so far, are the whole examination (`Examining`). Invariant of the loop over outcomes: the result of the
 -- outcomes left makes that of the whole row (`Following`). Both keep a memory that is true. The depth falls by the action's weight from
 -- `outcomes` to `examine`. Assumes nothing.
-use Rattle.std.proofs.Common.{◌≡◌, ◌+◌, ◌-◌, ◌*◌, length}
+use Rattle.std.proofs.Common.{◌≡◌, ◌+◌, ◌*◌, length}
 use Rattle.search.proofs.Examining.{Examining, Following}
 use Rattle.search.proofs.examine.+examine_outcomes.Given as goal
 

@@ -1,5 +1,5 @@
 -- `search::memory::recall` meets its contract: the slot that it read says what it answers. Assumes nothing.
-use Rattle.std.proofs.Common.{◌∙◌, arith}
+use Rattle.std.proofs.Common.{◌∙◌}
 use Rattle.search.specs.Memory.{said_by}
 use Rattle.search.proofs.Trying.{not_zero}
 use Rattle.search.proofs.memory.recall.Goals as goal

@@ -1,5 +1,5 @@
 -- `search::owners::fill_owners` meets its contract. The loop's invariant: every affected pattern below p is the owner. Assumes nothing.
-use Rattle.std.proofs.Common.{◌<◌, ◌∙◌, arith, rules}
+use Rattle.std.proofs.Common.{◌<◌, arith, rules}
 use Rattle.task_record.specs.Numbers.{pattern_count}
 use Rattle.search.proofs.Owning.{owning_begins, owning_goes_on, owning_ends}
 use Rattle.search.proofs.Props.{known}

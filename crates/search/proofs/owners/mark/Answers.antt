@@ -1,5 +1,5 @@
 -- `search::owners::mark` meets its contract. The loop's invariant: actions below m are marked. Assumes nothing.
-use Rattle.std.proofs.Common.{◌<◌, sym, ◌∙◌, arith, rules}
+use Rattle.std.proofs.Common.{◌<◌, sym, ◌∙◌, arith}
 use Rattle.task_record.specs.Numbers.{action_count}
 use Rattle.task_record.proofs.SoundTask.{actions_right}
 use Rattle.tables.proofs.SoundPacked.{compiled_outcomes_few}

@@ -1,6 +1,5 @@
 -- `search::rounds::run_from`, which calls itself where the count has passed the small memory, meets its contract: the rounds that are left are the whole. Assumes nothing.
-use Rattle.std.proofs.Common.{◌-◌, arith}
-use Rattle.search.specs.Answer.{Replies}
+use Rattle.std.proofs.Common.{arith}
 use Rattle.search.proofs.rounds.+run_from.Goals as goal
 
 pub run_from-requires : goal.run_from-requires

@@ -1,6 +1,5 @@
 -- `search::rounds::conclude` meets its contract: what each end of the rounds leaves. Assumes nothing.
 use Rattle.std.proofs.Common.{arith}
-use Rattle.search.specs.Answer.{Concludes, Replies}
 use Rattle.search.proofs.Conclusions.{ends_over, ends_spent}
 use Rattle.search.proofs.rounds.conclude.Goals as goal
 

@@ -1,6 +1,5 @@
 -- `search::rounds::deepen` meets its contract. Invariant: the rounds left from the count so far are the whole. Assumes nothing.
-use Rattle.std.proofs.Common.{◌-◌, refl, ◌∙◌, arith}
-use Rattle.search.specs.Answer.{Concludes}
+use Rattle.std.proofs.Common.{refl, ◌∙◌, arith}
 use Rattle.search.proofs.Conclusions.{rounds-over, round_stops, round_found, round_fails}
 use Rattle.search.proofs.Endings.{told_success, told_failure, told_stop}
 use Rattle.search.proofs.rounds.deepen.Goals as goal

@@ -1,6 +1,4 @@
 -- `search::rounds::run_large` meets its contract: no budget has more examinations than its rounds may make. Assumes nothing.
-use Rattle.std.proofs.Common.{arith}
-use Rattle.search.specs.Answer.{Replies}
 use Rattle.search.proofs.Conclusions.{always_ends}
 use Rattle.search.proofs.rounds.run_large.Goals as goal
 

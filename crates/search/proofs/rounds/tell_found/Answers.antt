@@ -1,5 +1,5 @@
 -- `search::rounds::tell_found` meets its contract: too long, or written and filled up. Assumes nothing.
-use Rattle.std.proofs.Common.{refl, arith}
+use Rattle.std.proofs.Common.{arith}
 use Rattle.search.proofs.Conclusions.{too_long, fits, rest_filled}
 use Rattle.search.proofs.rounds.tell_found.Goals as goal
 

@@ -1,5 +1,5 @@
 -- `search::rows::fill_pattern` meets its contract. The loop's invariant: variables below v have their rows. Assumes nothing.
-use Rattle.std.proofs.Common.{◌<◌, ◌∙◌, arith, rules}
+use Rattle.std.proofs.Common.{◌<◌, arith, rules}
 use Rattle.task_record.specs.Layout.{at_pattern}
 use Rattle.task_record.specs.Numbers.{variable_count}
 use Rattle.task_record.specs.TaskOf.{cells_at, task_of}
@@ -26,7 +26,7 @@ pub weight_after-weight-requires : goal.weight_after-weight-requires
 weight_after-weight-requires c = let b = c.args.built.now in let q = known b.prepared in let r = b.rec.now in
     let t : c.loop-v.v < variable_count r = rw c.variable_count-v-end.ensures at c.loop-v-test.true in
     rw (c.size_of.ensures, ← (size_read r q.sound c.loop-v.v t), c.from.ensures, c.pattern_cells-cells.ensures)
-        (next_small (task_of r).sizes (cells_at r (at_pattern c.args.p)) (sizes_within r q.sound c.args.p c.requires) c.loop-v.invariant.0 (omega (arith, sizes_number r q.sound)) (sizes_positive r q.sound) (pattern_small r q.sound q.small c.args.p c.requires))
+    (next_small (task_of r).sizes (cells_at r (at_pattern c.args.p)) (sizes_within r q.sound c.args.p c.requires) c.loop-v.invariant.0 (omega (arith, sizes_number r q.sound)) (sizes_positive r q.sound) (pattern_small r q.sound q.small c.args.p c.requires))
 
 pub loop-v-smaller : goal.loop-v-smaller
 loop-v-smaller c = rw (← c.variable_count-v-end.ensures) (omega arith)

@@ -1,5 +1,5 @@
 -- `search::rows::fill_rows` meets its contract. The loop's invariant: patterns below p have their rows and offsets. Assumes nothing.
-use Rattle.std.proofs.Common.{◌<◌, ◌∙◌, arith, rules}
+use Rattle.std.proofs.Common.{◌<◌, arith, rules}
 use Rattle.task_record.specs.Numbers.{pattern_count}
 use Rattle.task_record.specs.TaskOf.{task_of, patterns_of}
 use Rattle.task_record.proofs.SoundTask.{patterns_right}

@@ -1,5 +1,5 @@
 -- `search::rows::fill_values` meets its contract. The loop's invariant: values below x have their rows. Assumes nothing.
-use Rattle.std.proofs.Common.{◌≤◌, ◌*◌, sym, ◌∙◌, mul-le-mul, arith, rules}
+use Rattle.std.proofs.Common.{◌≤◌, mul-le-mul, arith, rules}
 use Rattle.search.proofs.RowsFilled.{values_begin, values_go_on, values_end}
 use Rattle.search.proofs.rows.fill_values.Goals as goal
 

@@ -1,6 +1,6 @@
 -- `search::write::write_plan` meets its contract. Invariant of the loop: the outcomes left succeed, and their bytes after those written make the
 -- whole plan (`Underway`); what is known of plans that stand in the buffer is right. The depth falls. Assumes nothing.
-use Rattle.std.proofs.Common.{◌-◌, refl, ◌∙◌, arith}
+use Rattle.std.proofs.Common.{refl, ◌∙◌, arith}
 use Rattle.search.proofs.Standing.{stands_before, stands_sized, copy_written}
 use Rattle.search.proofs.Writing.{acts, arrived-written, underway_begins, next_writable, underway_goes_on, underway_ends}
 use Rattle.search.proofs.write.+write_plan.Goals as goal

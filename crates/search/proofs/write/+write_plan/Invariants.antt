@@ -1,6 +1,6 @@
 -- `search::write::write_plan` meets its contract. Invariant of the loop: the outcomes left succeed, and their bytes after those written make the
 -- whole plan (`Underway`); what is known of plans that stand in the buffer is right. The depth falls. Assumes nothing.
-use Rattle.std.proofs.Common.{◌≡◌, ◌-◌, length}
+use Rattle.std.proofs.Common.{◌≡◌, length}
 use Rattle.search.proofs.Writing.{Underway}
 use Rattle.search.proofs.write.+write_plan.Given as goal
 

@@ -1,5 +1,4 @@
 -- `search::write::start_of` meets its contract: a goal, what the slot says, or what examining the state again answers. Assumes nothing.
-use Rattle.std.proofs.Common.{arith}
 use Rattle.search.specs.Packed.{guided_value}
 use Rattle.search.proofs.Writing.{goal_starts, recalled_starts, again_examinable, never_stops, never_fails, examined_starts}
 use Rattle.search.proofs.write.start_of.Goals as goal
