@@ -3,26 +3,14 @@
 use mathlib.Core.Path.{◌≡◌, refl}
 use mathlib.Core.Bool.{Bool, true, false}
 use mathlib.Core.List.{List, [], ◌∷◌}
-use Prim.Native.Nat.{ℕ, suc, ◌+◌, ◌≤◌}
+use Prim.Native.Nat.{ℕ, suc, ◌+◌}
 use native.Mathlib.Omega.{arith}
-use lib.ListN.{length, take, drop, set, drop_of_length-le}
+use lib.ListN.{length, take, drop, set}
 use Rattle.std.proofs.Common.{Option, Some, None}
 use Rattle.reader.specs.declared.lists.Gathered.{Gathered}
 use Rattle.reader.specs.declared.lists.Pair.{Pair}
-use Rattle.reader.specs.Text.{comma, colon, index_of, pieces, well_formed, number_of}
+use Rattle.reader.specs.Text.{comma, colon, index_of, pieces, number_of}
 use Rattle.reader.specs.Lists.{pair_named, pair_from, pair_of, pair_fits, pair_step, listed}
-
-from_ill : (d : Option ℕ) → pair_from d None ≡ None
-from_ill (Some v) = refl
-from_ill None = refl
-
-number_none : number_of [] ≡ None
-unfolding number_of well_formed
-number_none = refl
-
-pub pair_no_colon : (p : List ℕ) → length p ≤ index_of colon p → pair_of p ≡ None
-unfolding pair_of
-pair_no_colon p h = rw (drop_of_length-le p {i = index_of colon p + 1} (omega arith), number_none, from_ill)
 
 pub pair_parts : (p : List ℕ) (k : ℕ) (a b : Option ℕ) → k ≡ index_of colon p → a ≡ number_of (take k p) → b ≡ number_of (drop (k + 1) p) → pair_of p ≡ pair_from a b
 unfolding pair_of

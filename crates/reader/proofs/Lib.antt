@@ -4,7 +4,6 @@ pub mod Split
 pub mod Keys
 pub mod Decimals
 pub mod Stores
-pub mod Pairs
 pub mod Items
 pub mod Lines
 pub mod LastLine

@@ -5,10 +5,10 @@ use mathlib.Core.Bool.{Bool, true, false, cond}
 use mathlib.Core.List.{List, [], ◌∷◌}
 use Prim.Native.Nat.{ℕ, zero, suc, ◌+◌, ◌≤◌, ◌<◌}
 use native.Mathlib.Nat.{not-suc-le-zero}
-use native.Mathlib.Omega.{arith}
-use lib.Dec.{ltb, eqb, leb-suc-suc}
+use lib.Dec.{eqb}
 use lib.ListN.{length, take, drop, get_or, drop_of_length-le}
-use borrow.Author.Tests.{lt-ltb, eq-eqb, ne_eqb}
+use borrow.Author.Tests.{eq-eqb, ne_eqb}
+use Rattle.std.specs.List.{slice_split, onto_first}
 use Rattle.reader.specs.Text.{line_break, index_of, push, pieces, lines_of}
 use Rattle.task_record.proofs.Rest.{drop_step}
 
@@ -24,26 +24,15 @@ pub index_end : (s : List ℕ) (i b : ℕ) → length s ≤ i → index_of b (dr
 unfolding index_of
 index_end s i b h = rw (drop_of_length-le s h)
 
-pub index_le : (b : ℕ) (s : List ℕ) → index_of b s ≤ length s
-unfolding index_of
-index_le b [] = omega arith
-index_le b (x ∷ xs) = go (eqb x b) (index_le b xs)
-  where
-    go : (t : Bool) → index_of b xs ≤ length xs → cond t zero (suc (index_of b xs)) ≤ suc (length xs)
-    go true h = omega arith
-    go false h = omega arith
+onto_push : (x : ℕ) (ps : List (List ℕ)) → onto_first x ps ≡ push x ps
+onto_push x [] = refl
+onto_push x (p ∷ ps) = refl
 
-pub pieces_next : (b : ℕ) (t : List ℕ) → pieces b t ≡ take (index_of b t) t ∷ cond (ltb (index_of b t) (length t)) (pieces b (drop (suc (index_of b t)) t)) []
-unfolding pieces index_of
-pieces_next b [] = refl
-pieces_next b (x ∷ xs) = go (eqb x b) (pieces_next b xs)
-  where
-    go : (t : Bool) → pieces b xs ≡ take (index_of b xs) xs ∷ cond (ltb (index_of b xs) (length xs)) (pieces b (drop (suc (index_of b xs)) xs)) []
-        → cond t ([] ∷ pieces b xs) (push x (pieces b xs))
-        ≡ take (cond t zero (suc (index_of b xs))) (x ∷ xs)
-        ∷ cond (ltb (cond t zero (suc (index_of b xs))) (suc (length xs))) (pieces b (drop (suc (cond t zero (suc (index_of b xs)))) (x ∷ xs))) []
-    go true ih = rw (lt-ltb 0 (suc (length xs)) (omega arith))
-    go false ih = rw (ih, leb-suc-suc (suc (index_of b xs)) (length xs))
+-- the pieces are the parts that `split` gives
+pub split_pieces : (b : ℕ) (s : List ℕ) → slice_split (λ x. eqb x b) s ≡ pieces b s
+unfolding pieces
+split_pieces b [] = refl
+split_pieces b (x ∷ xs) = rw (split_pieces b xs, onto_push x (pieces b xs))
 
 lines_cons : (x : ℕ) (xs : List ℕ) → lines_of (x ∷ xs) ≡ take (index_of line_break (x ∷ xs)) (x ∷ xs) ∷ lines_of (drop (suc (index_of line_break (x ∷ xs))) (x ∷ xs))
 unfolding lines_of index_of

@@ -22,10 +22,6 @@ pair_from (Some v) (Some x) = pair_named v x
 unfoldable pub pair_of : List ℕ → Option Pair
 pair_of p = pair_from (number_of (take (index_of colon p) p)) (number_of (drop (index_of colon p + 1) p))
 
--- the first of the pieces of a list's text
-abbrev pub first_piece : List ℕ → List ℕ
-first_piece s = take (index_of comma s) s
-
 -- A piece of a list as variable and value. "need, eff and goal hold variable:value pairs ..": Pairs. "start holds N values": Values, the value of
 -- the variable that comes next. "pattern holds ascending variables": Members, marked 1 ("byte 1 if the variable is in, else 0").
 unfoldable pub item_of : Kind → ℕ → List ℕ → Option Pair

@@ -17,11 +17,6 @@ unfoldable pub index_of : ℕ → List ℕ → ℕ
 index_of b [] = zero
 index_of b (x ∷ xs) = cond (eqb x b) zero (suc (index_of b xs))
 
--- the index of the first a or b, or the length where there is neither
-unfoldable pub index_of_either : ℕ → ℕ → List ℕ → ℕ
-index_of_either a b [] = zero
-index_of_either a b (x ∷ xs) = cond (eqb x a) zero (cond (eqb x b) zero (suc (index_of_either a b xs)))
-
 -- x in front of the first of some pieces, or a piece of its own where there is none
 abbrev pub push : ℕ → List (List ℕ) → List (List ℕ)
 push x [] = (x ∷ []) ∷ []

@@ -1,11 +1,10 @@
 // The three kinds of list, each read in one pass into its sixteen cells. The pass remembers both kinds of fault, so that the form of the whole list
 // goes before its rules without a second pass. Assumes nothing.
 ghost use Rattle.std.specs.Prelude.{◌≡◌, true, ◌<◌};
-ghost use Rattle.reader.specs.Text.{comma, index_of};
-ghost use Rattle.reader.specs.Lists.{first_piece, pair_from, pair_of, item_of, pair_fits, pair_step, no_items, list_of, is_values, unnamed, whole_list};
+ghost use Rattle.reader.specs.Lists.{pair_from, item_of, pair_fits, pair_step, no_items, list_of, is_values, unnamed, whole_list};
 
 use crate::decimal::number;
-use crate::pieces::{COLON, COMMA, find, find_either};
+use crate::pieces::{COLON, COMMA, cut};
 use crate::store::{cell_at, put};
 use task_record::layout::{AT_SIZES, AT_VARIABLES, ROW_SIZE, UNNAMED};
 
@@ -33,13 +32,6 @@ pub struct Gathered {
     pub cells: [u8; ROW_SIZE],
 }
 
-// What the first piece of a list says, where it has the form, and its length.
-#[derive(Clone, Copy)]
-pub struct Piece {
-    pub pair: Option<Pair>,
-    pub len: usize,
-}
-
 // What two numbers say.
 fn join(v: Option<usize>, x: Option<usize>) -> Option<Pair>
     ensures { result ≡ pair_from v x }
@@ -49,45 +41,24 @@ fn join(v: Option<usize>, x: Option<usize>) -> Option<Pair>
     Some(Pair { variable, value })
 }
 
-// The first piece of a list of pairs: up to the first comma, parted by the first colon before it. Each byte is looked at once.
-fn first_pair(s: &[u8]) -> Piece
-    ensures { (result.pair ≡ pair_of (first_piece s.now)) × (result.len ≡ index_of comma s.now) }
-{
-    let k = find_either(s, COLON, COMMA);
-    if s.len() <= k {
-        return Piece { pair: None, len: k };
-    }
-    if s[k] != COLON {
-        return Piece { pair: None, len: k };
-    }
-    let rest = &s[k + 1..];
-    let e = find(rest, COMMA);
-    let v = number(&s[..k]);
-    let x = number(&rest[..e]);
-    let pair = join(v, x);
-    Piece {
-        pair,
-        len: k + 1 + e,
-    }
-}
-
-// The first piece of a list, where `next` is the variable that comes next.
-fn first_item(kind: Kind, next: usize, s: &[u8]) -> Piece
-    ensures { (result.pair ≡ item_of kind next (first_piece s.now)) × (result.len ≡ index_of comma s.now) }
+// What a piece of a list says, where `next` is the variable that comes next.
+fn item_of(kind: Kind, next: usize, piece: &[u8]) -> Option<Pair>
+    ensures { result ≡ item_of kind next piece.now }
 {
     match kind {
-        Kind::Pairs => first_pair(s),
+        Kind::Pairs => {
+            let parts = cut(piece, COLON);
+            let v = number(parts.0);
+            let x = number(parts.1);
+            join(v, x)
+        }
         Kind::Values => {
-            let k = find(s, COMMA);
-            let x = number(&s[..k]);
-            let pair = join(Some(next), x);
-            Piece { pair, len: k }
+            let x = number(piece);
+            join(Some(next), x)
         }
         Kind::Members => {
-            let k = find(s, COMMA);
-            let v = number(&s[..k]);
-            let pair = join(v, Some(1));
-            Piece { pair, len: k }
+            let v = number(piece);
+            join(v, Some(1))
         }
     }
 }
@@ -170,16 +141,11 @@ pub(crate) fn read_list(rec: &[u8], kind: Kind, text: &[u8]) -> Gathered
             return gathered;
         }
     }
-    let mut rest = text;
-    // Stays: a loop, since `split` looks for the comma before the piece is read, and so at each byte twice.
-    loop {
-        let item = first_item(kind, gathered.next, rest);
-        gathered.add(rec, item.pair);
-        if rest.len() <= item.len {
-            return gathered;
-        }
-        rest = &rest[item.len + 1..];
+    for piece in text.split(|b| *b == COMMA) {
+        let item = item_of(kind, gathered.next, piece);
+        gathered.add(rec, item);
     }
+    gathered
 }
 
 // Whether a list of values has one for each of n variables.

@@ -1,6 +1,6 @@
 // Where a text is parted, and whether it begins with a key that it has room for. Assumes nothing else.
 ghost use Rattle.std.specs.Prelude.{◌≡◌, ◌+◌, ◌≤◌, eqb, length, take, drop};
-ghost use Rattle.reader.specs.Text.{index_of, index_of_either, has_key};
+ghost use Rattle.reader.specs.Text.{index_of, has_key};
 
 pub const LINE_BREAK: u8 = b'\n';
 
@@ -29,21 +29,6 @@ pub(crate) fn cut(s: &[u8], b: u8) -> (&[u8], &[u8])
         return (&s[..k], &s[k + 1..]);
     }
     (s, &s[s.len()..])
-}
-
-// The index of the first a or b, or the length where there is neither.
-pub(crate) fn find_either(s: &[u8], a: u8, b: u8) -> usize
-    ensures { result ≡ index_of_either a b s.now }
-{
-    for (i, x) in s.iter().enumerate() {
-        if *x == a {
-            return i;
-        }
-        if *x == b {
-            return i;
-        }
-    }
-    s.len()
 }
 
 // 0 where two bytes are the same, else 1: so faults are gathered by `|`, and a key that is known is compared as a word and not byte by byte.

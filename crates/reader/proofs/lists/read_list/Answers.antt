@@ -1,20 +1,21 @@
--- `reader::lists::read_list` meets its contract: an empty list, one piece more, the last piece. Assumes nothing.
-use Prim.Native.Nat.{◌+◌, ◌<◌, ◌≤◌, ℕ, suc}
-use borrow.Author.Tests.{lt-ltb, le-ltb}
-use lib.ListN.{drop, length, length-drop}
+-- `reader::lists::read_list` meets its contract: an empty list, one piece more, no piece left. Assumes nothing.
+use Prim.Native.Nat.{◌+◌, ◌<◌, ℕ}
+use lib.Dec.{eqb}
+use lib.ListN.{drop, get_or, length}
 use mathlib.Core.Bool.{false}
-use mathlib.Core.List.{List, [], ◌∷◌}
+use mathlib.Core.List.{List}
 use mathlib.Core.Path.{◌∙◌, ◌≡◌, ap, sym}
 use native.Mathlib.Omega.{arith}
-use Rattle.std.proofs.Common.{Option}
-use Rattle.reader.specs.Lists.{first_piece, is_values, item_of, list_from, list_of, listed, no_items, pair_step}
-use Rattle.reader.specs.Text.{comma, index_of, pieces}
+use Rattle.std.proofs.Common.{rules, tests}
+use Rattle.std.proofs.lemmas.Iterator.Splits.{YieldsList-from_slice_split}
+use Rattle.std.proofs.lemmas.Iterator.Consumers.{YieldsList-turn, YieldsList-end}
+use Rattle.std.proofs.lemmas.List.{at_drop_more, at_drop_all, length_push}
+use Rattle.reader.specs.Lists.{is_values, item_of, list_from, list_of, listed, no_items, pair_step}
+use Rattle.reader.specs.Text.{comma, pieces}
 use Rattle.reader.specs.declared.lists.Gathered.{Gathered}
 use Rattle.reader.specs.declared.lists.Kind.{Kind}
-use Rattle.reader.specs.declared.lists.Pair.{Pair}
-use Rattle.task_record.proofs.Rest.{part_rest}
 use Rattle.reader.proofs.Items.{listed_none, listed_some, listed_values}
-use Rattle.reader.proofs.Split.{pieces_next}
+use Rattle.reader.proofs.Split.{split_pieces}
 use Rattle.reader.proofs.lists.read_list.Goals.{then-text-eq0+else-not-is_values, else-text-eq0}
 use Rattle.reader.proofs.lists.read_list.Goals as goal
 
@@ -27,57 +28,42 @@ module _ (r : List ℕ) (kind : Kind) where
   unfolding list_of list_from
   empty-list v g e f h = rw (e, f, listed_none v h)
 
-  one-piece : (t : List ℕ) (more : List (List ℕ)) (g g' : Gathered) (p : Option Pair) → p ≡ item_of kind g.next (first_piece t) → g' ≡ pair_step r g p
-      → pieces comma t ≡ first_piece t ∷ more → list_from r kind g (pieces comma t) ≡ list_from r kind g' more
+  next-piece : (ps : List (List ℕ)) (n : ℕ) (p : List ℕ) (g g' : Gathered) → (n < length ps) × (p ≡ get_or ps n p) → g' ≡ pair_step r g (item_of kind g.next p)
+      → list_from r kind g (drop n ps) ≡ list_from r kind g' (drop (n + 1) ps)
   unfolding list_from
-  one-piece t more g g' p e f h = rw (h, f, e)
-
--- a piece before a comma, and the last
-
-pieces_more : (t : List ℕ) (k : ℕ) → k ≡ index_of comma t → k < length t → pieces comma t ≡ first_piece t ∷ pieces comma (drop (k + 1) t)
-pieces_more t k e h = let f : suc k ≡ k + 1 = omega arith in pieces_next comma t ∙ rw (← e, lt-ltb k (length t) h, f)
-
-pieces_end : (t : List ℕ) (k : ℕ) → k ≡ index_of comma t → length t ≤ k → pieces comma t ≡ first_piece t ∷ []
-pieces_end t k e h = pieces_next comma t ∙ rw (← e, le-ltb k (length t) h)
+  next-piece ps n p g g' h e =
+      at_drop_more (list_from r kind g) ps n p h.0
+      ∙ ap (λ (q : List ℕ). list_from r kind (pair_step r g (item_of kind g.next q)) (drop (n + 1) ps)) (sym h.1)
+      ∙ ap (λ (z : Gathered). list_from r kind z (drop (n + 1) ps)) (sym e)
 
 pub returns-then-not-is_values : goal.returns-then-not-is_values
 returns-then-not-is_values c =
     let a = c.args in
     empty-list a.rec.now a.kind a.text.now c.new-gathered.result c.new-gathered.ensures (sym c.is_values.ensures ∙ c.if-not-is_values.true) c.if-text-eq0.true
 
-pub loop-rest-init : goal.loop-rest-init
-loop-rest-init c =
-    let a = c.args in (
-      omega arith,
-      list-begins a.rec.now a.kind a.text.now c.new-gathered.result c.new-gathered.ensures
-          (elim c.if-text-eq0.branch [
-            | then-text-eq0+else-not-is_values w ↦ ap (λ b. listed b a.text.now) (sym w.is_values.ensures ∙ w.if-not-is_values.false) ∙ listed_values a.text.now
-            | else-text-eq0 w ↦ listed_some (is_values a.kind) a.text.now w.if-text-eq0.false
-          ]),
-    )
+pub loop-piece-init : goal.loop-piece-init
+loop-piece-init c =
+    let a = c.args in
+    list-begins a.rec.now a.kind a.text.now c.new-gathered.result c.new-gathered.ensures
+    (elim c.if-text-eq0.branch [
+      | then-text-eq0+else-not-is_values w ↦ ap (λ b. listed b a.text.now) (sym w.is_values.ensures ∙ w.if-not-is_values.false) ∙ listed_values a.text.now
+      | else-text-eq0 w ↦ listed_some (is_values a.kind) a.text.now w.if-text-eq0.false
+    ])
 
-pub returns-then-rest-item : goal.returns-then-rest-item
+pub loop-piece-preserved : goal.loop-piece-preserved
+loop-piece-preserved c =
+    let a = c.args in
+    let l = c.loop-piece in
+    let i = c.in-Some.piece in
+    let t = YieldsList-turn (YieldsList-from_slice_split _ (λ x. eqb x comma) a.text.now (cc) (cc) (cc) (λ x r q k. search (rules, tests))) l.yielded _ l.yielded_by _ _ i c.in-Some.is c.next.ensures.steps in
+    l.invariant
+    ∙ next-piece a.rec.now a.kind (pieces comma a.text.now) (length l.yielded) i.now l.gathered c.add.new.self (rw (split_pieces comma a.text.now) at t) (c.add.ensures ∙ ap (pair_step a.rec.now l.gathered) c.item_of-item.ensures)
+    ∙ ap (λ (n : ℕ). list_from a.rec.now a.kind c.add.new.self (drop n (pieces comma a.text.now))) (sym (length_push l.yielded i))
+
+pub returns : goal.returns
 unfolding list_from
-returns-then-rest-item c =
+returns c =
     let a = c.args in
-    let l = c.loop-rest in
-    let i = c.first_item-item in
-    let t = l.rest.now in
-    sym (l.invariant.1 ∙ one-piece a.rec.now a.kind t [] l.gathered c.add.new.self i.result.pair i.ensures.0 c.add.ensures (pieces_end t i.result.len i.ensures.1 c.if-rest-item.true))
-
-pub overflow_add-rest : goal.overflow_add-rest
-overflow_add-rest c = omega (arith, c.loop-rest.invariant.0, c.if-rest-item.false)
-
-pub loop-rest-preserved : goal.loop-rest-preserved
-loop-rest-preserved c =
-    let a = c.args in
-    let l = c.loop-rest in
-    let i = c.first_item-item in
-    let t = l.rest.now in
-    let e = part_rest t (i.result.len + 1) in
-    let n = ap length e ∙ length-drop (i.result.len + 1) t in (
-      omega (arith, n, l.invariant.0),
-      l.invariant.1
-          ∙ one-piece a.rec.now a.kind t (pieces comma (drop (i.result.len + 1) t)) l.gathered c.add.new.self i.result.pair i.ensures.0 c.add.ensures (pieces_more t i.result.len i.ensures.1 c.if-rest-item.false)
-          ∙ ap (λ (s : List ℕ). list_from a.rec.now a.kind c.add.new.self (pieces comma s)) (sym e),
-    )
+    let l = c.loop-piece in
+    let t = YieldsList-end (YieldsList-from_slice_split _ (λ x. eqb x comma) a.text.now (cc) (cc) (cc) (λ x r q k. search (rules, tests))) l.yielded _ l.yielded_by _ _ c.in-None.is c.next.ensures.steps in
+    sym (l.invariant ∙ at_drop_all (list_from a.rec.now a.kind l.gathered) (pieces comma a.text.now) (length l.yielded) (omega (arith, rw (split_pieces comma a.text.now) at t.1)))
