@@ -40,14 +40,21 @@ states_of p = state_count (take p.variables p.sizes) p.picked
 abbrev pub TableOf : Patterned → List ℕ → Type 0
 TableOf p entries = Built p.task p.actions p.variables p.sizes p.picked entries
 
+-- How many abstract states pattern number p of a record has, and the entries of its table as it is defined.
+abbrev pub states_at : List ℕ → ℕ → ℕ
+states_at r p = state_count (task_of r).sizes (cells_at r (at_pattern p))
+
+abbrev pub entries_at : List ℕ → ℕ → List ℕ
+entries_at r p = map entry_of (table (task_of r) (cells_at r (at_pattern p)))
+
 -- The words are the record's compiled task, the sizes are the record's, and the number names a pattern of few states.
 pub record Chosen (r task sizes : List ℕ) (p : ℕ) : Type 0 where
   pub task_is : task ≡ compiled (task_of r)
   pub sixteen : Sixteen (size_of r) sizes
   pub known : p < pattern_count r
-  pub few : state_count (task_of r).sizes (cells_at r (at_pattern p)) ≤ 4096
+  pub few : states_at r p ≤ 4096
 
 -- It is pattern number p of the record: it has as many states, and its table is the one that is defined.
 pub record PatternOf (r : List ℕ) (p : ℕ) (x : Patterned) : Type 0 where
-  pub states : states_of x ≡ state_count (task_of r).sizes (cells_at r (at_pattern p))
-  pub table_is : (entries : List ℕ) → TableOf x entries → entries ≡ map entry_of (table (task_of r) (cells_at r (at_pattern p)))
+  pub states : states_of x ≡ states_at r p
+  pub table_is : (entries : List ℕ) → TableOf x entries → entries ≡ entries_at r p

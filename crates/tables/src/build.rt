@@ -2,7 +2,7 @@
 ghost use Rattle.std.specs.Prelude.{◌≡◌, ◌≤◌, min, length};
 ghost use Rattle.tables.specs.Patterned.{states_of, TableOf};
 ghost use Rattle.tables.specs.Spaces.{space_of};
-ghost use Rattle.tables.specs.Certified.{Lookable, Finished};
+ghost use Rattle.tables.specs.Certified.{Finished};
 
 use crate::certify::is_certified;
 use crate::pattern::Pattern;
@@ -14,12 +14,12 @@ use crate::worklist::candidate;
 // A table from the goals backwards, and tested. One that is not right is made anew, by passes until one changes nothing. It needs much memory, which
 // small tables that are made otherwise do not touch.
 #[inline(never)]
-fn make(x: &Space<'_>, sizes: &[u8; 16], bytes: usize, entries: &mut [u16])
-    requires { (Lookable x.now.task.now x.now.mask x.now.actions bytes) × (length entries.old ≡ x.now.count) }
+fn make(x: &Space<'_>, entries: &mut [u16])
+    requires { length entries.old ≡ x.now.count }
     ensures { Finished (space_of x.now) entries.new }
 {
-    candidate(x.task, x.mask, x.weights, sizes, x.actions, entries);
-    if is_certified(x, bytes, entries) {
+    candidate(x.task, x.mask, x.weights, x.sizes, x.actions, entries);
+    if is_certified(x, x.bytes, entries) {
         return;
     }
     start(x.task, x.mask, x.states, entries);
@@ -39,8 +39,8 @@ fn few(states: usize) -> usize
 
 // The table over the states' words. Where every action may leave each state as it is, only the goals count. For at most 64 states a few passes are
 // tried first.
-fn build_over(x: &Space<'_>, sizes: &[u8; 16], bytes: usize, entries: &mut [u16])
-    requires { (Lookable x.now.task.now x.now.mask x.now.actions bytes) × (length entries.old ≡ x.now.count) }
+fn build_over(x: &Space<'_>, entries: &mut [u16])
+    requires { length entries.old ≡ x.now.count }
     ensures { Finished (space_of x.now) entries.new }
 {
     if x.live == 0 {
@@ -53,7 +53,7 @@ fn build_over(x: &Space<'_>, sizes: &[u8; 16], bytes: usize, entries: &mut [u16]
             return;
         }
     }
-    make(x, sizes, bytes, entries);
+    make(x, entries);
 }
 
 // A table with room for the words of so many states; none has more than 4,096.
@@ -67,13 +67,15 @@ fn build_within<const STATES: usize>(pattern: &Pattern, entries: &mut [u16])
     let space = Space {
         task: pattern.task,
         mask: pattern.mask,
+        sizes: &pattern.sizes,
         weights: &weights,
         states: &states,
         count: entries.len(),
+        bytes: (pattern.n + 1) / 2,
         actions: pattern.actions,
         live: pattern.live,
     };
-    build_over(&space, &pattern.sizes, (pattern.n + 1) / 2, entries);
+    build_over(&space, entries);
 }
 
 // Fills `entries` with the table of the pattern.

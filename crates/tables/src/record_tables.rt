@@ -1,12 +1,10 @@
 // All tables of a record: the build, and what a search needs before it starts.
-ghost use Rattle.std.specs.Prelude.{◌≡◌, ◌+◌, ◌≤◌, ◌++◌, map, length, take, drop};
-ghost use Rattle.planning.specs.Table.{state_count, table, entry_of};
-ghost use Rattle.task_record.specs.Layout.{at_pattern};
-ghost use Rattle.task_record.specs.TaskOf.{cells_at, task_of, start_of};
+ghost use Rattle.std.specs.Prelude.{◌≡◌, ◌+◌, ◌≤◌, ◌++◌, length, take, drop};
+ghost use Rattle.task_record.specs.TaskOf.{task_of, start_of};
 ghost use Rattle.patterns.specs.Answers.{tables_by_lines, estimate_by_lines};
 ghost use Rattle.tables.specs.Answers.{table_build_numbers, prepare_numbers};
 ghost use Rattle.tables.specs.Packed.{pack_by, low, compiled};
-ghost use Rattle.tables.specs.Patterned.{Chosen};
+ghost use Rattle.tables.specs.Patterned.{states_at, entries_at, Chosen};
 ghost use Rattle.tables.specs.RecordTables.{Fits, table_build, built_over, tables_built, tables_prepared, words_prepared, sets_prepared, start_prepared};
 
 use crate::applying::fill_sets;
@@ -29,8 +27,8 @@ fn build_one<B: TableBuilder>(
     begin: usize,
     tables: &mut [u16],
 ) -> usize
-    requires { (Chosen record.now task.now sizes p) × (begin + state_count (task_of record.now).sizes (cells_at record.now (at_pattern p)) ≤ length tables.old) }
-    ensures { (result ≡ begin + state_count (task_of record.now).sizes (cells_at record.now (at_pattern p))) × (tables.new ≡ take begin tables.old ++ (map entry_of (table (task_of record.now) (cells_at record.now (at_pattern p))) ++ drop result tables.old)) }
+    requires { (Chosen record.now task.now sizes p) × (begin + states_at record.now p ≤ length tables.old) }
+    ensures { (result ≡ begin + states_at record.now p) × (tables.new ≡ take begin tables.old ++ (entries_at record.now p ++ drop result tables.old)) }
 {
     let pattern = Pattern::of(record, task, sizes, p);
     let end = begin + pattern.states();

@@ -1,5 +1,5 @@
 -- `tables::build::build_within` meets its contract. Assumes nothing.
-use Rattle.std.proofs.Common.{◌≤◌, length, refl, ◌∙◌, arith, rules}
+use Rattle.std.proofs.Common.{◌≤◌, length, ◌∙◌, arith, rules}
 use Rattle.tables.proofs.Building.{parts_build, parts_indexed}
 use Rattle.tables.proofs.build.build_within.Given as given
 use Rattle.tables.proofs.build.build_within.Goals as goal
@@ -18,6 +18,9 @@ invariant_of-space-clause-actions_few g c = c.pattern.invariant.readable.actions
 pub invariant_of-space-clause-outcomes_few : goal.invariant_of-space-clause-outcomes_few
 invariant_of-space-clause-outcomes_few g c = c.pattern.invariant.readable.outcomes_few
 
+pub invariant_of-space-clause-lookable : goal.invariant_of-space-clause-lookable
+invariant_of-space-clause-lookable g c = c.pattern.invariant.lookable
+
 pub invariant_of-space-clause-few : goal.invariant_of-space-clause-few
 invariant_of-space-clause-few g c = let p = rw (← c.pattern.view_is) at c.requires in omega (arith, p.0, c.pattern.invariant.sized.states_few)
 
@@ -27,9 +30,6 @@ invariant_of-space-clause-long g c = let e = enough g (goal.at.invariant_of-spac
 pub invariant_of-space-clause-placed : goal.invariant_of-space-clause-placed
 invariant_of-space-clause-placed g c = let x = c.pattern.inside in let i = c.pattern.invariant in let p = rw (← c.pattern.view_is) at c.requires in
     λ k b. (parts_indexed x.task.now x.actions x.n x.mask x.sizes x.picked c.weights_of-weights.result _ c.args.entries.now i.masked c.weights_of-weights.ensures c.fill_states.ensures i.sized (omega (arith, p.0, enough g (goal.at.invariant_of-space-clause-placed g c).After-pattern, c.fill_states.auto.states))).place k (omega (arith, b, p.0))
-
-pub build_over-requires : goal.build_over-requires
-build_over-requires g c = (c.pattern.invariant.lookable, refl)
 
 pub returns : goal.returns
 returns g c = let x = c.pattern.inside in let i = c.pattern.invariant in let p = rw (← c.pattern.view_is) at c.requires in

@@ -1,14 +1,12 @@
 -- `build_one`: the part of the slice that the pattern's table takes. Assumes nothing.
 use Rattle.std.proofs.Common.{◌≡◌, ◌∙◌, arith}
-use Rattle.planning.specs.Table.{state_count}
-use Rattle.task_record.specs.Layout.{at_pattern}
-use Rattle.task_record.specs.TaskOf.{cells_at, task_of}
+use Rattle.tables.specs.Patterned.{states_at}
 use Rattle.tables.proofs.TableChain.{part_back, part_length}
 use Rattle.tables.proofs.record_tables.build_one.Given as given
 use Rattle.tables.proofs.record_tables.build_one.Goals as goal
 use Rattle.tables.proofs.record_tables.build_one.Goals.{After-states}
 
-states-known : (g : given.Over) (c : After-states g) → c.states.result ≡ state_count (task_of c.args.record.now).sizes (cells_at c.args.record.now (at_pattern c.args.p))
+states-known : (g : given.Over) (c : After-states g) → c.states.result ≡ states_at c.args.record.now c.args.p
 states-known g c = c.states.ensures ∙ c.of-pattern.ensures.states
 
 pub overflow_add-end : goal.overflow_add-end
