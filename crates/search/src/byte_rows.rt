@@ -24,6 +24,7 @@ pub(crate) struct Places {
     pub spans: [Option<Span>; 8],
 }
 
+// Stays: `as`: a word has no `From` into a place, and `try_from` has a case that never happens.
 fn lowest_byte(s: u64) -> usize
     ensures { (result ≡ s % 256) × (result < 256) }
 {
@@ -66,6 +67,7 @@ pub(crate) fn index_by_bytes(instance: &Instance, s: u64, p: usize) -> usize
 }
 
 // The entries of a block whose upper digit adds `high`.
+// Stays: by number: `low` is read and `sums` written at one place, and a loop over pairs of a part of `sums` and of `low` is no plainer.
 fn fill_sums(sums: &mut [u16; 4096], at: usize, low: [u16; 16], high: u16)
     requires { at + 16 ≤ 4096 }
     ensures { SumsFilled low high sums.old sums.new at }

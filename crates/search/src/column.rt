@@ -36,6 +36,7 @@ impl<'a> Column<'a> {
     }
 
     // The first variable that adds something, and the place after the last.
+    // Stays: `for` over numbers, since the variables' entries stand 128 apart: `iter().skip(8 + p).step_by(128)` says no more than the index does.
     pub(crate) fn first_used(&self) -> usize
         ensures { (result ≤ self.now.variables) × ((v : ℕ) → v < result → row_entry self.now.rows.now v 1 self.now.p ≡ 0) }
     {

@@ -1,5 +1,6 @@
 // The estimate of a packed state from rows: its index in a pattern's table, the entry there, and its value.
-// Asks for at most 8 patterns and 16 variables; the tables may be any.
+// Stays: `as` of a word and of a table's place into an index: they have no `From` into one, and `try_from` has a case that never happens.
+// Asks for a pattern of the instance; the tables may be any.
 ghost use Rattle.std.specs.Prelude.{◌≡◌, ◌+◌, ◌*◌, ◌%◌, ◌<◌, ◌≤◌, slice_index, slice_index_or};
 ghost use Rattle.patterns.specs.Value.{value_of};
 ghost use Rattle.search.specs.Value.{packed_index};

@@ -62,6 +62,7 @@ fn open_state(instance: &Instance, v: Visit) -> Opening
 }
 
 // An action's number as a plan's byte.
+// Stays: `as`: a place has no `From` into a byte, and `try_from` has a case that never happens with 64 actions.
 fn number_of(m: usize) -> u8
     requires { m < 64 }
     ensures { result ≡ m }
@@ -70,6 +71,7 @@ fn number_of(m: usize) -> u8
 }
 
 // The lowest number in a set that is not empty, and the set without it.
+// Stays: `as`: a count of bits has no `From` into a place.
 fn lowest(set: u64) -> usize
     requires { set ≡ 0 → ⊥ }
     ensures { result ≡ count_trailing_zeros 64 set }
@@ -104,6 +106,7 @@ fn look(instance: &Instance, memory: &[Slot], v: Visit) -> Option<Ending>
 }
 
 // Examines a state that opens: the actions that apply are tried by number, and the first that succeeds wins.
+// Stays: a `while` over the actions that are left: the loop's fact is one about the set that is left, and an iterator of its members is no plainer.
 #[cycle(examine_outcomes)]
 fn examine(instance: &Instance, memory: &mut [Slot], v: Visit) -> Ending
     requires { Openable instance.now memory.old v.s v.value v.d v.count }
@@ -133,7 +136,8 @@ fn examine(instance: &Instance, memory: &mut [Slot], v: Visit) -> Ending
 }
 
 // Examines the states after an action's outcomes, in order, up to the first that does not succeed, with the depth that the action leaves. Only a
-// state that opens is a call: most do not. The endings are taken apart in each arm, since a joined one would go through memory.
+// state that opens is a call: most do not. The endings are taken apart in each arm, since a joined one would go through memory. The call is handed a
+// copy of the visit: a visit that is handed to a call stands in memory, and `look` reads the other one from registers.
 #[cycle(examine_outcomes)]
 fn outcomes(instance: &Instance, memory: &mut [Slot], m: usize, v: Visit) -> Ending
     requires { (Examinable instance.now memory.old v.s v.value v.d v.count) × (m < instance.now.guide.actions) × (v.value < 256) }
@@ -164,7 +168,7 @@ fn outcomes(instance: &Instance, memory: &mut [Slot], m: usize, v: Visit) -> End
                     n += size;
                 }
             },
-            None => match examine(instance, memory, w) {
+            None => match examine(instance, memory, Visit { ..w }) {
                 Ending::Stopped(e) => return Ending::Stopped(e),
                 Ending::Failed(e) => return Ending::Failed(e),
                 Ending::Succeeded(e, size, _) => {

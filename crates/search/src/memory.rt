@@ -35,6 +35,7 @@ fn slot_of(s: u64, d: u32, slots: usize) -> usize
 }
 
 // What is known of examining state s with depth d, if it takes at most `room` examinations.
+// Stays: `as` of a part of the word: a word has no `From` into what is narrower, and `try_from` has a case that never happens.
 pub(crate) fn recall(memory: &[Slot], s: u64, d: u32, room: u32) -> Option<Recalled>
     requires { 1 ≤ length memory.now }
     ensures { Recalls memory.now s d room result }
@@ -87,6 +88,7 @@ fn taken(memory: &[Slot], i: usize) -> u32
 }
 
 // Whether most of some slots are taken; so are the others then, since the products spread the states.
+// Stays: by number: `taken` answers for a place that a short memory does not have.
 fn is_crowded(memory: &[Slot]) -> bool {
     let mut count = 0u32;
     for i in 0..8usize {

@@ -1,5 +1,6 @@
 // The owner of each action: the pattern that one of its outcomes names a variable of, 8 where there is none.
 // Asks for a built task, whose patterns are additive, so that there is at most one.
+// Stays: `for` over numbers, since actions, outcomes and patterns are asked for by their numbers.
 ghost use Rattle.std.specs.Prelude.{◌≡◌, ℕ, ◌<◌, ◌≤◌, List, length};
 ghost use Rattle.task_record.specs.Layout.{at_pattern};
 ghost use Rattle.task_record.specs.Numbers.{action_count, pattern_count, variable_count};
@@ -20,6 +21,7 @@ fn picked(x: u8) -> u64
 }
 
 // The digits of the variables that a pattern's cells name.
+// Stays: from the last cell down by number: the loop's fact is one about the cells from v on, and `iter().rev()` knows of those before.
 fn mask_in(cells: &[u8]) -> u64
     requires { length cells.now ≤ 16 }
     ensures { result ≡ pack_by picking cells.now }

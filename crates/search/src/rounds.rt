@@ -95,6 +95,7 @@ fn deepen(
 }
 
 // The plan of n bytes that a visit's depth has found with its count: written, if the buffer is long enough.
+// Stays: `as`: a number of 32 bits has no `From` into a length.
 fn tell_found(
     instance: &Instance,
     memory: &mut [Slot],

@@ -1,5 +1,6 @@
 // The rows of a task: what each value of each variable adds to the index in each pattern's table, and where each table begins.
 // Asks for a built task, whose patterns have at most 4,096 states each, so that every row entry is below 65,536.
+// Stays: `for` over numbers, since variables and patterns are asked for by their numbers, and the entries of a variable stand eight apart.
 ghost use Rattle.std.specs.Prelude.{◌*◌, ◌≡◌, ◌<◌, ◌≤◌, if◌then◌else◌, nat_eq};
 ghost use Rattle.task_record.specs.Layout.{at_pattern};
 ghost use Rattle.task_record.specs.Numbers.{pattern_count};

@@ -8,6 +8,7 @@ ghost use Rattle.search.specs.Written.{Copied, Finds};
 use crate::memory::{Slot, note, recall};
 
 // Where a plan's bytes stand, and how many there are.
+// Stays: `as` between these and a slot's numbers of 32 bits, which have no `From` into each other.
 #[derive(Clone, Copy)]
 pub(crate) struct Passage {
     pub from: usize,
