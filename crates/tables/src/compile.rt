@@ -13,13 +13,6 @@ use task_record::sound::SoundRecord;
 // Every action weighs 1.
 const WEIGHT: u64 = 1;
 
-pub(crate) fn put(task: &mut [u64; 1282], at: usize, x: u64)
-    requires { at < 1282 }
-    ensures { task.new ≡ slice_set task.old at x }
-{
-    task[at] = x;
-}
-
 // The two words of outcome k, 0 where there is none.
 fn outcome_words(rec: &[u8], m: u8, k: u8) -> Words
     ensures { (result.keep ≡ outcome_word leaving rec.now m k) × (result.value ≡ outcome_word setting rec.now m k) }
@@ -35,8 +28,8 @@ fn put_outcome(rec: &[u8], m: u8, k: u8, task: &mut [u64; 1282], at: usize)
     ensures { task.new ≡ slice_set (slice_set task.old at (outcome_word leaving rec.now m k)) (at + 1) (outcome_word setting rec.now m k) }
 {
     let words = outcome_words(rec, m, k);
-    put(task, at, words.keep);
-    put(task, at + 1, words.value);
+    task[at] = words.keep;
+    task[at + 1] = words.value;
 }
 
 // The digits that a precondition or a goal names, given those that it does not name.
@@ -56,11 +49,10 @@ fn put_head(pre: &[u8], count: u64, task: &mut [u64; 1282], at: usize)
     ensures { task.new ≡ slice_set (slice_set (slice_set (slice_set task.old at (pack_by naming pre.now)) (at + 1) (pack_by setting pre.now)) (at + 2) count) (at + 3) 1 }
 {
     let words = words_of(pre);
-    let mask = named_digits(pre, words.keep);
-    put(task, at, mask);
-    put(task, at + 1, words.value);
-    put(task, at + 2, count);
-    put(task, at + 3, WEIGHT);
+    task[at] = named_digits(pre, words.keep);
+    task[at + 1] = words.value;
+    task[at + 2] = count;
+    task[at + 3] = WEIGHT;
 }
 
 // The words of action m, and no other.

@@ -5,7 +5,7 @@ ghost use Rattle.task_record.specs.TaskOf.{task_of};
 ghost use Rattle.tables.specs.Packed.{compiled};
 ghost use Rattle.tables.specs.Compiling.{ActionsCompiled, Cleared};
 
-use crate::compile::{compile_action, named_digits, put};
+use crate::compile::{compile_action, named_digits};
 use crate::words::words_of;
 use task_record::cells::{action_count, goal_cells};
 use task_record::sound::SoundRecord;
@@ -36,8 +36,8 @@ pub(crate) fn compile_cleared(record: &SoundRecord, task: &mut [u64; 1282])
     let goal = goal_cells(record.cells);
     let words = words_of(goal);
     let mask = named_digits(goal, words.keep);
-    put(task, 1280, mask);
-    put(task, 1281, words.value);
+    task[1280] = mask;
+    task[1281] = words.value;
 }
 
 // The compiled task in words that are lent.

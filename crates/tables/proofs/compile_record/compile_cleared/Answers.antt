@@ -14,4 +14,4 @@ pub returns : goal.returns
 returns c = let h = rw c.record.view_is at c.record.invariant in
     record_compiled c.args.record.now h c.args.task.now c.compile_actions.new.task _
     (search rules) c.requires c.compile_actions.ensures
-    (rw (c.put.ensures, c.named_digits-mask.ensures, c.words_of-words.ensures.1, c.goal_cells-goal.ensures, c.record.view_is) at c.put-2.ensures)
+    (rw (c.named_digits-mask.ensures, c.words_of-words.ensures.1, c.goal_cells-goal.ensures, c.record.view_is))
