@@ -16,7 +16,7 @@ use crate::layout::{
     ACTION_SIZE, AT_ACTION_COUNT, AT_ACTIONS, AT_BUDGET, AT_GOAL, AT_LIMIT, AT_PATTERN_COUNT,
     AT_PATTERNS, AT_SIZES, AT_START, AT_VARIABLES, RECORD_SIZE,
 };
-use crate::measured::Measured;
+use crate::measured::{LongRecord, Measured};
 use crate::refusal::Refusal;
 
 fn scan_head(rec: &[u8]) -> Result<(), usize>
@@ -45,23 +45,21 @@ fn scan_head(rec: &[u8]) -> Result<(), usize>
 }
 
 // A used size moved up by 254 is at most 14; an unused one is 0.
-fn scan_sizes(rec: &[u8]) -> Result<(), usize>
-    requires { record_size ≤ length rec.now }
-    ensures { result ≡ scan (cell_ok rec.now) at_sizes 16 }
+fn scan_sizes(record: &LongRecord) -> Result<(), usize>
+    ensures { result ≡ scan (cell_ok record.now.cells.now) at_sizes 16 }
 {
-    let n = variable_count(rec);
+    let n = variable_count(record.cells);
     let windows = Windows {
         shift: below(n, 254, 0),
         top: below(n, 14, 0),
     };
-    windows.scan(rec, AT_SIZES, 1)
+    windows.scan(record.cells, AT_SIZES, 1)
 }
 
-fn sizes_of(rec: &[u8]) -> [u8; 16]
-    requires { record_size ≤ length rec.now }
-    ensures { Sixteen (size_of rec.now) result }
+fn sizes_of(record: &LongRecord) -> [u8; 16]
+    ensures { Sixteen (size_of record.now.cells.now) result }
 {
-    copied(&rec[AT_SIZES..AT_GOAL])
+    copied(&record.cells[AT_SIZES..AT_GOAL])
 }
 
 // The cells of a state from offset `a` of `c` on: a used one is at most the highest value; an unused one is 255, which moved up by 1 is 0.
@@ -87,10 +85,11 @@ fn named(sizes: &[u8; 16]) -> Windows
 }
 
 // First the patterns that are used, then the others.
-fn scan_patterns(rec: &[u8]) -> Result<(), usize>
-    requires { (record_size ≤ length rec.now) × (pattern_count rec.now ≤ 8) }
-    ensures { result ≡ scan (cell_ok rec.now) (at_pattern 0) (at_action 0 - at_pattern 0) }
+fn scan_patterns(record: &LongRecord) -> Result<(), usize>
+    requires { pattern_count record.now.cells.now ≤ 8 }
+    ensures { result ≡ scan (cell_ok record.now.cells.now) (at_pattern 0) (at_action 0 - at_pattern 0) }
 {
+    let rec = record.cells;
     let used = usize::from(pattern_count(rec));
     let members = Windows {
         shift: [0; 16],
@@ -148,42 +147,42 @@ fn scan_actions(record: &Measured) -> Result<(), usize>
     Ok(())
 }
 
-fn scan_cells(rec: &[u8]) -> Result<(), usize>
-    requires { record_size ≤ length rec.now }
-    ensures { result ≡ scan (cell_ok rec.now) 0 record_size }
+fn scan_cells(record: &LongRecord) -> Result<(), usize>
+    ensures { result ≡ scan (cell_ok record.now.cells.now) 0 record_size }
 {
+    let rec = record.cells;
     scan_head(rec)?;
-    scan_sizes(rec)?;
-    let record = Measured {
+    scan_sizes(record)?;
+    let measured = Measured {
         rec: rec,
-        sizes: sizes_of(rec),
+        sizes: sizes_of(record),
     };
-    named(&record.sizes).scan(rec, AT_GOAL, 1)?;
-    scan_state(&record, rec, AT_START)?;
-    scan_patterns(rec)?;
-    scan_actions(&record)
+    named(&measured.sizes).scan(rec, AT_GOAL, 1)?;
+    scan_state(&measured, rec, AT_START)?;
+    scan_patterns(record)?;
+    scan_actions(&measured)
 }
 
 // Whether the record passes the test by columns, which tells no offset but is many times as fast as the search for one.
-fn is_sound(rec: &[u8]) -> bool
-    requires { record_size ≤ length rec.now }
-    ensures { result ≡ true → Sound rec.now }
+fn is_sound(record: &LongRecord) -> bool
+    ensures { result ≡ true → Sound record.now.cells.now }
 {
+    let rec = record.cells;
     if scan_head(rec).is_err() {
         return false;
     }
-    let sizes = sizes_of(rec);
-    if !front_fits(rec, &sizes) {
+    let sizes = sizes_of(record);
+    if !front_fits(record, &sizes) {
         return false;
     }
-    let record = Measured {
+    let measured = Measured {
         rec: rec,
         sizes: sizes,
     };
-    if !patterns_fit(&record) {
+    if !patterns_fit(&measured) {
         return false;
     }
-    actions_fit(&record)
+    actions_fit(&measured)
 }
 
 // The answer of every call that is lent a record, tested before all else.
@@ -194,10 +193,11 @@ pub fn check_record(rec: &[u8]) -> Result<(), Refusal>
     if rec.len() < RECORD_SIZE {
         return Err(Refusal::ShortRecord(rec.len() as u64));
     }
-    if is_sound(rec) {
+    let long = LongRecord { cells: rec };
+    if is_sound(&long) {
         return Ok(());
     }
-    match scan_cells(rec) {
+    match scan_cells(&long) {
         Ok(()) => Ok(()),
         Err(offset) => Err(Refusal::WrongCell(offset as u64)),
     }
@@ -210,7 +210,8 @@ pub(crate) fn judge_state(rec: &[u8], state: &[u8]) -> Result<(), Refusal>
     if state.len() != 16 {
         return Err(Refusal::WrongState(16));
     }
-    let sizes = sizes_of(rec);
+    let long = LongRecord { cells: rec };
+    let sizes = sizes_of(&long);
     if state_fits(state, &sizes) {
         return Ok(());
     }

@@ -10,11 +10,10 @@ loop-v-init g c = (omega arith, search rules, λ h k l. absurd (omega arith))
 
 pub loop-v-preserved : goal.loop-v-preserved
 loop-v-preserved g c =
-    let args = c.args in
+    let s = c.args.record.now in
     let loop = c.loop-v in
     let member-fault = c.member_fault-bad in
-    let s = args in
-    (omega arith, loop.invariant.1, faults_next (λ (k : ℕ). MemberColumn s.c.now (get_or s.sizes.now k 0) (at_pattern 0 + k) g.row.USED) loop.v loop.bad member-fault.result member-fault.ensures loop.invariant.2)
+    (omega arith, loop.invariant.1, faults_next (λ (k : ℕ). MemberColumn s.rec.now (get_or s.sizes k 0) (at_pattern 0 + k) g.row.USED) loop.v loop.bad member-fault.result member-fault.ensures loop.invariant.2)
 
 pub returns : goal.returns
 returns g c =

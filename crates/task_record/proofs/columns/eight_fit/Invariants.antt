@@ -5,7 +5,7 @@ use Rattle.task_record.specs.Columns.{MemberColumn}
 use Rattle.task_record.proofs.columns.eight_fit.Given as goal
 
 abbrev pub invariant-loop-v : goal.invariant-loop-v
-invariant-loop-v g l = (l.v ≤ 16) × (length l.sizes ≡ 16) × (l.bad ≡ 0 → (k : ℕ) → k < l.v → MemberColumn l.c (get_or l.sizes k 0) (at_pattern 0 + k) g.row.USED)
+invariant-loop-v g l = (l.v ≤ 16) × (length l.record.sizes ≡ 16) × (l.bad ≡ 0 → (k : ℕ) → k < l.v → MemberColumn l.record.rec.now (get_or l.record.sizes k 0) (at_pattern 0 + k) g.row.USED)
 
 abbrev pub decreases-loop-v : goal.decreases-loop-v
 decreases-loop-v g l = 16 - l.v

@@ -19,18 +19,17 @@ loop-v-preserved c =
     let loop = c.loop-v in
     let front-fault = c.front_fault-bad in
     let s = args in let f = ramp.result in let d = 16 - c.from-skipped.result in
-    (omega arith, loop.invariant.1, loop.invariant.2, faults_next (λ (k : ℕ). (fits (get_or s.sizes.now k 0) (bit_and (get_or f (d + k) 0) 254) (bit_and (get_or f (d + k) 0) 14) ≡ true) × (fits (get_or s.rec.now (at_goal + k) 0) 1 (get_or s.sizes.now k 0) ≡ true) × (fits (get_or s.rec.now (at_start + k) 0) (1 - get_or s.sizes.now k 0) (get_or s.sizes.now k 0 - 1) ≡ true)) loop.v loop.bad front-fault.result front-fault.ensures loop.invariant.3)
+    (omega arith, loop.invariant.1, loop.invariant.2, faults_next (λ (k : ℕ). (fits (get_or s.sizes.now k 0) (bit_and (get_or f (d + k) 0) 254) (bit_and (get_or f (d + k) 0) 14) ≡ true) × (fits (get_or s.record.now.cells.now (at_goal + k) 0) 1 (get_or s.sizes.now k 0) ≡ true) × (fits (get_or s.record.now.cells.now (at_start + k) 0) (1 - get_or s.sizes.now k 0) (get_or s.sizes.now k 0 - 1) ≡ true)) loop.v loop.bad front-fault.result front-fault.ensures loop.invariant.3)
 
 pub returns : goal.returns
 returns c =
     let pre = c.requires in
     let args = c.args in
-    let shared-slice-known = c.shared_slice_known-1 in
     let ramp = c.ramp-from in
     let variable-count = c.variable_count in
     let loop = c.loop-v in
     let loop-test = c.loop-v-test in
-    let t = loop-test.false in let r = args.rec.now in let z = pre.1 in let w = c.from-skipped.result in let n : w ≡ variable_count r = omega (arith, c.from-skipped.ensures, variable-count.ensures) in
-    λ h. front_passes r (λ k. omega (arith, shared-slice-known.given k)) (λ v l.
-    let f = rw (z.cell v l, ramp_cell ramp.result ramp.ensures w v (omega (arith, n, pre.2)) l) at (loop.invariant.3 (eqb-true _ _ h) v (omega arith)) in
+    let t = loop-test.false in let r = args.record.now.cells.now in let z = pre.0 in let w = c.from-skipped.result in let n : w ≡ variable_count r = omega (arith, c.from-skipped.ensures, variable-count.ensures) in
+    λ h. front_passes r c.args.record.now.byte (λ v l.
+    let f = rw (z.cell v l, ramp_cell ramp.result ramp.ensures w v (omega (arith, n, pre.1)) l) at (loop.invariant.3 (eqb-true _ _ h) v (omega arith)) in
     (rw n at (sym (ramp_window _ v w) ∙ f.0), f.1, f.2))

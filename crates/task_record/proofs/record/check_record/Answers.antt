@@ -1,5 +1,5 @@
 -- `check_record`: the length, then all cells at once, then the lowest bad offset; in numbers lines 5 and 6. Assumes nothing.
-use Rattle.std.proofs.Common.{◌≡◌, ℕ, length, List, sym, ap, ◌∙◌, le-ltb, lt-ltb, Result, Ok, Err}
+use Rattle.std.proofs.Common.{◌≡◌, ℕ, length, List, sym, ap, ◌∙◌, arith, le-ltb, lt-ltb, Result, Ok, Err}
 use Rattle.task_record.specs.Record.{cell_ok, first_bad, record_check, Sound}
 use Rattle.task_record.specs.Layout.{record_size}
 use Rattle.task_record.specs.Scan.{first_from}
@@ -17,6 +17,9 @@ pub returns-then-rec-lt-RECORD_SIZE : goal.returns-then-rec-lt-RECORD_SIZE
 unfolding record_check
 returns-then-rec-lt-RECORD_SIZE c = let both = let if1 = c.if-rec-lt-RECORD_SIZE in
     told _ _ (simp (lt-ltb _ _ if1.true)) in record { value = both.0; numbers = both.1 }
+
+pub invariant_of-long : goal.invariant_of-long
+invariant_of-long c = record { long = omega (arith, c.if-rec-lt-RECORD_SIZE.false); byte = λ k. omega (arith, c.shared_slice_known-1.given k) }
 
 pub returns-then-is_sound : goal.returns-then-is_sound
 unfolding Sound

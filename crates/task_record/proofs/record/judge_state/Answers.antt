@@ -11,8 +11,8 @@ pub returns-then-state-ne16 : goal.returns-then-state-ne16
 unfolding judge_state
 returns-then-state-ne16 c = simp (ne_eqb _ _ c.if-state-ne16.true)
 
-pub sizes_of-sizes-requires : goal.sizes_of-sizes-requires
-sizes_of-sizes-requires c = sound_length c.args.rec.now c.requires
+pub invariant_of-long : goal.invariant_of-long
+invariant_of-long c = record { long = sound_length c.args.rec.now c.requires; byte = λ k. omega (arith, c.shared_slice_known-1.given k) }
 
 pub returns-then-state_fits : goal.returns-then-state_fits
 unfolding judge_state

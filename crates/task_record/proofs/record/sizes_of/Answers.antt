@@ -6,9 +6,8 @@ use Rattle.task_record.proofs.record.sizes_of.Goals as goal
 pub returns : goal.returns
 returns c =
     let args = c.args in
-    let pre = c.requires in
     let copied = c.copied in
-    let r = args.rec.now in let e = copied.ensures in let d = length-drop at_sizes r in let p = pre in
+    let r = args.record.now.cells.now in let e = copied.ensures in let d = length-drop at_sizes r in let p = args.record.now.long in
     record {
       whole = ap length e ∙ length-take-le 16 (drop at_sizes r) (omega arith);
       cell = λ v h. ap (λ (l : List ℕ). get_or l v 0) e ∙ get_or-take 16 (drop at_sizes r) v 0 h ∙ get_or-drop at_sizes r v 0;
