@@ -13,7 +13,7 @@ use std::marker::Model;
 use task_record::cells::{
     action_count, outcome_cells, outcome_count, pattern_cells, pattern_count,
 };
-use task_record::layout::{ACTION_SIZE, AT_ACTIONS, IN_OUTCOMES};
+use task_record::layout::at_outcome;
 use task_record::refusal::Refusal;
 use task_record::sound::SoundRecord;
 
@@ -121,7 +121,7 @@ impl<'a> Members<'a> {
         requires { m < action_count self.now }
         ensures { Covers (pattern_count self.now) (λ p. affects_pattern (action_of self.now m) (cells_at self.now (at_pattern p))) result }
     {
-        let at = AT_ACTIONS + IN_OUTCOMES + ACTION_SIZE * usize::from(m);
+        let at = at_outcome(m, 0);
         let mut touched = 0u8;
         for (v, set) in self.sets.iter().enumerate() {
             touched = touched | named(common_cell(self.rec, at + v), *set);

@@ -7,7 +7,7 @@ ghost use Rattle.plan_check.specs.Stack.{begun_frame, rest_frame};
 
 use crate::cells::{applied, cells_at};
 use crate::task::Task;
-use task_record::layout::{ACTION_SIZE, AT_ACTIONS, IN_OUTCOMES, ROW_SIZE};
+use task_record::layout::{IN_OUTCOMES, ROW_SIZE, at_action};
 
 // The state in which the action was taken, the offset of the next outcome's cells, the moves on the path after the action, and how many
 // outcomes are to come.
@@ -25,7 +25,7 @@ impl Frame {
         requires { (m < action_count task.now) × (depth < 32) }
         ensures { result ≡ begun_frame task.now m state depth }
     {
-        let action = AT_ACTIONS + ACTION_SIZE * usize::from(m);
+        let action = at_action(m);
         Frame {
             state,
             next: action + IN_OUTCOMES,

@@ -8,7 +8,7 @@ ghost use Rattle.plan_check.specs.Refusal.{byte_judged};
 use crate::cells::{cells_at, met};
 use std::marker::Model;
 use task_record::cells::action_count;
-use task_record::layout::{ACTION_SIZE, AT_ACTIONS, AT_GOAL, IN_PRECONDITION};
+use task_record::layout::{AT_GOAL, at_precondition};
 use task_record::refusal::Refusal;
 use task_record::sound::SoundRecord;
 
@@ -64,13 +64,7 @@ impl<'a> Task<'a> {
         requires { m < action_count self.now }
         ensures { result ≡ (tower self.now).enabled m (values_of self.now state) }
     {
-        met(
-            cells_at(
-                self.rec,
-                AT_ACTIONS + IN_PRECONDITION + ACTION_SIZE * usize::from(m),
-            ),
-            state,
-        )
+        met(cells_at(self.rec, at_precondition(m)), state)
     }
 
     // The byte at offset `at`.

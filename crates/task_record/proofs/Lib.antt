@@ -10,6 +10,7 @@ pub mod Parts
 pub mod ColumnLaws
 pub mod Soundness
 pub mod Cellwise
+pub mod Faults
 pub mod Fronts
 pub mod SoundTask
 pub mod States

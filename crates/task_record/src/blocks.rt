@@ -3,6 +3,8 @@ ghost use Rattle.std.specs.Prelude.{◌≡◌, ◌+◌, ◌-◌, ◌*◌, ◌<�
 ghost use Rattle.task_record.specs.Scan.{scan, all_below};
 ghost use Rattle.task_record.specs.Window.{fits, block_fits, row_fits, Sixteen};
 
+use std::array;
+
 // 0 where x fits the window, else what it is too high: faults can then be gathered by `|`, and the difference is one vector instruction.
 pub(crate) fn misfit(x: u8, shift: u8, top: u8) -> u8
     ensures { (result == 0) ≡ fits x shift top }
@@ -58,13 +60,19 @@ impl Windows {
     }
 }
 
+fn used_at(v: usize, n: u8, used: u8, unused: u8) -> u8
+    ensures { result ≡ (if nat_lt v n then used else unused) }
+{
+    if v < usize::from(n) { used } else { unused }
+}
+
 // `used` in the places below n, `unused` in the others.
 pub(crate) fn below(n: u8, used: u8, unused: u8) -> [u8; 16]
     ensures { Sixteen (λ v. (if nat_lt v n then used else unused)) result }
 {
     let mut r = [0; 16];
-    for v in 0..16usize {
-        r[v] = if v < usize::from(n) { used } else { unused };
+    for (v, cell) in r.iter_mut().enumerate() {
+        *cell = used_at(v, n, used, unused);
     }
     r
 }
@@ -73,11 +81,7 @@ pub(crate) fn below(n: u8, used: u8, unused: u8) -> [u8; 16]
 pub(crate) fn highest(sizes: [u8; 16]) -> [u8; 16]
     ensures { Sixteen (λ v. slice_index sizes v - 1) result }
 {
-    let mut r = sizes;
-    for v in 0..16usize {
-        r[v] = sizes[v].saturating_sub(1);
-    }
-    r
+    array::from_fn(|v| sizes[v].saturating_sub(1))
 }
 
 pub(crate) fn copied(c: &[u8]) -> [u8; 16]

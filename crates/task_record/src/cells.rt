@@ -6,9 +6,10 @@ ghost use Rattle.task_record.specs.Cells.{state_cells};
 
 use crate::blocks::copied;
 use crate::layout::{
-    ACTION_SIZE, AT_ACTION_COUNT, AT_ACTIONS, AT_BUDGET, AT_GOAL, AT_LIMIT, AT_PATTERN_COUNT,
-    AT_PATTERNS, AT_SIZES, AT_START, AT_VARIABLES, IN_OUTCOMES, IN_PRECONDITION, ROW_SIZE,
+    AT_ACTION_COUNT, AT_BUDGET, AT_GOAL, AT_LIMIT, AT_PATTERN_COUNT, AT_SIZES, AT_START,
+    AT_VARIABLES, UNNAMED, at_action, at_outcome, at_pattern, at_precondition,
 };
+use std::array;
 
 pub(crate) fn cell(rec: &[u8], k: usize) -> u8
     ensures { result ≡ byte rec.now k }
@@ -57,7 +58,7 @@ pub fn size_of(rec: &[u8], v: u8) -> u8
 pub fn outcome_count(rec: &[u8], m: u8) -> u8
     ensures { result ≡ outcome_count rec.now m }
 {
-    cell(rec, AT_ACTIONS + ACTION_SIZE * usize::from(m))
+    cell(rec, at_action(m))
 }
 
 // The sixteen cells from offset `at` on, or as many as there are.
@@ -90,41 +91,31 @@ pub fn start_cells(rec: &[u8]) -> &[u8]
 pub fn pattern_cells(rec: &[u8], p: u8) -> &[u8]
     ensures { result.now ≡ take 16 (drop (at_pattern p) rec.now) }
 {
-    part(rec, AT_PATTERNS + ROW_SIZE * usize::from(p))
+    part(rec, at_pattern(p))
 }
 
 pub fn precondition_cells(rec: &[u8], m: u8) -> &[u8]
     ensures { result.now ≡ take 16 (drop (at_precondition m) rec.now) }
 {
-    part(
-        rec,
-        AT_ACTIONS + IN_PRECONDITION + ACTION_SIZE * usize::from(m),
-    )
+    part(rec, at_precondition(m))
 }
 
 pub fn outcome_cells(rec: &[u8], m: u8, k: u8) -> &[u8]
     ensures { result.now ≡ take 16 (drop (at_outcome m k) rec.now) }
 {
-    part(
-        rec,
-        AT_ACTIONS + IN_OUTCOMES + ACTION_SIZE * usize::from(m) + ROW_SIZE * usize::from(k),
-    )
+    part(rec, at_outcome(m, k))
 }
 
 fn cell_or_255(c: &[u8], k: usize) -> u8
     ensures { result ≡ slice_index_or c.now k 255 }
 {
-    c.get(k).copied().unwrap_or(255)
+    c.get(k).copied().unwrap_or(UNNAMED)
 }
 
 fn filled_up(c: &[u8]) -> [u8; 16]
     ensures { result ≡ state_cells c.now }
 {
-    let mut r = [255u8; 16];
-    for i in 0..16usize {
-        r[i] = cell_or_255(c, i);
-    }
-    r
+    array::from_fn(|i| cell_or_255(c, i))
 }
 
 // The cells of a state by value; 255 where the slice has none.

@@ -1,5 +1,8 @@
 // The record's layout in code: the offsets of specs/Layout.antt, for this crate, for the reader, which writes a record, and for the patterns and
 // the plan check, which read sizes, goal and actions where they stand. Assumes nothing.
+ghost use Rattle.std.specs.Prelude.{◌≡◌};
+ghost use Rattle.task_record.specs.Layout.{at_pattern, at_action, at_precondition, at_outcome};
+
 pub const RECORD_SIZE: usize = 9464;
 
 pub const AT_VARIABLES: usize = 0;
@@ -34,3 +37,28 @@ pub const ROW_SIZE: usize = 16;
 
 // A value that is not named.
 pub const UNNAMED: u8 = 255;
+
+// Where the rows of a pattern and of an action begin, by their numbers.
+pub fn at_pattern(p: u8) -> usize
+    ensures { result ≡ at_pattern p }
+{
+    AT_PATTERNS + ROW_SIZE * usize::from(p)
+}
+
+pub fn at_action(m: u8) -> usize
+    ensures { result ≡ at_action m }
+{
+    AT_ACTIONS + ACTION_SIZE * usize::from(m)
+}
+
+pub fn at_precondition(m: u8) -> usize
+    ensures { result ≡ at_precondition m }
+{
+    at_action(m) + IN_PRECONDITION
+}
+
+pub fn at_outcome(m: u8, k: u8) -> usize
+    ensures { result ≡ at_outcome m k }
+{
+    at_action(m) + IN_OUTCOMES + ROW_SIZE * usize::from(k)
+}

@@ -154,7 +154,7 @@ fn scan_cells(record: &LongRecord) -> Result<(), usize>
     scan_head(rec)?;
     scan_sizes(record)?;
     let measured = Measured {
-        rec: rec,
+        rec,
         sizes: sizes_of(record),
     };
     named(&measured.sizes).scan(rec, AT_GOAL, 1)?;
@@ -176,8 +176,8 @@ fn is_sound(record: &LongRecord) -> bool
         return false;
     }
     let measured = Measured {
-        rec: rec,
-        sizes: sizes,
+        rec,
+        sizes,
     };
     if !patterns_fit(&measured) {
         return false;
@@ -197,10 +197,7 @@ pub fn check_record(rec: &[u8]) -> Result<(), Refusal>
     if is_sound(&long) {
         return Ok(());
     }
-    match scan_cells(&long) {
-        Ok(()) => Ok(()),
-        Err(offset) => Err(Refusal::WrongCell(offset as u64)),
-    }
+    scan_cells(&long).map_err(|offset| Refusal::WrongCell(offset as u64))
 }
 
 pub(crate) fn judge_state(rec: &[u8], state: &[u8]) -> Result<(), Refusal>
@@ -216,13 +213,10 @@ pub(crate) fn judge_state(rec: &[u8], state: &[u8]) -> Result<(), Refusal>
         return Ok(());
     }
     let record = Measured {
-        rec: rec,
-        sizes: sizes,
+        rec,
+        sizes,
     };
-    match scan_state(&record, state, 0) {
-        Ok(()) => Ok(()),
-        Err(offset) => Err(Refusal::WrongState(offset as u64)),
-    }
+    scan_state(&record, state, 0).map_err(|offset| Refusal::WrongState(offset as u64))
 }
 
 // Whether `state` is a state of the task that `rec` holds.

@@ -1,9 +1,10 @@
 -- `check_record`: the length, then all cells at once, then the lowest bad offset; in numbers lines 5 and 6. Assumes nothing.
-use Rattle.std.proofs.Common.{◌≡◌, ℕ, length, List, sym, ap, ◌∙◌, arith, le-ltb, lt-ltb, Result, Ok, Err}
+use Rattle.std.proofs.Common.{◌≡◌, ℕ, ◌≤◌, length, List, sym, ap, ◌∙◌, arith, rules, tests, le-ltb, lt-ltb, Result, Ok, Err}
 use Rattle.task_record.specs.Record.{cell_ok, first_bad, record_check, Sound}
 use Rattle.task_record.specs.Layout.{record_size}
-use Rattle.task_record.specs.Scan.{first_from}
+use Rattle.task_record.specs.Scan.{first_from, scan}
 use Rattle.task_record.specs.declared.refusal.Refusal.TheVariants.{WrongCell}
+use Rattle.task_record.proofs.Faults.{with_fault, fault_told}
 use Rattle.task_record.proofs.Scanning.{scan_found, scan_passed}
 use Rattle.task_record.specs.Answers.{record_numbers, record_by_lines}
 use Rattle.task_record.specs.declared.refusal.Refusal.{Refusal}
@@ -27,14 +28,18 @@ returns-then-is_sound c = let both = let is-sound = c.is_sound in
     let if2 = c.if-is_sound in
     told _ _ (sym (is-sound.ensures if2.true)) in record { value = both.0; numbers = both.1 }
 
-pub returns-in-Ok : goal.returns-in-Ok
+-- What the search for the lowest bad offset says is what the definition asks for.
+by_scan : (r : List ℕ) → record_size ≤ length r → (x : Result Unit ℕ) → x ≡ scan (cell_ok r) 0 record_size → with_fault WrongCell x ≡ record_check r
 unfolding record_check first_bad
-returns-in-Ok c = let both = let r = c.args.rec.now in
-    let l = scan_passed (cell_ok r) 0 record_size (sym c.scan_cells.ensures ∙ c.in-Ok.is) in
-    told r (Ok tt) (rw (le-ltb (length r) record_size c.if-rec-lt-RECORD_SIZE.false, le-ltb (first_from (cell_ok r) 0 record_size) record_size l)) in record { value = both.0; numbers = both.1 }
+by_scan r long (Ok u) is =
+    let l = scan_passed (cell_ok r) 0 record_size (sym is) in
+    rw (le-ltb (length r) record_size long, le-ltb (first_from (cell_ok r) 0 record_size) record_size l)
+by_scan r long (Err k) is =
+    let f = scan_found (cell_ok r) 0 record_size k (sym is) in
+    rw (le-ltb (length r) record_size long, f.0, lt-ltb k record_size f.1)
 
-pub returns-in-Err : goal.returns-in-Err
-unfolding record_check first_bad
-returns-in-Err c = let both = let r = c.args.rec.now in
-    let f = scan_found (cell_ok r) 0 record_size c.in-Err.offset (sym c.scan_cells.ensures ∙ c.in-Err.is) in
-    told r (Err (WrongCell c.in-Err.offset)) (rw (le-ltb (length r) record_size c.if-rec-lt-RECORD_SIZE.false, f.0, lt-ltb c.in-Err.offset record_size f.1)) in record { value = both.0; numbers = both.1 }
+pub returns : goal.returns
+returns c = let both = let r = c.args.rec.now in
+    let long : record_size ≤ length r = omega (arith, c.if-rec-lt-RECORD_SIZE.false) in
+    told r c.map_err.result (fault_told WrongCell _ (λ k e h. search (rules, tests)) c.scan_cells.result c.map_err.result c.map_err.ensures.cases
+    ∙ by_scan r long c.scan_cells.result c.scan_cells.ensures) in record { value = both.0; numbers = both.1 }
