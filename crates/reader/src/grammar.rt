@@ -109,10 +109,7 @@ fn take_list(
 fn after_key<'a>(line: &'a [u8], key: &[u8]) -> Result<&'a [u8], LineFault>
     ensures { MatchResult result (λ s. (has_key key.now line.now ≡ true) × (s.now ≡ drop (length key.now) line.now)) (λ e. (has_key key.now line.now ≡ false) × (e ≡ LineFault.Unexpected)) }
 {
-    match line.strip_prefix(key) {
-        Some(value) => Ok(value),
-        None => Err(LineFault::Unexpected),
-    }
+    line.strip_prefix(key).ok_or(LineFault::Unexpected)
 }
 
 // A line with a number.

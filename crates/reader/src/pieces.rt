@@ -1,6 +1,6 @@
-// Where a text is parted, and whether it begins with a key that it has room for. Assumes nothing else.
-ghost use Rattle.std.specs.Prelude.{◌≡◌, ◌+◌, ◌≤◌, eqb, length, take, drop};
-ghost use Rattle.reader.specs.Text.{index_of, has_key};
+// Where a text is parted. Assumes nothing.
+ghost use Rattle.std.specs.Prelude.{◌≡◌, ◌+◌, take, drop};
+ghost use Rattle.reader.specs.Text.{index_of};
 
 pub const LINE_BREAK: u8 = b'\n';
 
@@ -29,26 +29,4 @@ pub(crate) fn cut(s: &[u8], b: u8) -> (&[u8], &[u8])
         return (&s[..k], &s[k + 1..]);
     }
     (s, &s[s.len()..])
-}
-
-// 0 where two bytes are the same, else 1: so faults are gathered by `|`, and a key that is known is compared as a word and not byte by byte.
-fn differs(x: u8, y: u8) -> u8
-    ensures { eqb result 0 ≡ eqb x y }
-{
-    if x == y {
-        return 0;
-    }
-    1
-}
-
-// Whether a text that has room for the key begins with it.
-pub(crate) fn begins(s: &[u8], key: &[u8]) -> bool
-    requires { length key.now ≤ length s.now }
-    ensures { result ≡ has_key key.now s.now }
-{
-    let mut bad = 0;
-    for (i, k) in key.iter().enumerate() {
-        bad |= differs(s[i], *k);
-    }
-    bad == 0
 }

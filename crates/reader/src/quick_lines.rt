@@ -7,7 +7,7 @@ ghost use Rattle.reader.specs.Quick.{ListAt, ListLine, NumberLine};
 
 use crate::draft::Draft;
 use crate::lists::{Kind, is_values, is_whole, unnamed_of};
-use crate::pieces::{COMMA, LINE_BREAK, begins};
+use crate::pieces::{COMMA, LINE_BREAK};
 use crate::places::Field;
 use crate::quick_items::{quick_item, quick_pair, short_number};
 use task_record::layout::{AT_SIZES, UNNAMED};
@@ -23,10 +23,7 @@ fn behind<'a>(s: &'a [u8], key: &[u8]) -> Option<&'a [u8]>
     if s.len() < LINE_ROOM {
         return None;
     }
-    if !begins(s, key) {
-        return None;
-    }
-    Some(&s[key.len()..])
+    s.strip_prefix(key)
 }
 
 // Whether the record allows a value of a variable that is not below `next`.

@@ -10,7 +10,7 @@ use crate::decimal::number;
 use crate::draft::Draft;
 use crate::lists::Kind;
 use crate::order::Due;
-use crate::pieces::{LINE_BREAK, begins};
+use crate::pieces::LINE_BREAK;
 use crate::places::{at_action, at_outcome, at_pattern, at_precondition, field_of};
 use crate::quick_lines::{quick_list_line, quick_number_line, quick_pair_line};
 use task_record::layout::{
@@ -150,12 +150,12 @@ pub(crate) fn is_good(text: &[u8], rec: &mut Draft) -> bool
     let Some(last) = quick_lines(text, rec) else {
         return false;
     };
-    if last.len() < 8 {
+    let Some(value) = last.strip_prefix(b"budget=") else {
+        return false;
+    };
+    if value.len() == 0 {
         return false;
     }
-    if !begins(last, b"budget=") {
-        return false;
-    }
-    let end = last_end(last);
-    quick_budget(rec, &last[7..end])
+    let end = last_end(value);
+    quick_budget(rec, &value[..end])
 }

@@ -22,17 +22,11 @@ fn read_lines(text: &[u8], rec: &mut [u8]) -> Result<(), Refusal>
     let mut due = Due::Vars;
     let mut line: u64 = 1;
     let mut rest = text;
-    // Stays: a loop, since `split` gives one more piece, an empty one, behind a text's last line break.
+    // Stays: a loop, since `split` gives one more piece, an empty one, behind a text's last line break, and `split_inclusive` each line with its
+    // break, which would have to go again.
     while rest.len() > 0 {
         let (first, after) = cut(rest, LINE_BREAK);
-        match take_line(rec, due, first) {
-            Err(fault) => {
-                return Err(fault.at(line));
-            }
-            Ok(next) => {
-                due = next;
-            }
-        }
+        due = take_line(rec, due, first).map_err(|fault| fault.at(line))?;
         line += 1;
         rest = after;
     }

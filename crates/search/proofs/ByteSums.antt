@@ -70,5 +70,7 @@ module _ (rows : List ℕ) (p variables : ℕ) (places : List ℕ) (first count 
       let summed = rw (a, b) at (span_sum 0 count (s / 16 ^ (2 * first)) (omega arith)) in
       rw (shift_bytes first) (sym (index_sum rows p variables s few ∙ skipped ∙ summed))
 
-pub blocks_start : (places : List ℕ) (at n s : ℕ) → block_sum places at n s ≡ 0 + block_sum places (at + 256 * 0) (n - 0) s
-blocks_start places at n s = let a : at + 256 * 0 ≡ at = omega arith in let m : n - 0 ≡ n = omega arith in rw (a, m) (omega arith)
+pub blocks_start : (places : List ℕ) (at n s w : ℕ) → 1 ≤ n → w ≡ get_or places (at + s % 256) 0 → block_sum places at n s ≡ w + block_sum places (at + 256 * 1) (n - 1) (s / 256)
+unfolding block_sum
+blocks_start places at zero s w l e = absurd (omega arith)
+blocks_start places at (suc n) s w l e = let m : suc n - 1 ≡ n = omega arith in rw (m, e) refl

@@ -38,14 +38,15 @@ fn from_bit(s: u64, shift: usize) -> u64
     s >> shift
 }
 
-// What the bytes of a word add, from blocks that follow each other.
+// What the bytes of a word add, from blocks that follow each other. Most patterns have one block: it is read before the loop, which saves the loop's
+// first test and step there.
 fn sum_blocks(sums: &[u16; 4096], at: usize, count: usize, s: u64) -> usize
-    requires { (count ≤ 8) × (at + 256 * count ≤ 4096) }
+    requires { (1 ≤ count) × (count ≤ 8) × (at + 256 * count ≤ 4096) }
     ensures { (result ≡ block_sum sums.now at count s) × (result ≤ 65535 * 16) }
 {
-    let mut i = 0usize;
-    let mut rest = s;
-    for j in 0..count {
+    let mut i = usize::from(sums[at + lowest_byte(s)]);
+    let mut rest = s / 256;
+    for j in 1..count {
         i = i + usize::from(sums[at + 256 * j + lowest_byte(rest)]);
         rest = rest / 256;
     }

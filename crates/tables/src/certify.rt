@@ -1,5 +1,5 @@
 // The test of a table that was made in any way: whether each entry is what the entries say of it. Then it is the table of the pattern.
-ghost use Rattle.std.specs.Prelude.{◌≡◌, ℕ, ◌+◌, ◌*◌, ◌<◌, ◌≤◌, true, not, length, slice_index};
+ghost use Rattle.std.specs.Prelude.{◌≡◌, ◌<◌, true, length, slice_index};
 ghost use Rattle.tables.specs.Sets.{set_from, SetsOf, spread};
 ghost use Rattle.tables.specs.Spaces.{space_of};
 ghost use Rattle.tables.specs.Steps.{offer};
@@ -10,47 +10,32 @@ use crate::places::variables;
 use crate::space::Space;
 use crate::sweep::{at_goal, index_of, raise, worst_entry};
 
-// A digit that may have any value, by the weight of its variable and its lowest bit.
-#[derive(Clone, Copy)]
-struct Digit {
-    weight: u16,
-    bit: u8,
-}
-
-impl Digit {
-    const NONE: Digit = Digit { weight: 0, bit: 0 };
-
-    fn new(weights: &[u16; 16], bit: Option<usize>) -> Digit {
-        match bit {
-            None => Digit::NONE,
-            Some(b) => Digit {
-                weight: weights[b / 4 % 16],
-                bit: (b % 64) as u8,
-            },
-        }
-    }
-
-    // What its value in a word adds to the index.
-    fn part(self, s: u64) -> u16 {
-        let value = (s >> (self.bit % 64)) % 16;
-        (value as u16).wrapping_mul(self.weight)
-    }
-}
-
-// How the index changes with an outcome: by a number, less the parts of at most two digits that it sets and that may have had any value. More digits
-// make it a bad guess.
+// How the index changes with an outcome: by a number, less what at most two digits that it sets and that may have had any value add to it, each by the
+// weight of its variable and its lowest bit. More digits make it a bad guess.
+// Stays: eight bytes that are read where they stand, and the digits no structs of their own. With two such structs, and a step that is copied out for each
+// guess, the test of a table of 4,096 states took 1.04 to 1.15 times the instructions.
 #[derive(Clone, Copy)]
 struct Step {
     number: u16,
-    one: Digit,
-    two: Digit,
+    one_weight: u16,
+    two_weight: u16,
+    one_bit: u8,
+    two_bit: u8,
+}
+
+// What the digit at a bit of a word adds to the index.
+fn part(s: u64, bit: u8, weight: u16) -> u16 {
+    let digit = (s >> (bit % 64)) % 16;
+    (digit as u16).wrapping_mul(weight)
 }
 
 impl Step {
     const NONE: Step = Step {
         number: 0,
-        one: Digit::NONE,
-        two: Digit::NONE,
+        one_weight: 0,
+        two_weight: 0,
+        one_bit: 0,
+        two_bit: 0,
     };
 
     // The step of outcome o of action m.
@@ -60,24 +45,34 @@ impl Step {
         let named = mask & !task[20 * m + 4 + 2 * o];
         let to = index_of(weights, task[20 * m + 5 + 2 * o] & mask);
         let from = index_of(weights, task[20 * m + 1] & named);
+        let number = ((to % 65536) as u16).wrapping_sub((from % 65536) as u16);
+        let mut step = Step {
+            number,
+            ..Step::NONE
+        };
         let mut free = variables(named & !task[20 * m]);
-        Step {
-            number: ((to % 65536) as u16).wrapping_sub((from % 65536) as u16),
-            one: Digit::new(weights, free.next()),
-            two: Digit::new(weights, free.next()),
+        if let Some(b) = free.next() {
+            step.one_weight = weights[b / 4 % 16];
+            step.one_bit = (b % 64) as u8;
         }
+        if let Some(b) = free.next() {
+            step.two_weight = weights[b / 4 % 16];
+            step.two_bit = (b % 64) as u8;
+        }
+        step
     }
 
     // Where the outcome is likely to lead from state i of word s.
-    fn guess(self, i: usize, s: u64) -> usize {
+    fn guess(&self, i: usize, s: u64) -> usize {
         let to = ((i % 65536) as u16).wrapping_add(self.number);
-        if self.one.weight == 0 {
+        if self.one_weight == 0 {
             return usize::from(to);
         }
-        usize::from(
-            to.wrapping_sub(self.one.part(s))
-                .wrapping_sub(self.two.part(s)),
-        )
+        let to = to.wrapping_sub(part(s, self.one_bit, self.one_weight));
+        if self.two_weight == 0 {
+            return usize::from(to);
+        }
+        usize::from(to.wrapping_sub(part(s, self.two_bit, self.two_weight)))
     }
 }
 

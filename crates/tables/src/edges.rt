@@ -38,6 +38,14 @@ impl Edge {
         outcomes: 0,
         sources: Sources::One,
     };
+
+    // Whether it leads from one state.
+    pub(crate) fn is_simple(&self) -> bool {
+        match self.sources {
+            Sources::One => true,
+            Sources::Many { .. } => false,
+        }
+    }
 }
 
 // What an action needs, and the values.

@@ -39,21 +39,27 @@ impl Known {
     }
 }
 
-// 64 edges, and for each lower part the set of those that lead to a state with it.
+// 64 edges, the set of the simple ones, which lead from one state each, and for each lower part the set of those that lead to a state with it.
 #[derive(Clone, Copy)]
 pub(crate) struct Row {
     edges: [Edge; 64],
+    simple: u64,
     lower: [u64; 64],
 }
 
 impl Row {
     pub(crate) const EMPTY: Row = Row {
         edges: [Edge::NONE; 64],
+        simple: 0,
         lower: [0; 64],
     };
 
     pub(crate) fn edge(&self, b: usize) -> &Edge {
         &self.edges[b % 64]
+    }
+
+    pub(crate) fn simple(&self) -> u64 {
+        self.simple
     }
 
     // The edges that lead to a state at a place, as far as its lower part tells.
@@ -75,10 +81,15 @@ impl Row {
             variables: [0; 16],
         };
         let mut all = 0u64;
+        let mut simple = 0u64;
         for (e, edge) in self.edges.iter().enumerate().take(count) {
             known.join(edge, 1 << e);
             all = all | 1 << e;
+            if edge.is_simple() {
+                simple = simple | 1 << e;
+            }
         }
+        self.simple = simple;
         self.lower[0] = all;
         put(upper, begin, all);
         let mut low = 1usize;
@@ -175,13 +186,32 @@ impl<'a> Graph<'a> {
         }
     }
 
-    // The rows that have edges.
-    pub(crate) fn rows(&self) -> &[Row] {
-        &self.rows[..self.used().min(self.rows.len())]
+    // The rows that have edges, if there are any.
+    pub(crate) fn lookup(&self) -> Option<Lookup<'_>> {
+        let rows = &self.rows[..self.used().min(self.rows.len())];
+        let (first, beyond) = rows.split_first()?;
+        Some(Lookup {
+            first,
+            beyond,
+            upper: self.upper,
+            stride: self.stride,
+        })
     }
+}
 
+// A graph whose sets are filled: the first row, which most patterns have alone, those beyond it, and the sets of the upper parts. It is passed by value,
+// so that the queue's loop has its parts in registers.
+#[derive(Clone, Copy)]
+pub(crate) struct Lookup<'a> {
+    pub(crate) first: &'a Row,
+    pub(crate) beyond: &'a [Row],
+    upper: &'a [u64],
+    stride: usize,
+}
+
+impl Lookup<'_> {
     // The edges of row w that lead to the state at a place, as far as its upper part tells.
-    pub(crate) fn upper_set(&self, w: usize, place: u32) -> u64 {
+    pub(crate) fn upper_set(self, w: usize, place: u32) -> u64 {
         let at = w
             .wrapping_mul(self.stride)
             .wrapping_add((place / 4194304) as usize);

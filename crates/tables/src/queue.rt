@@ -1,12 +1,12 @@
 // The loop of the worklist: the states whose entries are settled wait in a queue, and for each in turn the edges that lead to it are visited. Says nothing
 // of the entries.
-use crate::incoming::Graph;
+use crate::incoming::Lookup;
 use crate::offsets::Offsets;
 use crate::places::at_or;
 use crate::visits::Worklist;
 
 // From the settled states in the queue on, until it is empty or every state is settled.
-pub(crate) fn settle(work: &mut Worklist<'_>, graph: &Graph<'_>, offsets: &Offsets<'_>) {
+pub(crate) fn settle(mut work: Worklist<'_>, graph: Lookup<'_>, offsets: &Offsets<'_>) {
     let states = work.entries.len();
     for head in 0..states {
         if head >= work.tail || work.tail >= states {

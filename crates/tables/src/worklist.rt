@@ -36,7 +36,9 @@ fn settle_within<const COUNTERS: usize>(
     let lower = offsets.list(offsets.span(goals.lists.lower));
     let upper = offsets.list(offsets.span(goals.lists.upper));
     work.visit_face(lower, upper, goals.place, 0);
-    settle(&mut work, graph, offsets);
+    if let Some(lookup) = graph.lookup() {
+        settle(work, lookup, offsets);
+    }
 }
 
 // With room for the counters that there are: at most those of 64 actions at 4,096 states.

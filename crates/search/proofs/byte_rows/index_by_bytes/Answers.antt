@@ -7,7 +7,7 @@ pub from_bit-rest-requires : goal.from_bit-rest-requires
 from_bit-rest-requires c = let g = c.args.instance.now.guided.placed.span c.args.p c.requires c.in-Some.span c.in-Some.is in let w = g.within in let k = g.some in omega arith
 
 pub sum_blocks-requires : goal.sum_blocks-requires
-sum_blocks-requires c = let g = c.args.instance.now.guided.placed.span c.args.p c.requires c.in-Some.span c.in-Some.is in let w = g.within in let r = g.room in (omega arith, omega arith)
+sum_blocks-requires c = let g = c.args.instance.now.guided.placed.span c.args.p c.requires c.in-Some.span c.in-Some.is in let w = g.within in let r = g.room in (g.some, omega arith, omega arith)
 
 pub returns-in-Some : goal.returns-in-Some
 returns-in-Some c = let i = c.args.instance.now in let g = i.guided.placed.span c.args.p c.requires c.in-Some.span c.in-Some.is in
