@@ -1,5 +1,5 @@
 -- What a fault's offset becomes: a result whose error is turned by `map_err`. Assumes nothing.
-use Rattle.std.proofs.Common.{◌≡◌, ℕ, refl, sym, ap, Result, Ok, Err}
+use Rattle.std.proofs.Common.{◌≡◌, ℕ, ap, Result, Ok, Err}
 use Rattle.std.specs.Result.{IsErrAnd, MatchResult}
 use Rattle.task_record.specs.declared.refusal.Refusal.{Refusal}
 

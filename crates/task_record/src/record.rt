@@ -175,10 +175,7 @@ fn is_sound(record: &LongRecord) -> bool
     if !front_fits(record, &sizes) {
         return false;
     }
-    let measured = Measured {
-        rec,
-        sizes,
-    };
+    let measured = Measured { rec, sizes };
     if !patterns_fit(&measured) {
         return false;
     }
@@ -212,10 +209,7 @@ pub(crate) fn judge_state(rec: &[u8], state: &[u8]) -> Result<(), Refusal>
     if state_fits(state, &sizes) {
         return Ok(());
     }
-    let record = Measured {
-        rec,
-        sizes,
-    };
+    let record = Measured { rec, sizes };
     scan_state(&record, state, 0).map_err(|offset| Refusal::WrongState(offset as u64))
 }
 

@@ -1,5 +1,5 @@
 -- `filled_up`: each cell is the slice's, or 255 where it has none. Assumes nothing.
-use Rattle.std.proofs.Common.{◌≡◌, get_or, arith, rules}
+use Rattle.std.proofs.Common.{rules}
 use Rattle.task_record.proofs.Cellwise.{state_cells_lem}
 use Rattle.task_record.proofs.cells.filled_up.Goals as goal
 

@@ -17,7 +17,7 @@ loop-v-init c = let i = rw c.self.view_is at c.self.invariant in (i.1, seen_star
 pub common_cell-requires : goal.common_cell-requires
 common_cell-requires c =
     let i = rw c.self.view_is at c.self.invariant in
-    let r = c.args.self.now in let n = sound_length r i.0 in let a = actions_right r i.0 in let w = c.from.ensures in let l = c.requires in
+    let r = c.args.self.now in let n = sound_length r i.0 in let a = actions_right r i.0 in let w = c.at_outcome-at.ensures in let l = c.requires in
     let t : c.loop-v.v < 16 = omega (arith, c.loop-v.invariant.0.whole, c.loop-v-test.true) in
     rw c.self.view_is (omega arith, omega arith)
 
@@ -26,7 +26,7 @@ loop-v-preserved c =
     let i = rw c.self.view_is at c.self.invariant in
     let loop = c.loop-v in
     let common-cell = c.common_cell in
-    let r = c.args.self.now in let m = c.args.m in let v = loop.v in let w = c.from.ensures in
+    let r = c.args.self.now in let m = c.args.m in let v = loop.v in let w = c.at_outcome-at.ensures in
     let t : v < 16 = omega (arith, loop.invariant.0.whole, c.loop-v-test.true) in
     let o = outcomes_right r i.0 m c.requires in
     let at : (k : ℕ) → get_or (cells_at r (at_outcome m k)) v 0 ≡ byte r (at_outcome m k + v) = (λ k. cell_of_part r 16 (at_outcome m k) v t) in (

@@ -15,4 +15,4 @@ bounds-task-inside-action c =
 
 pub returns : goal.returns
 unfolding begun_frame
-returns c = rw (← c.task.view_is, c.from-2.ensures, c.from.ensures)
+returns c = rw (← c.task.view_is, c.from.ensures, c.at_action-action.ensures)

@@ -16,4 +16,4 @@ cells_at-requires c =
 pub returns : goal.returns
 returns c =
     let m = rw (← c.self.view_is) at c.requires in
-    rw (← c.self.view_is, c.met.ensures, c.cells_at.ensures, c.from.ensures) (tower_enabled _ c.self.invariant.0 _ _ (rw tower_actions m))
+    rw (← c.self.view_is, c.met.ensures, c.cells_at.ensures, c.at_precondition.ensures) (tower_enabled _ c.self.invariant.0 _ _ (rw tower_actions m))
