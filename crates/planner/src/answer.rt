@@ -19,7 +19,7 @@ pub(crate) fn refuse(refusal: Refusal) -> PlannerAnswer
 {
     let (number, second) = refusal.numbers();
     PlannerAnswer {
-        number: number,
+        number,
         kind: 0,
         first: second,
         second: 0,
@@ -34,10 +34,10 @@ pub(crate) fn reply(kind: u64, first: u64, second: u64, third: u64) -> PlannerAn
 {
     PlannerAnswer {
         number: 0,
-        kind: kind,
-        first: first,
-        second: second,
-        third: third,
+        kind,
+        first,
+        second,
+        third,
     }
 }
 

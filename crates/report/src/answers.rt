@@ -1,4 +1,5 @@
 // The lines of an answer: a refusal, the value of the start, and what the search found. Asks that places stay small.
+// Stays: a bound on the place before each (`at ≤ 53`, one line), since a sum that cannot wrap needs one.
 ghost use Rattle.std.specs.Prelude.{◌≡◌, ◌+◌, ◌*◌, ◌≤◌, length, Ok};
 ghost use Rattle.planning.specs.Extended.{ℕ∞};
 ghost use Rattle.task_record.specs.Layout.{at_start};

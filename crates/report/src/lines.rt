@@ -50,6 +50,7 @@ impl<'a> Lines<'a> {
         }
     }
 
+    // Stays: `as`, since a word has no `From` into a byte, and `try_from` would have a case that never comes.
     fn put_digit(&mut self, d: u64)
         requires { (self.old.at < 4000000000) × (d < 10) }
         ensures { Puts ((48 + d) ∷ []) self.old self.new }

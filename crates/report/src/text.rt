@@ -12,6 +12,7 @@ use search::entry::{SearchAnswer, search};
 use task_record::layout::RECORD_SIZE;
 
 // The lines of a record.
+// Stays: `as` at the plan's length, since a word has no `From` into an index, and `try_from` would have a case that never comes.
 fn report_record(rec: &[u8], tables: &mut [u16], plan: &mut [u8], lines: &mut Lines<'_>)
     requires { lines.old.at ≡ 0 }
     ensures written { Puts (record_lines (length tables.old) (length plan.old) rec.now) lines.old lines.new }
@@ -41,6 +42,7 @@ fn report_record(rec: &[u8], tables: &mut [u16], plan: &mut [u8], lines: &mut Li
 }
 
 // The lines of a text.
+// Stays: an array for the record, since there is no heap.
 fn report_lines(text: &[u8], tables: &mut [u16], plan: &mut [u8], lines: &mut Lines<'_>)
     requires { lines.old.at ≡ 0 }
     ensures written { Puts (printed (length tables.old) (length plan.old) text.now) lines.old lines.new }

@@ -9,11 +9,12 @@ use std::io;
 // Four bytes for each byte of the plan and 256 more: what `report_text` never passes.
 const OUT_SIZE: usize = 262400;
 
+// Stays: arrays for all that the call is lent, since there is no heap.
 fn main(rt: HostRuntime) -> io::Result<()> {
-    let mut input: [u8; 65536] = [0; 65536];
-    let mut plan: [u8; 65536] = [0; 65536];
-    let mut tables: [u16; 16384] = [0; 16384];
-    let mut out: [u8; OUT_SIZE] = [0; OUT_SIZE];
+    let mut input = [0u8; 65536];
+    let mut plan = [0u8; 65536];
+    let mut tables = [0u16; 16384];
+    let mut out = [0u8; OUT_SIZE];
     let n = read_full(&mut rt.stdin(), &mut input)?;
     let end = report_text(&input[..n], &mut tables, &mut plan, &mut out);
     rt.write_all(&out[..end])

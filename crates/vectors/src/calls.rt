@@ -58,11 +58,12 @@ impl Lent {
     }
 
     // Offsets and values by turns.
+    // Stays: `as` at the low byte of a number, since a number has no `From` into a byte, and `try_from` would have a case that never comes.
     fn cells(&mut self, out: &impl Print) -> io::Result<()> {
         let rec = self.rec.as_mut_slice();
         for pair in self.numbers.as_slice().chunks_exact(2) {
-            if pair[0] < rec.len() {
-                rec[pair[0]] = (pair[1] % 256) as u8;
+            if let Some(cell) = rec.get_mut(pair[0]) {
+                *cell = (pair[1] % 256) as u8;
             }
         }
         show_answer(out, planner_check_record(rec))
@@ -83,6 +84,7 @@ impl Lent {
     }
 
     // Into a row that holds 7 where nothing is counted.
+    // Stays: `as`, since an index has no `From` into a word; and an array for the row, since there is no heap.
     fn spread(&mut self, out: &impl Print) -> io::Result<()> {
         let mut counts = [7u32; ROW_ROOM];
         let rec = self.rec.as_slice();

@@ -69,6 +69,7 @@ impl Numbers {
 }
 
 // The numbers as bytes, as many as find room.
+// Stays: `as`, as in `cells`.
 pub(crate) fn as_bytes<'a>(numbers: &[usize], room: &'a mut [u8]) -> &'a [u8] {
     let n = numbers.len().min(room.len());
     for (b, x) in room.iter_mut().zip(numbers) {

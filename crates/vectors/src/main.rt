@@ -21,6 +21,7 @@ use crate::calls::Lent;
 use report::input::read_full;
 use std::io;
 
+// Stays: arrays for the input and for bytes, since there is no heap.
 fn main(rt: HostRuntime) -> io::Result<()> {
     let mut input = [0u8; 65536];
     let n = read_full(&mut rt.stdin(), &mut input)?;
