@@ -3,9 +3,8 @@ ghost use Rattle.std.specs.Prelude.{◌≡◌};
 ghost use Rattle.reader.specs.Grammar.{blank};
 ghost use Rattle.reader.specs.Stores.{clear_actions};
 
-use crate::places::{at_action, at_pattern};
 use crate::store::{fill, put};
-use task_record::layout::{AT_GOAL, RECORD_SIZE, UNNAMED};
+use task_record::layout::{AT_GOAL, RECORD_SIZE, UNNAMED, at_action, at_pattern};
 
 // The record that is filled, before it is copied out.
 pub type Record = [u8; RECORD_SIZE];

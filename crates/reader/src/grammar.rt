@@ -9,11 +9,11 @@ ghost use Rattle.reader.specs.Grammar.{fault_at, told, budget_bytes, take_number
 use crate::decimal::number;
 use crate::lists::{Gathered, Kind, is_whole, read_list};
 use crate::order::{Due, next_due};
-use crate::places::{Field, at_action, at_outcome, at_pattern, at_precondition, field_of};
+use crate::places::{Field, field_of};
 use crate::store::{cell_at, put, put_cells};
 use task_record::layout::{
     AT_ACTION_COUNT, AT_BUDGET, AT_GOAL, AT_LIMIT, AT_PATTERN_COUNT, AT_SIZES, AT_START,
-    AT_VARIABLES,
+    AT_VARIABLES, at_action, at_outcome, at_pattern, at_precondition,
 };
 use task_record::refusal::Refusal;
 

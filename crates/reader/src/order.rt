@@ -2,9 +2,8 @@
 ghost use Rattle.std.specs.Prelude.{◌≡◌};
 ghost use Rattle.reader.specs.Grammar.{action_from, pattern_from, next_due, ended};
 
-use crate::places::at_action;
 use crate::store::cell_at;
-use task_record::layout::{AT_ACTION_COUNT, AT_PATTERN_COUNT, AT_VARIABLES};
+use task_record::layout::{AT_ACTION_COUNT, AT_PATTERN_COUNT, AT_VARIABLES, at_action};
 
 // The line that is due, by its key: of a size the variable, of the lines of an action its number, of an eff its place, of a pattern its number.
 #[derive(Clone, Copy, PartialEq, Eq)]

@@ -11,10 +11,11 @@ use crate::draft::Draft;
 use crate::lists::Kind;
 use crate::order::Due;
 use crate::pieces::LINE_BREAK;
-use crate::places::{at_action, at_outcome, at_pattern, at_precondition, field_of};
+use crate::places::field_of;
 use crate::quick_lines::{quick_list_line, quick_number_line, quick_pair_line};
 use task_record::layout::{
     AT_ACTION_COUNT, AT_GOAL, AT_LIMIT, AT_PATTERN_COUNT, AT_SIZES, AT_START, AT_VARIABLES,
+    at_action, at_outcome, at_pattern, at_precondition,
 };
 
 // The sizes of all variables.

@@ -33,7 +33,7 @@ loop-v-preserved c =
       loop.invariant.0,
       rw (c.named-touched.ensures, loop.invariant.0.cell v t) (seen_next r m v loop.touched common-cell.result
           (λ k b.
-          let e : 201 + 145 * c.from.result + v + 16 * k ≡ at_outcome m k + v = omega arith in
+          let e : c.at_outcome-at.result + v + 16 * k ≡ at_outcome m k + v = omega arith in
           rw (at k) (rw (c.self.view_is, e) at (common-cell.ensures.low k (omega arith))))
           (λ k b. rw (at k) (rw c.self.view_is at (common-cell.ensures.bytes (at_outcome m k + v))))
           loop.invariant.1),
