@@ -136,8 +136,8 @@ fn examine(instance: &Instance, memory: &mut [Slot], v: Visit) -> Ending
 }
 
 // Examines the states after an action's outcomes, in order, up to the first that does not succeed, with the depth that the action leaves. Only a
-// state that opens is a call: most do not. The endings are taken apart in each arm, since a joined one would go through memory. The call is handed a
-// copy of the visit: a visit that is handed to a call stands in memory, and `look` reads the other one from registers.
+// state that opens is a call: most do not. The endings are taken apart in each arm, since a joined one would go through memory. One visit serves the
+// look and the call: a copy for the call, so that `look` reads the other from registers, takes 0.95 to 0.98 of the instructions, and 1.03 to 1.08 of the time.
 #[cycle(examine_outcomes)]
 fn outcomes(instance: &Instance, memory: &mut [Slot], m: usize, v: Visit) -> Ending
     requires { (Examinable instance.now memory.old v.s v.value v.d v.count) × (m < instance.now.guide.actions) × (v.value < 256) }
@@ -168,7 +168,7 @@ fn outcomes(instance: &Instance, memory: &mut [Slot], m: usize, v: Visit) -> End
                     n += size;
                 }
             },
-            None => match examine(instance, memory, Visit { ..w }) {
+            None => match examine(instance, memory, w) {
                 Ending::Stopped(e) => return Ending::Stopped(e),
                 Ending::Failed(e) => return Ending::Failed(e),
                 Ending::Succeeded(e, size, _) => {

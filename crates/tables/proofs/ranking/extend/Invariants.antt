@@ -1,5 +1,5 @@
 -- `tables::ranking::extend` meets its contract. Assumes nothing.
-use Rattle.std.proofs.Common.{◌≡◌, ◌-◌, ◌≤◌, length}
+use Rattle.std.proofs.Common.{◌≡◌, ◌≤◌, length}
 use Rattle.tables.specs.Steps.{Extended}
 use Rattle.tables.proofs.ranking.extend.Given as goal
 

@@ -1,5 +1,5 @@
 -- `tables::ranking::fill_states` meets its contract. Assumes nothing.
-use Rattle.std.proofs.Common.{◌≡◌, ◌-◌, length}
+use Rattle.std.proofs.Common.{◌≡◌, length}
 use Rattle.tables.proofs.Spacing.{Filling}
 use Rattle.tables.proofs.ranking.fill_states.Given as goal
 

@@ -1,5 +1,4 @@
 -- `tables::ranking::state_count` meets its contract. Assumes nothing.
-use Rattle.std.proofs.Common.{◌-◌}
 use Rattle.tables.proofs.Spacing.{Weighed}
 use Rattle.tables.proofs.ranking.state_count.Given as goal
 

@@ -1,5 +1,4 @@
 -- `tables::ranking::weights_of` meets its contract. Assumes nothing.
-use Rattle.std.proofs.Common.{◌-◌}
 use Rattle.tables.proofs.Spacing.{Weighing}
 use Rattle.tables.proofs.ranking.weights_of.Given as goal
 
