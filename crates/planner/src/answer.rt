@@ -1,7 +1,7 @@
 // Answers as the five numbers that every entry gives C: one form for all calls that say no by a refusal.
 ghost use Rattle.std.specs.Prelude.{◌≡◌, ℕ};
 ghost use Rattle.planning.specs.Numbers.{Numbers, answered};
-ghost use Rattle.task_record.specs.Refusals.{refusal_numbers, answer_numbers};
+ghost use Rattle.task_record.specs.Refusals.{answer_numbers};
 ghost use Rattle.patterns.specs.Answers.{conflict_numbers, finite_numbers};
 ghost use Rattle.search.specs.Entry.{outcome_numbers};
 ghost use Rattle.plan_check.specs.ForC.{five_numbers};
@@ -9,23 +9,9 @@ ghost use Rattle.plan_check.specs.ForC.{five_numbers};
 use patterns::verdict::Conflict;
 use plan_check::check::Passed;
 pub use plan_check::for_c::PlannerAnswer;
+pub(crate) use plan_check::for_c::refuse;
 use search::entry::SearchAnswer;
 use task_record::refusal::Refusal;
-
-// Number and second number of a refusal.
-#[tactic(auto, unfolding(planning::specs::Numbers::refusal, plan_check::specs::ForC::five_numbers))]
-pub(crate) fn refuse(refusal: Refusal) -> PlannerAnswer
-    ensures { result ≡ five_numbers (refusal_numbers refusal) }
-{
-    let (number, second) = refusal.numbers();
-    PlannerAnswer {
-        number,
-        kind: 0,
-        first: second,
-        second: 0,
-        third: 0,
-    }
-}
 
 // The kind of an answer and its values.
 #[tactic(auto, unfolding(planning::specs::Numbers::answered, plan_check::specs::ForC::five_numbers))]
