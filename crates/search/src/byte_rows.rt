@@ -1,7 +1,7 @@
 // The index of a state in a pattern's table by the bytes of its word: for each byte that the pattern has, one entry says what its two
 // digits add. There is room for 16 blocks of 256 entries; a pattern that finds none is summed digit by digit.
 // Asks for rows that hold weights, and for at most 8 patterns and 16 variables.
-ghost use Rattle.std.specs.Prelude.{◌≡◌, ◌+◌, ◌*◌, ◌/◌, ◌%◌, ◌^◌, ◌<◌, ◌≤◌, true};
+ghost use Rattle.std.specs.Prelude.{◌≡◌, ◌+◌, ◌*◌, ◌/◌, ◌%◌, ◌^◌, ◌<◌, ◌≤◌};
 ghost use Rattle.search.specs.Value.{packed_index};
 ghost use Rattle.search.specs.ByteRows.{block_sum, BytesOf, Linear, SumsFilled, BlockFilled, SpanFilled, PatternPlaced};
 

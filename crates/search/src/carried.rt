@@ -1,6 +1,6 @@
 // The value of a state, carried along an action: what all patterns but the action's owner add, and that with the owner's entry after an outcome.
 // Asks for the value of the state that the action is tried in.
-ghost use Rattle.std.specs.Prelude.{◌≡◌, ◌<◌, ◌≤◌, slice_index};
+ghost use Rattle.std.specs.Prelude.{◌≡◌, ◌<◌, ◌≤◌};
 ghost use Rattle.planning.specs.Extended.{fin};
 ghost use Rattle.search.specs.Packed.{guided_entry, guided_rest, guided_sum, guided_value};
 
