@@ -8,7 +8,7 @@ ghost use Rattle.tables.specs.Certified.{Lookable, counts, Judged, Said, Exact, 
 use crate::applying::{applying, fill_sets};
 use crate::places::variables;
 use crate::space::Space;
-use crate::sweep::{at_goal, index_of, raise, worst_entry};
+use crate::sweep::{Guess, at_goal, index_of, raise, worst_entry};
 
 // How the index changes with an outcome: by a number, less what at most two digits that it sets and that may have had any value add to it, each by the
 // weight of its variable and its lowest bit. More digits make it a bad guess.
@@ -96,6 +96,20 @@ struct Trial<'a> {
     ghost long: { length entries.now ≡ space.now.count },
 }
 
+// The guesses for an action in state i of word s.
+#[derive(Drop)]
+struct Steps<'a> {
+    all: &'a [Step; 8],
+    i: usize,
+    s: u64,
+}
+
+impl Guess for Steps<'_> {
+    fn index_after(&self, o: usize) -> usize {
+        self.all[o].guess(self.i, self.s)
+    }
+}
+
 // What an action says of an entry: less, the entry itself, or more.
 #[derive(Clone, Copy, PartialEq, Eq)]
 pub(crate) enum Verdict {
@@ -109,9 +123,12 @@ fn judge(t: &Trial<'_>, m: usize, i: usize, s: u64, e: u16) -> Verdict
     requires { m < t.now.space.now.actions }
     ensures { Judged (offer t.now.space.now.task.now t.now.space.now.mask t.now.space.now.weights.now t.now.entries.now m s) e result }
 {
-    let steps = &t.steps[m];
-    let guess = |o: usize| steps[o % 8].guess(i, s);
-    let v = worst_entry(t.space, t.entries, m, s, e, guess);
+    let steps = Steps {
+        all: &t.steps[m],
+        i,
+        s,
+    };
+    let v = worst_entry(t.space, t.entries, m, s, e, &steps);
     if v >= e {
         return Verdict::More;
     }

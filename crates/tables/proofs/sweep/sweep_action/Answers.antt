@@ -7,8 +7,8 @@ use Rattle.tables.proofs.sweep.sweep_action.Goals.{then-try_action, else-try_act
 pub loop-i-init : goal.loop-i-init
 loop-i-init c = row_start _ _ _
 
-pub bounds-x-i : goal.bounds-x-i
-bounds-x-i c = let l = c.loop-i.invariant.long in omega (arith, c.requires.1, c.args.x.now.long, l, c.loop-i-test.true)
+pub bounds-space-i : goal.bounds-space-i
+bounds-space-i c = let l = c.loop-i.invariant.long in omega (arith, c.requires.1, c.args.x.now.long, l, c.loop-i-test.true)
 
 pub try_action-requires : goal.try_action-requires
 try_action-requires c = let l = c.loop-i.invariant.long in (c.requires.0, omega (arith, l, c.loop-i-test.true), l ∙ c.requires.1)
