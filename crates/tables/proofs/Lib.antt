@@ -30,6 +30,7 @@ pub mod Making
 pub mod Rowing
 pub mod Parting
 pub mod Rounds
+pub mod Goes
 pub mod Building
 pub mod Standing
 pub mod CompiledAction

@@ -1,6 +1,6 @@
 -- Laws of the loops over waiting states: the start, at which every state whose entry is 0 waits, the look at all entries, and the taking of one
 -- state after the other. Assumes nothing.
-use Rattle.std.proofs.Common.{◌≡◌, ℕ, zero, suc, ◌+◌, ◌-◌, ◌%◌, ◌<◌, ◌≤◌, cond, List, length, get_or, replicate, sym, refl, ◌∙◌, subst, zero-add, arith}
+use Rattle.std.proofs.Common.{◌≡◌, ℕ, zero, suc, ◌+◌, ◌-◌, ◌<◌, ◌≤◌, cond, List, length, get_or, replicate, sym, refl, ◌∙◌, subst, zero-add, arith}
 use native.Mathlib.Decide.{dec_lt}
 use lib.ListN.{length-replicate}
 use Rattle.planning.proofs.Finite.{get_or_tabulate, length-tabulate}
@@ -98,33 +98,25 @@ pub record Running (x : Space) (first : List ℕ) (n : ℕ) (t q marks : List �
   pub long : length t ≡ length first
   pub kept : Kept x first t marks
   pub queue : Queue n q marks h c
-  pub recent : since ≤ n
+  pub recent : since + c ≤ n
 
 pub running_start : {x : Space} {t q marks : List ℕ} {h c : ℕ} → Queue (length t) q marks h c → Kept x t t marks → Running x t (length t) t q marks h c 0
-running_start v k = record { size = refl; long = refl; kept = k; queue = v; recent = omega arith }
+running_start v k = record { size = refl; long = refl; kept = k; queue = v; recent = omega (arith, count_few v) }
 
 module _ {x : Space} {first : List ℕ} {n : ℕ} {t q marks : List ℕ} {h c since : ℕ} (v : Running x first n t q marks h c since) where
-  pub running_marks : length t ≤ length marks
-  running_marks = omega (arith, v.size, v.queue.room)
+  -- The count of states since the last look, as long as all are not reached.
+  pub running_since : {taken : ℕ} → taken + c ≤ n → Running x first n t q marks h c taken
+  running_since l = record { size = v.size; long = v.long; kept = v.kept; queue = v.queue; recent = l }
 
-  pub running_sum : since + c ≤ 8192
-  running_sum = omega (arith, v.recent, v.queue.states_few, count_few v.queue)
-
-  pub running_some : 1 ≤ c → 1 ≤ n
-  running_some b = omega (arith, count_few v.queue)
-
-  module _ {marks₁ : List ℕ} {j h₁ : ℕ} (k : Taken n q marks h c marks₁ j) (e : h₁ ≡ (h + 1) % length q) where
-    pub running_queue : Queue (length t) q marks₁ h₁ (c - 1)
-    running_queue = rw (e, sym v.size) k.queue
-
-    pub running_next : {new q₁ marks₂ : List ℕ} {d taken : ℕ} → taken < n → Visited x j t marks₁ (c - 1) new q₁ marks₂ h₁ d → Running x first n new q₁ marks₂ h₁ d (taken + 1)
-    running_next {new} b w = let l = w.going.moved.long in let z : n ≡ length new = v.size ∙ sym l in record {
-      size = z;
-      long = l ∙ v.long;
-      kept = kept_visited j k.others w.going.moved w.heard v.kept;
-      queue = rw z w.going.queue;
-      recent = omega (arith, b);
-    }
+  -- One state was taken, and the states before it were visited.
+  pub running_next : {marks₁ new q₁ marks₂ : List ℕ} {j h₁ d : ℕ} → Taken n q marks h c marks₁ j → Visited x j t marks₁ (c - 1) new q₁ marks₂ h₁ d → Running x first n new q₁ marks₂ h₁ d 0
+  running_next {marks₁} {new} {q₁} {marks₂} {j} {h₁} {d} k w = let l = w.going.moved.long in let z : n ≡ length new = v.size ∙ sym l in let u : Queue n q₁ marks₂ h₁ d = rw z w.going.queue in record {
+    size = z;
+    long = l ∙ v.long;
+    kept = kept_visited j k.others w.going.moved w.heard v.kept;
+    queue = u;
+    recent = omega (arith, count_few u);
+  }
 
   pub running_end : c ≤ 0 → Settled x first t
   running_end z = kept_settled x first t marks (none_waits v.queue z) v.kept

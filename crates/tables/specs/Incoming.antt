@@ -37,6 +37,12 @@ pub record Parted (states : List ℕ) (n lower low high : ℕ) : Type 0 where
   pub below : (j : ℕ) → j < n → bit_and (slice_index states (j % lower)) low ≡ bit_and (slice_index states j) low
   pub above : (j : ℕ) → j < n → bit_and (slice_index states (j / lower * lower)) high ≡ bit_and (slice_index states j) high
 
+-- The index is split so for `lower` states of one part and `upper` of the other, and each has its word.
+pub record Halved (states : List ℕ) (lower upper low high : ℕ) : Type 0 where
+  pub parted : Parted states (upper * lower) lower low high
+  pub long : upper * lower ≤ length states
+  pub upper_few : upper ≤ 1024
+
 -- How the index of a pattern is split: `lower` states of the variables with the digits `low`, and at most 1,024 of the others.
 pub record Split (sizes p : List ℕ) (n mask lower low : ℕ) : Type 0 where
   pub lower_some : 1 ≤ lower

@@ -14,8 +14,10 @@ pub mod Incoming
 pub mod Made
 pub mod Visits
 pub mod Graph
+pub mod Worklist
 pub mod Built
 pub mod Patterned
+pub mod Listed
 pub mod Compiling
 pub mod RecordTables
 pub mod Spread

@@ -7,5 +7,6 @@ mod edges;
 mod incoming;
 mod parts;
 mod queue;
+mod states;
 mod visits;
 mod worklist;

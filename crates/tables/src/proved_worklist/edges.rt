@@ -3,11 +3,14 @@
 ghost use Rattle.std.specs.Prelude.{◌≡◌, ℕ, ◌+◌, ◌*◌, ◌<◌, ◌≤◌, true, not, length, bit_and};
 ghost use Rattle.tables.specs.Packed.{outcome_count, keep_mask, set_value};
 ghost use Rattle.tables.specs.Sets.{set_from};
-ghost use Rattle.tables.specs.Steps.{space, idles, Readable};
-ghost use Rattle.tables.specs.Edges.{outcomes_from, EdgesOf, Regular};
+ghost use Rattle.tables.specs.Steps.{idles, Readable};
+ghost use Rattle.tables.specs.Edges.{outcomes_from, EdgesOf};
 ghost use Rattle.tables.specs.Incoming.{Tests};
+ghost use Rattle.tables.specs.Patterned.{states_of};
+ghost use Rattle.tables.specs.Listed.{space_in, edges_most};
 ghost use Rattle.tables.specs.Made.{LaneOf, back_of, Untouched, EdgePut, Spanned, ActionPut};
 
+use crate::proved_worklist::states::States;
 use crate::sweep::index_of;
 use std::marker::Model;
 
@@ -158,27 +161,27 @@ fn put_action(
 }
 
 // The edges of the actions that leave no state as it is. Answers how many.
-pub(crate) fn make_edges(
-    task: &[u64; 1282],
-    mask: u64,
-    weights: &[u16; 16],
-    states: &[u64],
-    actions: usize,
-    n: usize,
-    sizes: [u8; 16],
-    live: u64,
-    room: usize,
-    tests: &mut [u64],
-    edges: &mut [u64],
-) -> usize
-    requires { (Readable task.now actions) × (live ≡ set_from (λ m. not (idles task.now mask m)) 0 actions) × (Regular (space task.now mask weights.now states.now actions) sizes n) × (length weights.now ≤ 16) × (2 * room ≤ length tests.old) × (4 * room ≤ length edges.old) × (outcomes_from task.now mask 0 actions ≤ room) × (room ≤ 512) }
-    ensures { (EdgesOf (space task.now mask weights.now states.now actions) sizes n tests.new edges.new result) × (Tests tests.new result) × (result ≤ room) }
+pub(crate) fn make_edges(states: &States, tests: &mut [u64], edges: &mut [u64]) -> usize
+    requires { (edges_most states.now.pattern.now ≤ 512) × (2 * edges_most states.now.pattern.now ≤ length tests.old) × (4 * edges_most states.now.pattern.now ≤ length edges.old) }
+    ensures { (EdgesOf (space_in states.now.pattern.now states.now.weights.now states.now.words.now) states.now.pattern.now.sizes (states_of states.now.pattern.now) tests.new edges.new result) × (Tests tests.new result) × (result ≤ edges_most states.now.pattern.now) }
 {
+    let pattern = states.pattern;
     let mut c = 0usize;
-    let mut rest = live;
+    let mut rest = pattern.live;
+    // Stays: the step takes the lowest number out of the set, and what is known is of the set that is left; the library has no iterator over the
+    // numbers of a set.
     while rest != 0 {
         let m = u64::trailing_zeros(rest) as usize;
-        c = put_action(task, mask, weights, sizes, tests, edges, c, m);
+        c = put_action(
+            pattern.task,
+            pattern.mask,
+            states.weights,
+            pattern.sizes,
+            tests,
+            edges,
+            c,
+            m,
+        );
         rest &= rest - 1;
     }
     c
@@ -191,6 +194,7 @@ pub(crate) fn edge_count(task: &[u64; 1282], mask: u64, actions: usize, live: u6
 {
     let mut c = 0usize;
     let mut rest = live;
+    // Stays: as in `make_edges`.
     while rest != 0 {
         let m = u64::trailing_zeros(rest) as usize;
         c += task[20 * m + 2] as usize;

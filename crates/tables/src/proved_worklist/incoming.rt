@@ -3,7 +3,7 @@
 // no sets, and its edges are tested one by one.
 ghost use Rattle.std.specs.Prelude.{◌≡◌, ℕ, ◌+◌, ◌-◌, ◌*◌, ◌/◌, ◌<◌, ◌≤◌, min, true, length, slice_index};
 ghost use Rattle.tables.specs.Sets.{set_from, SlotsOf};
-ghost use Rattle.tables.specs.Incoming.{Row, Tests, Parted, Incoming, edge_need, digits_meet, PartFilled, EdgeRow};
+ghost use Rattle.tables.specs.Incoming.{Row, Tests, Halved, Incoming, edge_need, digits_meet, PartFilled, EdgeRow};
 
 use crate::applying::enter;
 use crate::proved_worklist::edges::Graph;
@@ -67,67 +67,61 @@ fn fill_part(
     }
 }
 
+// How the index of the states is split: `lower` states of the digits `low`, and `upper` of the digits `high`; and the words of all.
+#[derive(Clone, Copy)]
+pub(crate) struct Halves<'a> {
+    pub(crate) words: &'a [u64],
+    pub(crate) lower: usize,
+    pub(crate) upper: usize,
+    pub(crate) low: u64,
+    pub(crate) high: u64,
+}
+
 // The row of the edges from `first` on, `count` of them.
 fn fill_row(
-    states: &[u64],
+    halves: &Halves,
     tests: &[u64],
     first: usize,
     count: usize,
-    low: u64,
-    high: u64,
-    lower: usize,
-    upper: usize,
     base: usize,
     sets: &mut [u64],
 )
-    requires { (count ≤ 64) × (first + count ≤ 512) × (2 * (first + count) ≤ length tests.now) × (1 ≤ lower) × (lower ≤ length states.now) × (upper * lower ≤ length states.now) × (base + lower + upper ≤ length sets.old) }
-    ensures { (EdgeRow states.now tests.now sets.new low high lower upper first count base) × ((i : ℕ) → i < base → slice_index sets.new i ≡ slice_index sets.old i) }
+    requires { (count ≤ 64) × (first + count ≤ 512) × (2 * (first + count) ≤ length tests.now) × (Halved halves.now.words.now halves.now.lower halves.now.upper halves.now.low halves.now.high) × (1 ≤ halves.now.upper) × (base + halves.now.lower + halves.now.upper ≤ length sets.old) }
+    ensures { (EdgeRow halves.now.words.now tests.now sets.new halves.now.low halves.now.high halves.now.lower halves.now.upper first count base) × ((i : ℕ) → i < base → slice_index sets.new i ≡ slice_index sets.old i) }
 {
+    let words = halves.words;
+    let lower = halves.lower;
     let mut slots = [0u64; 272];
     let all = enter_edges(tests, first, count, &mut slots);
-    fill_part(states, &slots, all, low, 1, lower, base, sets);
-    fill_part(states, &slots, all, high, lower, upper, base + lower, sets);
+    fill_part(words, &slots, all, halves.low, 1, lower, base, sets);
+    fill_part(
+        words,
+        &slots,
+        all,
+        halves.high,
+        lower,
+        halves.upper,
+        base + lower,
+        sets,
+    );
 }
 
 // Every row, if there is room for sets at all.
-pub(crate) fn fill_sets(
-    states: &[u64],
-    tests: &[u64],
-    n: usize,
-    k: usize,
-    low: u64,
-    high: u64,
-    lower: usize,
-    upper: usize,
-    sets: &mut [u64],
-)
-    requires { (Tests tests.now k) × (Parted states.now n lower low high) × (n ≡ upper * lower) × (n ≤ length states.now) × (upper ≤ 1024) × ((1 ≤ length sets.old → (c : ℕ) → 64 * c < k → (lower + upper) * c + lower + upper ≤ length sets.old)) }
-    ensures { Incoming states.now tests.now n k lower upper sets.new }
+pub(crate) fn fill_sets(halves: &Halves, tests: &[u64], k: usize, sets: &mut [u64])
+    requires { (Tests tests.now k) × (Halved halves.now.words.now halves.now.lower halves.now.upper halves.now.low halves.now.high) × (1 ≤ length sets.old → (c : ℕ) → 64 * c < k → (halves.now.lower + halves.now.upper) * c + halves.now.lower + halves.now.upper ≤ length sets.old) }
+    ensures { Incoming halves.now.words.now tests.now (halves.now.upper * halves.now.lower) k halves.now.lower halves.now.upper sets.new }
 {
     if sets.len() == 0 {
         return;
     }
-    if upper == 0 {
+    if halves.upper == 0 {
         return;
     }
-    let mut c = 0usize;
-    let mut base = 0usize;
-    while 64 * c < k {
-        let count = (k - 64 * c).min(64);
-        fill_row(
-            states,
-            tests,
-            64 * c,
-            count,
-            low,
-            high,
-            lower,
-            upper,
-            base,
-            sets,
-        );
-        base += lower + upper;
-        c += 1;
+    let width = halves.lower + halves.upper;
+    for c in 0..k.div_ceil(64) {
+        let first = 64 * c;
+        let count = (k - first).min(64);
+        fill_row(halves, tests, first, count, width * c, sets);
     }
 }
 

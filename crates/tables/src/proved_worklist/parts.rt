@@ -20,16 +20,14 @@ fn lower_variables(sizes: [u8; 16], pattern: [u8; 16], n: usize) -> usize
     ensures { (result ≤ n) × (state_count (take result sizes) pattern ≤ 64) × (state_count (take n sizes) pattern ≤ 1024 * state_count (take result sizes) pattern) }
 {
     let mut w = 1usize;
-    let mut v = 0usize;
-    while v < n {
+    for v in 0..n {
         let next = next_weight(pattern[v], w, sizes[v]);
         if next > 64 {
             return v;
         }
         w = next;
-        v += 1;
     }
-    v
+    n
 }
 
 // The digits of the first v variables.

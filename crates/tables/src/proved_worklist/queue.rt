@@ -1,6 +1,6 @@
 // The states that wait, each once: a ring of their numbers, and a mark for each. Put and take promise only that what was put in and not taken
 // out is in; nothing rests on their order.
-ghost use Rattle.std.specs.Prelude.{◌≡◌, ◌+◌, ◌-◌, ◌%◌, ◌<◌, ◌≤◌, length};
+ghost use Rattle.std.specs.Prelude.{◌≡◌, ◌+◌, ◌-◌, ◌%◌, ◌<◌, ◌≤◌, IfSome, IfNone, length};
 ghost use Rattle.tables.specs.Queue.{Queue, Put, Taken};
 
 // So many of the states with numbers below `states` wait, from the place `head` on.
@@ -44,15 +44,19 @@ impl<const N: usize> Ring<N> {
         self.count += 1;
     }
 
-    // The state at the head waits no longer.
-    pub(crate) fn take(&mut self) -> usize
-        requires { 1 ≤ self.old.count }
-        ensures { (Taken self.old.states self.old.places self.old.marks self.old.head self.old.count self.new.marks result) × (self.new.states ≡ self.old.states) × (self.new.places ≡ self.old.places) × (self.new.count ≡ self.old.count - 1) × (self.new.head ≡ (self.old.head + 1) % length self.old.places) }
+    // The state at the head waits no longer; none if no state waits.
+    pub(crate) fn take(&mut self) -> Option<usize>
+        ensures taken { IfSome result (λ j. (Taken self.old.states self.old.places self.old.marks self.old.head self.old.count self.new.marks j) × (1 ≤ self.old.count) × (self.new.places ≡ self.old.places) × (self.new.count ≡ self.old.count - 1) × (self.new.head ≡ (self.old.head + 1) % length self.old.places)) }
+        ensures none { IfNone result (self.old.count ≡ 0) }
+        ensures states { self.new.states ≡ self.old.states }
     {
+        if self.count == 0 {
+            return None;
+        }
         let j = usize::from(self.places[self.head]);
         self.head = (self.head + 1) % N;
         self.count -= 1;
         self.marks[j] = 0;
-        j
+        Some(j)
     }
 }

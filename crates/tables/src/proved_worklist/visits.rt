@@ -9,6 +9,16 @@ use crate::proved_worklist::edges::Graph;
 use crate::proved_worklist::queue::Ring;
 use crate::sweep::{entry_at, permits, raise, times};
 
+// What goes on while states wait: the graph, the entries of its states so far, and the ring of those that wait.
+#[derive(Drop)]
+pub(crate) struct Worklist<'a, const N: usize> {
+    pub(crate) graph: &'a Graph<'a>,
+    pub(crate) entries: &'a mut [u16],
+    pub(crate) ring: &'a mut Ring<N>,
+    ghost all: { graph.now.number ≡ length entries.now },
+    ghost places: { ring.now.states ≡ length entries.now },
+}
+
 // Two lanes of one value each that add nothing: no digit is free, and one state is before another.
 const PLAIN: u64 = 72057594054705152;
 
@@ -72,95 +82,6 @@ fn offer_along(graph: &Graph, entries: &[u16], marks: &[u8], e: usize, i: usize)
     raise(edges[4 * e] / 65536 % 65536, most)
 }
 
-// The action of edge e is asked about state i: its entry falls to what the action says, if that is less, and then the state waits.
-fn ask<const N: usize>(graph: &Graph, entries: &mut [u16], ring: &mut Ring<N>, e: usize, i: usize)
-    requires { (e < graph.now.edge_number) × (i < length entries.old) × (graph.now.number ≡ length entries.old) × (ring.old.states ≡ length entries.old) }
-    ensures { (Asked graph.now.space (edge_action graph.now.edges e) i entries.old ring.old.marks ring.old.count entries.new ring.new.places ring.new.marks ring.old.head ring.new.count) × (ring.new.states ≡ ring.old.states) × (ring.new.head ≡ ring.old.head) }
-{
-    let edges = graph.edges;
-    let states = graph.states;
-    let m = (edges[4 * e] / 4294967296) as usize;
-    if !permits(graph.task, graph.mask, m, states[i]) {
-        return;
-    }
-    let v = offer_along(graph, entries, &ring.marks, e, i);
-    if v >= entries[i] {
-        return;
-    }
-    entries[i] = v;
-    ring.put(i);
-}
-
-// The action of edge e, which has no other edge and no free digit, is asked about the state i before j: it says its weight and the entry
-// of j.
-fn ask_only<const N: usize>(
-    graph: &Graph,
-    entries: &mut [u16],
-    ring: &mut Ring<N>,
-    e: usize,
-    j: usize,
-    i: usize,
-)
-    requires { (e < graph.now.edge_number) × (i < length entries.old) × (graph.now.number ≡ length entries.old) × (ring.old.states ≡ length entries.old) × (j < length entries.old) × (edge_lanes graph.now.edges e ≡ 72057594054705152) × (edge_free graph.now.edges e ≡ 0) × (i ≡ way_back graph.now.edges e j) × (edge_end graph.now.edges e ≡ edge_first graph.now.edges e + 1) }
-    ensures { (Asked graph.now.space (edge_action graph.now.edges e) i entries.old ring.old.marks ring.old.count entries.new ring.new.places ring.new.marks ring.old.head ring.new.count) × (ring.new.states ≡ ring.old.states) × (ring.new.head ≡ ring.old.head) }
-{
-    let edges = graph.edges;
-    let states = graph.states;
-    let m = (edges[4 * e] / 4294967296) as usize;
-    if !permits(graph.task, graph.mask, m, states[i]) {
-        return;
-    }
-    let said = raise(edges[4 * e] / 65536 % 65536, entries[j]);
-    if said >= entries[i] {
-        return;
-    }
-    entries[i] = said;
-    ring.put(i);
-}
-
-// Whether entry i is there and above what was said.
-fn is_above(entries: &[u16], i: usize, said: usize) -> bool
-    ensures { (result ≡ above entries.now i said) × (slice_index entries.now i ≤ 65535) }
-{
-    if i < entries.len() {
-        return usize::from(entries[i]) > said;
-    }
-    false
-}
-
-// The action of edge e is asked about the states whose index is `at` and any values of its two lanes.
-fn visit_lanes<const N: usize>(
-    graph: &Graph,
-    entries: &mut [u16],
-    ring: &mut Ring<N>,
-    e: usize,
-    j: usize,
-    entry: usize,
-    at: usize,
-)
-    requires { (e < graph.now.edge_number) × (graph.now.number ≡ length entries.old) × (ring.old.states ≡ length entries.old) × (j < length entries.old) × (Told entries.old ring.old.marks j entry) × (entry ≤ 65535) × (at ≤ 17000000) }
-    ensures { (Laned graph.now.space graph.now.edges e j at entries.old ring.old.marks ring.old.count entries.new ring.new.places ring.new.marks ring.old.head ring.new.count) × (ring.new.states ≡ ring.old.states) × (ring.new.head ≡ ring.old.head) }
-{
-    let edges = graph.edges;
-    let said = entry + (edges[4 * e] / 65536 % 65536) as usize;
-    let lanes = edges[4 * e + 1];
-    let one = (lanes % 65536) as usize;
-    let two = (lanes / 4294967296 % 65536) as usize;
-    let ones = (lanes / 16777216 % 256) as usize;
-    let twos = (lanes / 4294967296 / 16777216 % 256) as usize;
-    let mut row = at;
-    for y in 0..twos {
-        let mut i = row;
-        for x in 0..ones {
-            if is_above(entries, i, said) {
-                ask(graph, entries, ring, e, i);
-            }
-            i += one;
-        }
-        row += two;
-    }
-}
-
 // How many values of a digit are gone through: one where it is not free.
 fn values_of(free: u64, size: u8) -> u64
     ensures { (result ≤ 16) × (free ≡ 0 → 1 ≤ result) × (1 ≤ free → (d : ℕ) → d < 16 → d < size → d < result) }
@@ -171,64 +92,132 @@ fn values_of(free: u64, size: u8) -> u64
     u64::from(size).min(16)
 }
 
-// The action of edge e is asked about the states whose index is `at`, any values of its two lanes and of the free digits from v on.
-fn visit_free<const N: usize>(
-    graph: &Graph,
-    entries: &mut [u16],
-    ring: &mut Ring<N>,
-    e: usize,
-    j: usize,
-    entry: usize,
-    v: usize,
-    free: u64,
-    at: usize,
-)
-    requires { (e < graph.now.edge_number) × (graph.now.number ≡ length entries.old) × (ring.old.states ≡ length entries.old) × (j < length entries.old) × (Told entries.old ring.old.marks j entry) × (entry ≤ 65535) × (Choices graph.now.space.states graph.now.sizes (length entries.old) v free) × (v ≤ 16) × (at ≤ 65536 + 983025 * v) }
-    ensures { (Freed graph.now.space graph.now.edges e j v free at entries.old ring.old.marks ring.old.count entries.new ring.new.places ring.new.marks ring.old.head ring.new.count) × (ring.new.states ≡ ring.old.states) × (ring.new.head ≡ ring.old.head) }
-{
-    let weights = graph.weights;
-    if free == 0 || v >= 16 {
-        visit_lanes(graph, entries, ring, e, j, entry, at);
-        return;
-    }
-    let end = values_of(free % 16, graph.sizes[v]);
-    for d in 0..end {
-        let next = at + times(d, weights[v]);
-        visit_free(graph, entries, ring, e, j, entry, v + 1, free / 16, next);
-    }
-}
+impl<'a, const N: usize> Worklist<'a, N> {
+    ghost use Rattle.tables.specs.Worklist.{Goes};
 
-// The action of edge e is asked about every state from which the edge leads to j.
-pub(crate) fn visit_edge<const N: usize>(
-    graph: &Graph,
-    entries: &mut [u16],
-    ring: &mut Ring<N>,
-    e: usize,
-    j: usize,
-    entry: usize,
-)
-    requires { (e < graph.now.edge_number) × (graph.now.number ≡ length entries.old) × (ring.old.states ≡ length entries.old) × (j < length entries.old) × (Told entries.old ring.old.marks j entry) × (entry ≤ 65535) }
-    ensures { (Passed graph.now.space graph.now.tests graph.now.edges e j entries.old ring.old.marks ring.old.count entries.new ring.new.places ring.new.marks ring.old.head ring.new.count) × (ring.new.states ≡ ring.old.states) × (ring.new.head ≡ ring.old.head) }
-{
-    let edges = graph.edges;
-    let at = (j + (edges[4 * e] % 65536) as usize) % 65536;
-    let free = edges[4 * e + 2];
-    if free == 0 {
-        if edges[4 * e + 1] == PLAIN {
-            let said = entry + (edges[4 * e] / 65536 % 65536) as usize;
-            if !is_above(entries, at, said) {
-                return;
-            }
-            let span = edges[4 * e + 3];
-            if span / 1024 == span % 1024 + 1 {
-                ask_only(graph, entries, ring, e, j, at);
-                return;
-            }
-            ask(graph, entries, ring, e, at);
+    // The action of edge e is asked about state i: its entry falls to what the action says, if that is less, and then the state waits.
+    fn ask(&mut self, e: usize, i: usize)
+        requires { (e < self.old.graph.now.edge_number) × (i < length self.old.entries.now) }
+        ensures { Goes (λ g. Asked g.space (edge_action g.edges e) i) self.old self.new }
+    {
+        let graph = self.graph;
+        let entries = &mut *self.entries;
+        let ring = &mut *self.ring;
+        let edges = graph.edges;
+        let states = graph.states;
+        let m = (edges[4 * e] / 4294967296) as usize;
+        if !permits(graph.task, graph.mask, m, states[i]) {
             return;
         }
-        visit_lanes(graph, entries, ring, e, j, entry, at);
-        return;
+        let v = offer_along(graph, entries, &ring.marks, e, i);
+        if v >= entries[i] {
+            return;
+        }
+        entries[i] = v;
+        ring.put(i);
     }
-    visit_free(graph, entries, ring, e, j, entry, 0, free, at);
+
+    // The action of edge e, which has no other edge and no free digit, is asked about the state i before j: it says its weight and the entry
+    // of j.
+    fn ask_only(&mut self, e: usize, j: usize, i: usize)
+        requires { (e < self.old.graph.now.edge_number) × (i < length self.old.entries.now) × (j < length self.old.entries.now) × (edge_lanes self.old.graph.now.edges e ≡ 72057594054705152) × (edge_free self.old.graph.now.edges e ≡ 0) × (i ≡ way_back self.old.graph.now.edges e j) × (edge_end self.old.graph.now.edges e ≡ edge_first self.old.graph.now.edges e + 1) }
+        ensures { Goes (λ g. Asked g.space (edge_action g.edges e) i) self.old self.new }
+    {
+        let graph = self.graph;
+        let edges = graph.edges;
+        let states = graph.states;
+        let m = (edges[4 * e] / 4294967296) as usize;
+        if !permits(graph.task, graph.mask, m, states[i]) {
+            return;
+        }
+        let said = raise(edges[4 * e] / 65536 % 65536, self.entries[j]);
+        if said >= self.entries[i] {
+            return;
+        }
+        self.entries[i] = said;
+        self.ring.put(i);
+    }
+
+    // Whether entry i is there and above what was said.
+    fn is_above(&self, i: usize, said: usize) -> bool
+        ensures { (result ≡ above self.now.entries.now i said) × (slice_index self.now.entries.now i ≤ 65535) }
+    {
+        if i < self.entries.len() {
+            return usize::from(self.entries[i]) > said;
+        }
+        false
+    }
+
+    // The action of edge e is asked about the states whose index is `at` and any values of its two lanes.
+    fn visit_lanes(&mut self, e: usize, j: usize, entry: usize, at: usize)
+        requires { (e < self.old.graph.now.edge_number) × (j < length self.old.entries.now) × (Told self.old.entries.now self.old.ring.now.marks j entry) × (entry ≤ 65535) × (at ≤ 17000000) }
+        ensures { Goes (λ g. Laned g.space g.edges e j at) self.old self.new }
+    {
+        let graph = self.graph;
+        let edges = graph.edges;
+        let said = entry + (edges[4 * e] / 65536 % 65536) as usize;
+        let lanes = edges[4 * e + 1];
+        let one = (lanes % 65536) as usize;
+        let two = (lanes / 4294967296 % 65536) as usize;
+        let ones = (lanes / 16777216 % 256) as usize;
+        let twos = (lanes / 4294967296 / 16777216 % 256) as usize;
+        let mut row = at;
+        for y in 0..twos {
+            let mut i = row;
+            for x in 0..ones {
+                if self.is_above(i, said) {
+                    self.ask(e, i);
+                }
+                i += one;
+            }
+            row += two;
+        }
+    }
+
+    // The action of edge e is asked about the states whose index is `at`, any values of its two lanes and of the free digits from v on.
+    fn visit_free(&mut self, e: usize, j: usize, entry: usize, v: usize, free: u64, at: usize)
+        requires { (e < self.old.graph.now.edge_number) × (j < length self.old.entries.now) × (Told self.old.entries.now self.old.ring.now.marks j entry) × (entry ≤ 65535) × (Choices self.old.graph.now.space.states self.old.graph.now.sizes (length self.old.entries.now) v free) × (v ≤ 16) × (at ≤ 65536 + 983025 * v) }
+        ensures { Goes (λ g. Freed g.space g.edges e j v free at) self.old self.new }
+    {
+        let graph = self.graph;
+        let weights = graph.weights;
+        if free == 0 || v >= 16 {
+            self.visit_lanes(e, j, entry, at);
+            return;
+        }
+        let end = values_of(free % 16, graph.sizes[v]);
+        for d in 0..end {
+            let next = at + times(d, weights[v]);
+            self.visit_free(e, j, entry, v + 1, free / 16, next);
+        }
+    }
+
+    // The action of edge e is asked about every state from which the edge leads to j.
+    pub(crate) fn visit_edge(&mut self, e: usize, j: usize, entry: usize)
+        requires { (e < self.old.graph.now.edge_number) × (j < length self.old.entries.now) × (Told self.old.entries.now self.old.ring.now.marks j entry) × (entry ≤ 65535) }
+        ensures { Goes (λ g. Passed g.space g.tests g.edges e j) self.old self.new }
+    {
+        let graph = self.graph;
+        let edges = graph.edges;
+        let at = (j + (edges[4 * e] % 65536) as usize) % 65536;
+        let free = edges[4 * e + 2];
+        if free == 0 {
+            if edges[4 * e + 1] == PLAIN {
+                let said = entry + (edges[4 * e] / 65536 % 65536) as usize;
+                if !self.is_above(at, said) {
+                    return;
+                }
+                let span = edges[4 * e + 3];
+                if span / 1024 == span % 1024 + 1 {
+                    self.ask_only(e, j, at);
+                    return;
+                }
+                self.ask(e, at);
+                return;
+            }
+            self.visit_lanes(e, j, entry, at);
+            return;
+        }
+        self.visit_free(e, j, entry, 0, free, at);
+    }
 }

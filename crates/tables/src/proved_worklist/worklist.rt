@@ -1,55 +1,20 @@
 // The worklist: the goals have 0 and wait; a state that waits is taken, and the actions that lead to it are asked about the states before it; an
 // entry that falls waits. It ends when no state waits, or none that waits can lower an entry. The order in which states are taken carries no proof.
-ghost use Rattle.std.specs.Prelude.{◌≡◌, ℕ, ◌+◌, ◌-◌, ◌*◌, ◌/◌, ◌<◌, ◌≤◌, true, not, length, slice_index};
-ghost use Rattle.tables.specs.Sets.{set_from};
-ghost use Rattle.tables.specs.Steps.{space, idles, started, Readable, Settled};
+ghost use Rattle.std.specs.Prelude.{◌≡◌, ◌<◌, ◌≤◌, true, length, slice_index};
+ghost use Rattle.tables.specs.Steps.{started, Settled};
 ghost use Rattle.tables.specs.Waiting.{Kept, Told};
-ghost use Rattle.tables.specs.Edges.{outcomes_from, Regular};
-ghost use Rattle.tables.specs.Incoming.{Row, Parted};
+ghost use Rattle.tables.specs.Incoming.{Row};
+ghost use Rattle.tables.specs.Patterned.{states_of};
+ghost use Rattle.tables.specs.Listed.{SplitAt, Roomy, space_in};
 ghost use Rattle.tables.specs.Visits.{RowDone, Visited, GoalsWait, Level};
 
 use crate::proved_worklist::edges::{Graph, make_edges};
-use crate::proved_worklist::incoming::{edges_into, fill_sets, upper_part};
+use crate::proved_worklist::incoming::{Halves, edges_into, fill_sets, upper_part};
+use crate::proved_worklist::parts::Parts;
 use crate::proved_worklist::queue::Ring;
-use crate::proved_worklist::visits::visit_edge;
+use crate::proved_worklist::states::States;
+use crate::proved_worklist::visits::Worklist;
 use crate::sweep::start;
-
-// The edges of a set: of the 64 from 64 * c on.
-fn visit_row<const N: usize>(
-    graph: &Graph,
-    entries: &mut [u16],
-    ring: &mut Ring<N>,
-    j: usize,
-    entry: usize,
-    c: usize,
-    set: u64,
-)
-    requires { (graph.now.number ≡ length entries.old) × (ring.old.states ≡ length entries.old) × (j < length entries.old) × (Told entries.old ring.old.marks j entry) × (entry ≤ 65535) × (Row graph.now.tests (slice_index graph.now.space.states j) graph.now.edge_number c set) × (c ≤ 8) }
-    ensures { (RowDone graph.now.space graph.now.tests graph.now.edges graph.now.edge_number j c entries.old ring.old.marks ring.old.count entries.new ring.new.places ring.new.marks ring.old.head ring.new.count) × (ring.new.states ≡ ring.old.states) × (ring.new.head ≡ ring.old.head) }
-{
-    let mut rest = set;
-    while rest != 0 {
-        let q = u64::trailing_zeros(rest) as usize;
-        visit_edge(graph, entries, ring, 64 * c + q, j, entry);
-        rest &= rest - 1;
-    }
-}
-
-// Every edge that leads into state j.
-fn visit<const N: usize>(graph: &Graph, entries: &mut [u16], ring: &mut Ring<N>, j: usize)
-    requires { (graph.now.number ≡ length entries.old) × (ring.old.states ≡ length entries.old) × (j < length entries.old) }
-    ensures { (Visited graph.now.space j entries.old ring.old.marks ring.old.count entries.new ring.new.places ring.new.marks ring.old.head ring.new.count) × (ring.new.states ≡ ring.old.states) × (ring.new.head ≡ ring.old.head) }
-{
-    let k = graph.k;
-    let entry = usize::from(entries[j]);
-    let h = upper_part(j, graph.lower, graph.inverse);
-    let mut c = 0usize;
-    while 64 * c < k {
-        let set = edges_into(graph, j, h, c);
-        visit_row(graph, entries, ring, j, entry, c, set);
-        c += 1;
-    }
-}
 
 // Whether no state that waits can lower an entry: none is more than 1 above the least that waits.
 fn is_level(entries: &[u16], marks: &[u8]) -> bool
@@ -80,61 +45,115 @@ fn put_goals<const N: usize>(entries: &[u16], ring: &mut Ring<N>)
     }
 }
 
-// Takes the waiting states one by one. When as many were taken or wait as there are states, each is likely to have its entry, and one look at all
-// of them may show that no other can fall; that look is made once for as many states.
-fn run<const N: usize>(graph: &Graph, entries: &mut [u16], ring: &mut Ring<N>)
-    requires { (graph.now.number ≡ length entries.old) × (ring.old.states ≡ length entries.old) × (Kept graph.now.space entries.old entries.old ring.old.marks) }
-    ensures { Settled graph.now.space entries.old entries.new }
-{
-    let n = graph.n;
-    let mut since = 0usize;
-    while ring.count > 0 {
-        if since + ring.count >= n {
-            if is_level(entries, &ring.marks) {
-                return;
-            }
-            since = 0;
+impl<'a, const N: usize> Worklist<'a, N> {
+    ghost use Rattle.tables.specs.Worklist.{Goes};
+
+    // The edges of a set: of the 64 from 64 * c on.
+    fn visit_row(&mut self, j: usize, entry: usize, c: usize, set: u64)
+        requires { (j < length self.old.entries.now) × (Told self.old.entries.now self.old.ring.now.marks j entry) × (entry ≤ 65535) × (Row self.old.graph.now.tests (slice_index self.old.graph.now.space.states j) self.old.graph.now.edge_number c set) × (c ≤ 8) }
+        ensures { Goes (λ g. RowDone g.space g.tests g.edges g.edge_number j c) self.old self.new }
+    {
+        let mut rest = set;
+        // Stays: the step takes the lowest number out of the set, and what is known is of the set that is left; the library has no iterator over the
+        // numbers of a set.
+        while rest != 0 {
+            let q = u64::trailing_zeros(rest) as usize;
+            self.visit_edge(64 * c + q, j, entry);
+            rest &= rest - 1;
         }
-        let j = ring.take();
-        since += 1;
-        visit(graph, entries, ring, j);
+    }
+
+    // Every edge that leads into state j.
+    fn visit(&mut self, j: usize)
+        requires { j < length self.old.entries.now }
+        ensures { Goes (λ g. Visited g.space j) self.old self.new }
+    {
+        let graph = self.graph;
+        let entry = usize::from(self.entries[j]);
+        let h = upper_part(j, graph.lower, graph.inverse);
+        for c in 0..graph.k.div_ceil(64) {
+            let set = edges_into(graph, j, h, c);
+            self.visit_row(j, entry, c, set);
+        }
+    }
+
+    // Takes the waiting states one by one. When as many were taken or wait as there are states, each is likely to have its entry, and one look at all
+    // of them may show that no other can fall; that look is made once for as many states.
+    fn run(&mut self)
+        requires { Kept self.old.graph.now.space self.old.entries.now self.old.entries.now self.old.ring.now.marks }
+        ensures same_entries { self.new.entries.ghost_name ≡ self.old.entries.ghost_name }
+        ensures same_ring { self.new.ring.ghost_name ≡ self.old.ring.ghost_name }
+        ensures settled { Settled self.old.graph.now.space self.old.entries.now self.new.entries.now }
+    {
+        let graph = self.graph;
+        let n = graph.n;
+        let mut since = 0usize;
+        while let Some(j) = self.ring.take() {
+            self.visit(j);
+            since += 1;
+            if since + self.ring.count >= n {
+                let entries = &mut *self.entries;
+                let ring = &mut *self.ring;
+                if is_level(entries, &ring.marks) {
+                    return;
+                }
+                since = 0;
+            }
+        }
     }
 }
 
-// The entries of a pattern's states, from the goals on along the edges.
-pub(crate) fn settle<const N: usize>(
-    task: &[u64; 1282],
-    mask: u64,
-    weights: &[u16; 16],
-    states: &[u64],
-    actions: usize,
-    sizes: [u8; 16],
-    live: u64,
-    low: u64,
-    lower: usize,
-    room: usize,
-    tests: &mut [u64],
-    edges: &mut [u64],
-    sets: &mut [u64],
-    entries: &mut [u16],
-)
-    requires { (Readable task.now actions) × (live ≡ set_from (λ m. not (idles task.now mask m)) 0 actions) × (Regular (space task.now mask weights.now states.now actions) sizes (length entries.old)) × (length weights.now ≤ 16) × (length entries.old ≤ length states.now) × (2 * room ≤ length tests.old) × (4 * room ≤ length edges.old) × (outcomes_from task.now mask 0 actions ≤ room) × (room ≤ 512) × (length entries.old ≤ N) × (1 ≤ N) × (N ≤ 4096) × (Parted states.now (length entries.old) lower low (mask - low)) × (low ≤ mask) × (length entries.old ≡ length entries.old / lower * lower) × (length entries.old / lower ≤ 1024) × ((1 ≤ length sets.old → (c : ℕ) → 64 * c < room → (lower + length entries.old / lower) * c + lower + length entries.old / lower ≤ length sets.old)) }
-    ensures { Settled (space task.now mask weights.now states.now actions) (started task.now mask states.now (length entries.old)) entries.new }
+// From the entries at the start: the goals are 0, and wait first.
+fn settle_started<const N: usize>(graph: &Graph, entries: &mut [u16])
+    requires { (graph.now.number ≡ length entries.old) × (entries.old ≡ started graph.now.space.task graph.now.space.mask graph.now.space.states (length entries.old)) × (length entries.old ≤ N) × (1 ≤ N) × (N ≤ 4096) }
+    ensures { Settled graph.now.space entries.old entries.new }
 {
+    let n = graph.n;
+    let mut ring: Ring<N> = Ring::new(n);
+    put_goals(entries, &mut ring);
+    let mut work = Worklist {
+        graph,
+        entries,
+        ring: &mut ring,
+    };
+    work.run();
+}
+
+// The arrays that a table takes: for the tests of the edges, for the edges, and for their sets.
+#[derive(Drop)]
+pub(crate) struct Room<'a> {
+    pub(crate) tests: &'a mut [u64],
+    pub(crate) edges: &'a mut [u64],
+    pub(crate) sets: &'a mut [u64],
+}
+
+// The entries of a pattern's states, from the goals on along the edges.
+pub(crate) fn settle<const N: usize>(states: &States, parts: Parts, room: Room, entries: &mut [u16])
+    requires { (length entries.old ≡ states_of states.now.pattern.now) × (SplitAt states.now.pattern.now parts.lower parts.low) × (Roomy states.now.pattern.now room.tests.now room.edges.now room.sets.now) × (length entries.old ≤ N) × (1 ≤ N) × (N ≤ 4096) }
+    ensures { Settled (space_in states.now.pattern.now states.now.weights.now states.now.words.now) (started states.now.pattern.now.task states.now.pattern.now.mask states.now.words.now (length entries.old)) entries.new }
+{
+    let pattern = states.pattern;
     let n = entries.len();
+    let Room { tests, edges, sets } = room;
+    let lower = parts.lower;
     let upper = n / lower;
-    let k = make_edges(
-        task, mask, weights, states, actions, n, sizes, live, room, tests, edges,
-    );
-    fill_sets(states, tests, n, k, low, mask - low, lower, upper, sets);
-    start(task, mask, states, entries);
+    let k = make_edges(states, tests, edges);
+    let halves = Halves {
+        words: states.words,
+        lower,
+        upper,
+        low: parts.low,
+        high: pattern.mask - parts.low,
+    };
+    fill_sets(&halves, tests, k, sets);
+    start(pattern.task, pattern.mask, states.words, entries);
     let graph = Graph {
-        task,
-        mask,
-        weights,
-        states,
-        actions,
-        sizes,
+        task: pattern.task,
+        mask: pattern.mask,
+        weights: states.weights,
+        states: states.words,
+        actions: pattern.actions,
+        sizes: pattern.sizes,
         n,
         tests,
         edges,
@@ -144,7 +163,5 @@ pub(crate) fn settle<const N: usize>(
         upper,
         inverse: 1048576 / lower + 1,
     };
-    let mut ring: Ring<N> = Ring::new(n);
-    put_goals(entries, &mut ring);
-    run(&graph, entries, &mut ring);
+    settle_started::<N>(&graph, entries);
 }

@@ -23,4 +23,4 @@ pub loop-v-preserved : goal.loop-v-preserved
 loop-v-preserved c = let l = c.loop-v in (rw c.next_weight-next.ensures (weighed_step c.args.sizes c.args.pattern c.args.n l.w l.v c.requires c.loop-v-test.true l.invariant.0), c.if-next-gt64.false)
 
 pub returns : goal.returns
-returns c = let l = c.loop-v in lower_whole c.args.sizes c.args.pattern c.args.n l.w l.v l.invariant.0 c.loop-v-test.false l.invariant.1
+returns c = let l = c.loop-v in let w = lower_whole c.args.sizes c.args.pattern c.args.n l.w l.v l.invariant.0 c.loop-v-test.false l.invariant.1 in let e : l.v ≡ c.args.n = omega (arith, w.0, c.loop-v-test.false) in rw e at w

@@ -1,24 +1,43 @@
 -- `settle`: edges, sets, the start, and the loop over waiting states. Assumes nothing.
-use Rattle.std.proofs.Common.{sym, ◌∙◌, arith}
-use Rattle.tables.specs.Steps.{space}
-use Rattle.tables.proofs.Starting.{start_kept, settled_from}
+use Rattle.std.proofs.Common.{sym, arith, rules}
+use Rattle.tables.proofs.Rounds.{rows_as}
+use Rattle.tables.proofs.Starting.{settled_from}
+use Rattle.tables.proofs.Standing.{weights_short, parted_as}
 use Rattle.tables.proofs.proved_worklist.worklist.settle.Goals as goal
 
 pub nonzero_div-upper : goal.nonzero_div-upper
-nonzero_div-upper g c = omega (arith, c.requires.12.lower_some)
+nonzero_div-upper g c = omega (arith, c.requires.1.lower_some)
 
-pub overflow_sub-mask : goal.overflow_sub-mask
-overflow_sub-mask g c = omega (arith, c.requires.13)
+pub make_edges-k-requires : goal.make_edges-k-requires
+make_edges-k-requires g c = let r = c.requires.2 in (r.few, r.tests_room, r.edges_room)
+
+pub overflow_sub-halves : goal.overflow_sub-halves
+overflow_sub-halves g c = let p = rw (← c.pattern.view_is) at c.requires in omega (arith, p.1.inside)
 
 pub fill_sets-requires : goal.fill_sets-requires
-fill_sets-requires g c = let p = c.requires in let e = c.make_edges-k.ensures in (e.1, p.12, p.14, p.4, p.15, λ s d b. p.16 s d (omega (arith, b, e.2)))
+fill_sets-requires g c = let p = rw (← c.pattern.view_is) at c.requires in let l = rw (← c.pattern.view_is) at c.args.states.now.listed in let e = rw (← c.pattern.view_is) at c.make_edges-k.ensures in let s = p.1 in (
+  e.1,
+  record { parted = rw p.0 (parted_as (sym s.whole) (s.parted _ l.words_are)); long = rw p.0 (rw s.whole l.long); upper_few = rw p.0 s.upper_few },
+  rw p.0 (λ some d b. p.2.sets_room.rows some _ d s.lower_some s.lower_few s.upper_few (omega (arith, b, e.2))),
+)
 
 pub nonzero_div-graph : goal.nonzero_div-graph
-nonzero_div-graph g c = omega (arith, c.requires.12.lower_some)
+nonzero_div-graph g c = omega (arith, c.requires.1.lower_some)
 
-pub run-requires : goal.run-requires
-run-requires g c = let p = c.requires in let a = c.args in let e = c.put_goals.ensures in
-    (omega (arith, p.11), (sym c.start.auto.entries, e.1 ∙ c.new-ring.ensures.0 ∙ sym c.start.auto.entries, start_kept (space a.task.now a.mask a.weights.now a.states.now a.actions) _ _ _ _ _ p.0.outcomes_some c.start.ensures e.0))
+pub invariant_of-graph : goal.invariant_of-graph
+invariant_of-graph g c = let p = rw (← c.pattern.view_is) at c.requires in let l = rw (← c.pattern.view_is) at c.args.states.now.listed in let e = rw (← c.pattern.view_is) at c.make_edges-k.ensures in let i = c.pattern.invariant in let s = p.1 in
+    record {
+      readable = i.readable;
+      edges_of = rw p.0 e.0;
+      room = rw p.0 l.long;
+      few = rw p.0 i.sized.states_few;
+      weights_few = weights_short _ _ _ _ i.sized.variables_few l.weights_are;
+      plain = e.1;
+      incoming = rows_as (rw p.0 s.whole) c.fill_sets.ensures;
+      lower_few = s.lower_few;
+      upper_few = rw p.0 s.upper_few;
+      inverse_few = search rules;
+    }
 
 pub returns : goal.returns
-returns g c = settled_from c.start.ensures c.run.ensures
+returns g c = rw (← c.pattern.view_is) (settled_from c.start.ensures c.settle_started.ensures)

@@ -1,0 +1,11 @@
+-- `visit_row`: the edges of a set one by one; the set falls. Assumes nothing.
+use Rattle.std.proofs.Common.{get_or}
+use Rattle.tables.specs.Worklist.{Goes}
+use Rattle.tables.proofs.Rounds.{RowGoing}
+use Rattle.tables.proofs.proved_worklist.visits.Worklist.visit_row.Given as goal
+
+abbrev pub invariant-loop-rest : goal.invariant-loop-rest
+invariant-loop-rest g l = Goes (λ w. RowGoing w.space w.tests w.edges (get_or w.space.states l.j 0) w.edge_number l.j l.c l.rest) l.fn.self l.self
+
+abbrev pub decreases-loop-rest : goal.decreases-loop-rest
+decreases-loop-rest g l = l.rest

@@ -1,0 +1,33 @@
+-- The abstract states of a pattern as they are listed before a worklist goes through them, and the room that it needs. Assumes nothing.
+use Rattle.std.specs.Prelude.{◌≡◌, ℕ, ◌-◌, ◌*◌, ◌<◌, ◌≤◌, List, ◌++◌, length, take, replicate, slice_index}
+use Rattle.planning.specs.Table.{state_at}
+use Rattle.tables.specs.Packed.{pack_by, low}
+use Rattle.tables.specs.Steps.{weights_from, Space, space}
+use Rattle.tables.specs.Edges.{outcomes_from}
+use Rattle.tables.specs.Incoming.{Split, SetsRoom}
+use Rattle.tables.specs.Patterned.{Patterned, states_of}
+
+-- The weights of the variables, and the word of each state at its index.
+pub record Listed (p : Patterned) (weights words : List ℕ) : Type 0 where
+  pub weights_are : weights ≡ weights_from 1 (take p.variables p.sizes) p.picked ++ replicate (16 - p.variables) 0
+  pub words_are : (i : ℕ) → i < states_of p → slice_index words i ≡ pack_by low (state_at (take p.variables p.sizes) p.picked i)
+  pub long : states_of p ≤ length words
+
+-- What a build works on.
+abbrev pub space_in : Patterned → List ℕ → List ℕ → Space
+space_in p weights words = space p.task p.mask weights words p.actions
+
+-- How many edges there are at most.
+abbrev pub edges_most : Patterned → ℕ
+edges_most p = outcomes_from p.task p.mask 0 p.actions
+
+-- How the index is split.
+abbrev pub SplitAt : Patterned → ℕ → ℕ → Type 0
+SplitAt p lower low = Split p.sizes p.picked p.variables p.mask lower low
+
+-- Arrays of words with room for the tests of all edges, for the edges, and for their sets.
+pub record Roomy (p : Patterned) (tests edges sets : List ℕ) : Type 0 where
+  pub few : edges_most p ≤ 512
+  pub tests_room : 2 * edges_most p ≤ length tests
+  pub edges_room : 4 * edges_most p ≤ length edges
+  pub sets_room : SetsRoom (states_of p) (edges_most p) (length sets)
