@@ -68,8 +68,8 @@ fn quick_list<'a>(s: &'a [u8], rec: &mut Draft, kind: Kind, row: usize) -> Optio
     // Stays: a loop, since `split` at commas would run on past the line's end, and would not say what stands behind it.
     while rest.len() >= 3 {
         let item = quick_item(rest, kind, next)?;
-        let v = item.pair.variable;
-        let x = item.pair.value;
+        let v = item.read.variable;
+        let x = item.read.value;
         let after = item.rest;
         if !fits(rec, next, v, x) {
             return None;
@@ -106,8 +106,8 @@ fn quick_pairs<'a>(s: &'a [u8], rec: &mut Draft, row: usize) -> Option<&'a [u8]>
     // Stays: a loop, for the same reason.
     while rest.len() >= 6 {
         let item = quick_pair(rest)?;
-        let v = item.pair.variable;
-        let x = item.pair.value;
+        let v = item.read.variable;
+        let x = item.read.value;
         let after = item.rest;
         if !fits(rec, next, v, x) {
             return None;
@@ -168,7 +168,7 @@ pub(crate) fn quick_number_line<'a>(
 {
     let value = behind(s, key)?;
     let number = short_number(value)?;
-    let x = number.value;
+    let x = number.read;
     let rest = number.rest;
     if rest[0] != LINE_BREAK {
         return None;
