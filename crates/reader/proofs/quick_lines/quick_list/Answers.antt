@@ -30,7 +30,7 @@ pub returns-then-is_whole : goal.returns-then-is_whole
 returns-then-is_whole c = let a = c.args in
     let o = c.loop-rest in
     let l = o.invariant.1 a.rec.now (cleared a.rec.now c.fill_row.new.self a.row c.unnamed_of.result a.kind c.fill_row.ensures.0 c.unnamed_of.ensures) in
-    let f = c.fits.ensures c.if-not-fits.false in
+    let f = c.allows.ensures c.if-not-allows.false in
     let h = c.in_ok-item.ensures in
     let i = c.in_ok-item.item in
     let q = i.read in
@@ -43,7 +43,7 @@ returns-then-is_whole c = let a = c.args in
 pub loop-rest-preserved : goal.loop-rest-preserved
 loop-rest-preserved c = let a = c.args in
     let o = c.loop-rest in
-    let f = c.fits.ensures c.if-not-fits.false in
+    let f = c.allows.ensures c.if-not-allows.false in
     let h = c.in_ok-item.ensures in
     let i = c.in_ok-item.item in
     let q = i.read in (

@@ -23,7 +23,7 @@ pub returns-then-c-eq-LINE_BREAK : goal.returns-then-c-eq-LINE_BREAK
 returns-then-c-eq-LINE_BREAK c = let a = c.args in
     let o = c.loop-rest in
     let l = o.invariant.1 a.rec.now c.fill_row.ensures.0 in
-    let f = c.fits.ensures c.if-not-fits.false in
+    let f = c.allows.ensures c.if-not-allows.false in
     let h = c.in_ok-item.ensures in
     let i = c.in_ok-item.item in
     let q = i.read in
@@ -36,7 +36,7 @@ returns-then-c-eq-LINE_BREAK c = let a = c.args in
 pub loop-rest-preserved : goal.loop-rest-preserved
 loop-rest-preserved c = let a = c.args in
     let o = c.loop-rest in
-    let f = c.fits.ensures c.if-not-fits.false in
+    let f = c.allows.ensures c.if-not-allows.false in
     let h = c.in_ok-item.ensures in
     let i = c.in_ok-item.item in
     let q = i.read in (
