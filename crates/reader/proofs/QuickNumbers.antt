@@ -50,9 +50,9 @@ module _ (s : List ℕ) (a : ℕ) (first : get_or s 0 0 ≡ a) (low : 48 ≤ a) 
       ∙ ap (λ (z : List ℕ). z ++ drop 2 s) (sym (two_written n (omega arith) (omega arith)))
 
 -- two of which the first is 1
-pub teen_digits : (s : List ℕ) (b : ℕ) → get_or s 0 0 ≡ 49 → get_or s 1 0 ≡ b → 48 ≤ b → b < 58 → 1 < length s → s ≡ decimal (b - 38) ++ drop 2 s
+pub teen_digits : (s : List ℕ) (b : ℕ) → get_or s 0 0 ≡ 49 → get_or s 1 0 ≡ b → 48 ≤ b → b < 58 → 1 < length s → s ≡ decimal (10 + (b - 48)) ++ drop 2 s
 teen_digits s b first second l k h =
-    let e : 10 * (49 - 48) + (b - 48) ≡ b - 38 = omega arith in
+    let e : 10 * (49 - 48) + (b - 48) ≡ 10 + (b - 48) = omega arith in
     subst (λ (n : ℕ). s ≡ decimal n ++ drop 2 s) e (two_digits s 49 first (omega arith) (omega arith) b second l k (λ z. omega arith) h)
 
 -- a pair, a value of the variable that comes next, a member

@@ -1,11 +1,13 @@
 // The record that a text fills, as a type: it never has more than 16 variables. Clauses see its cells.
-ghost use Rattle.std.specs.Prelude.{◌≡◌, ◌+◌, ◌<◌, ◌≤◌, length, get_or, set, replicate};
+ghost use Rattle.std.specs.Prelude.{◌≡◌, true, ◌+◌, ◌<◌, ◌≤◌, length, get_or, set, replicate};
 ghost use Rattle.std.proofs.lemmas.List.Edits.{sets};
 ghost use Rattle.task_record.specs.Layout.{record_size, at_variables, at_budget};
 ghost use Rattle.reader.specs.Grammar.{blank, budget_bytes};
+ghost use Rattle.reader.specs.Lists.{pair_fits};
 
 use crate::blank::{Record, clear_record};
 use crate::grammar::put_budget;
+use crate::lists::allowed;
 use crate::store::fill;
 use std::marker::Model;
 use task_record::layout::{AT_VARIABLES, ROW_SIZE};
@@ -45,6 +47,13 @@ impl Draft {
         ensures { result ≡ get_or self.now at 0 }
     {
         self.cells[at]
+    }
+
+    // Whether a pair keeps the rules of a list, where no variable below `next` may come.
+    pub(crate) fn allows(&self, next: usize, v: usize, x: usize) -> bool
+        ensures { result ≡ true → (pair_fits self.now next v x ≡ true) × (v < 16) × (x < 255) }
+    {
+        allowed(&self.cells, next, v, x)
     }
 
     // One cell.

@@ -1,6 +1,7 @@
 // The three kinds of list, each read in one pass into its sixteen cells. The pass remembers both kinds of fault, so that the form of the whole list
 // goes before its rules without a second pass. Assumes nothing.
-ghost use Rattle.std.specs.Prelude.{◌≡◌, true, ◌<◌};
+ghost use Rattle.std.specs.Prelude.{◌≡◌, true, ◌<◌, get_or};
+ghost use Rattle.task_record.specs.Layout.{at_variables};
 ghost use Rattle.reader.specs.Lists.{pair_from, item_of, pair_fits, pair_step, no_items, list_of, is_values, unnamed, whole_list};
 
 use crate::decimal::number;
@@ -64,9 +65,9 @@ fn item_of(kind: Kind, next: usize, piece: &[u8]) -> Option<Pair>
 }
 
 // Whether a pair keeps the list's rules.
-fn allowed(rec: &[u8], next: usize, v: usize, x: usize) -> bool
+pub(crate) fn allowed(rec: &[u8], next: usize, v: usize, x: usize) -> bool
     ensures value { result ≡ pair_fits rec.now next v x }
-    ensures v_bound { result ≡ true → (v < 256) × (x < 256) }
+    ensures bounds { result ≡ true → (v < get_or rec.now at_variables 0) × (v < 255) × (x < 255) }
 {
     if v < next {
         return false;

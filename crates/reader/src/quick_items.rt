@@ -7,24 +7,17 @@ ghost use Rattle.reader.specs.Written.{decimal};
 use crate::lists::{Kind, Pair};
 use crate::pieces::COLON;
 
-// A number and what stands behind it.
+// What is read at the front of a text, and what stands behind it.
 #[derive(Clone, Copy)]
-pub struct Short<'a> {
-    pub value: usize,
-    pub rest: &'a [u8],
-}
-
-// A variable with its value, and what stands behind them.
-#[derive(Clone, Copy)]
-pub struct Item<'a> {
-    pub pair: Pair,
+pub struct Front<'a, T> {
+    pub read: T,
     pub rest: &'a [u8],
 }
 
 // A number of one or two digits.
-pub(crate) fn short_number(s: &[u8]) -> Option<Short<'_>>
+pub(crate) fn short_number(s: &[u8]) -> Option<Front<'_, usize>>
     requires { 2 ≤ length s.now }
-    ensures { IfSome result (λ n. (n.value < 100) × (length s.now ≤ length n.rest.now + 2) × (s.now ≡ decimal n.value ++ n.rest.now)) }
+    ensures { IfSome result (λ n. (n.read < 100) × (length s.now ≤ length n.rest.now + 2) × (s.now ≡ decimal n.read ++ n.rest.now)) }
 {
     let a = s[0];
     let b = s[1];
@@ -32,24 +25,24 @@ pub(crate) fn short_number(s: &[u8]) -> Option<Short<'_>>
         return None;
     }
     if !b.is_ascii_digit() {
-        return Some(Short {
-            value: usize::from(a - b'0'),
+        return Some(Front {
+            read: usize::from(a - b'0'),
             rest: &s[1..],
         });
     }
     if a == b'0' {
         return None;
     }
-    Some(Short {
-        value: 10 * usize::from(a - b'0') + usize::from(b - b'0'),
+    Some(Front {
+        read: 10 * usize::from(a - b'0') + usize::from(b - b'0'),
         rest: &s[2..],
     })
 }
 
 // A number below 20: those of a good list are below 16, so that one of two digits begins with 1.
-pub(crate) fn small_number(s: &[u8]) -> Option<Short<'_>>
+pub(crate) fn small_number(s: &[u8]) -> Option<Front<'_, usize>>
     requires { 2 ≤ length s.now }
-    ensures { IfSome result (λ n. (n.value < 20) × (length s.now ≤ length n.rest.now + 2) × (s.now ≡ decimal n.value ++ n.rest.now)) }
+    ensures { IfSome result (λ n. (n.read < 20) × (length s.now ≤ length n.rest.now + 2) × (s.now ≡ decimal n.read ++ n.rest.now)) }
 {
     let a = s[0];
     let b = s[1];
@@ -57,24 +50,24 @@ pub(crate) fn small_number(s: &[u8]) -> Option<Short<'_>>
         if !a.is_ascii_digit() {
             return None;
         }
-        return Some(Short {
-            value: usize::from(a - b'0'),
+        return Some(Front {
+            read: usize::from(a - b'0'),
             rest: &s[1..],
         });
     }
     if a != b'1' {
         return None;
     }
-    Some(Short {
-        value: usize::from(b - 38),
+    Some(Front {
+        read: 10 + usize::from(b - b'0'),
         rest: &s[2..],
     })
 }
 
 // A pair.
-pub(crate) fn quick_pair(s: &[u8]) -> Option<Item<'_>>
+pub(crate) fn quick_pair(s: &[u8]) -> Option<Front<'_, Pair>>
     requires { 6 ≤ length s.now }
-    ensures { IfSome result (λ i. (0 < length i.rest.now) × (length i.rest.now ≤ length s.now) × ((next : ℕ) → ItemAt s.now Kind.Pairs next i.pair.variable i.pair.value i.rest.now)) }
+    ensures { IfSome result (λ i. (0 < length i.rest.now) × (length i.rest.now ≤ length s.now) × ((next : ℕ) → ItemAt s.now Kind.Pairs next i.read.variable i.read.value i.rest.now)) }
 {
     let v = small_number(s)?;
     let middle = v.rest;
@@ -83,16 +76,16 @@ pub(crate) fn quick_pair(s: &[u8]) -> Option<Item<'_>>
     }
     let x = small_number(&middle[1..])?;
     let pair = Pair {
-        variable: v.value,
-        value: x.value,
+        variable: v.read,
+        value: x.read,
     };
-    Some(Item { pair, rest: x.rest })
+    Some(Front { read: pair, rest: x.rest })
 }
 
 // A value or a member, where `next` is the variable that comes next. Pairs are read by `quick_pair` alone.
-pub(crate) fn quick_item(s: &[u8], kind: Kind, next: usize) -> Option<Item<'_>>
+pub(crate) fn quick_item(s: &[u8], kind: Kind, next: usize) -> Option<Front<'_, Pair>>
     requires { (3 ≤ length s.now) × (next < 256) }
-    ensures { IfSome result (λ i. (0 < length i.rest.now) × (length i.rest.now ≤ length s.now) × ItemAt s.now kind next i.pair.variable i.pair.value i.rest.now) }
+    ensures { IfSome result (λ i. (0 < length i.rest.now) × (length i.rest.now ≤ length s.now) × ItemAt s.now kind next i.read.variable i.read.value i.rest.now) }
 {
     match kind {
         Kind::Pairs => None,
@@ -100,17 +93,17 @@ pub(crate) fn quick_item(s: &[u8], kind: Kind, next: usize) -> Option<Item<'_>>
             let x = small_number(s)?;
             let pair = Pair {
                 variable: next,
-                value: x.value,
+                value: x.read,
             };
-            Some(Item { pair, rest: x.rest })
+            Some(Front { read: pair, rest: x.rest })
         }
         Kind::Members => {
             let v = small_number(s)?;
             let pair = Pair {
-                variable: v.value,
+                variable: v.read,
                 value: 1,
             };
-            Some(Item { pair, rest: v.rest })
+            Some(Front { read: pair, rest: v.rest })
         }
     }
 }

@@ -2,7 +2,7 @@
 // know the line for good; then the record may hold anything. Assumes room for the cells.
 ghost use Rattle.std.specs.Prelude.{◌≡◌, true, false, ◌+◌, ◌<◌, ◌≤◌, ◌++◌, length, get_or, IfSome};
 ghost use Rattle.task_record.specs.Layout.{at_variables, record_size};
-ghost use Rattle.reader.specs.Lists.{pair_fits, is_values};
+ghost use Rattle.reader.specs.Lists.{is_values};
 ghost use Rattle.reader.specs.Quick.{ListAt, ListLine, NumberLine};
 
 use crate::draft::Draft;
@@ -10,7 +10,7 @@ use crate::lists::{Kind, is_values, is_whole, unnamed_of};
 use crate::pieces::{COMMA, LINE_BREAK};
 use crate::places::Field;
 use crate::quick_items::{quick_item, quick_pair, short_number};
-use task_record::layout::{AT_SIZES, UNNAMED};
+use task_record::layout::UNNAMED;
 
 // In a good text at least so many bytes stand from the place of any line but the last on: those of the shortest last two lines.
 const LINE_ROOM: usize = 16;
@@ -24,20 +24,6 @@ fn behind<'a>(s: &'a [u8], key: &[u8]) -> Option<&'a [u8]>
         return None;
     }
     s.strip_prefix(key)
-}
-
-// Whether the record allows a value of a variable that is not below `next`.
-fn fits(rec: &Draft, next: usize, v: usize, x: usize) -> bool
-    ensures { result ≡ true → (pair_fits rec.now next v x ≡ true) × (v < 16) × (x < 255) }
-{
-    if v < next {
-        return false;
-    }
-    if rec.variables() <= v {
-        return false;
-    }
-    let size = usize::from(rec.cell(AT_SIZES + v));
-    x < size
 }
 
 // Whether an empty list stands there.
@@ -68,10 +54,10 @@ fn quick_list<'a>(s: &'a [u8], rec: &mut Draft, kind: Kind, row: usize) -> Optio
     // Stays: a loop, since `split` at commas would run on past the line's end, and would not say what stands behind it.
     while rest.len() >= 3 {
         let item = quick_item(rest, kind, next)?;
-        let v = item.pair.variable;
-        let x = item.pair.value;
+        let v = item.read.variable;
+        let x = item.read.value;
         let after = item.rest;
-        if !fits(rec, next, v, x) {
+        if !rec.allows(next, v, x) {
             return None;
         }
         rec.store(row + v, x as u8);
@@ -106,10 +92,10 @@ fn quick_pairs<'a>(s: &'a [u8], rec: &mut Draft, row: usize) -> Option<&'a [u8]>
     // Stays: a loop, for the same reason.
     while rest.len() >= 6 {
         let item = quick_pair(rest)?;
-        let v = item.pair.variable;
-        let x = item.pair.value;
+        let v = item.read.variable;
+        let x = item.read.value;
         let after = item.rest;
-        if !fits(rec, next, v, x) {
+        if !rec.allows(next, v, x) {
             return None;
         }
         let c = after[0];
@@ -168,7 +154,7 @@ pub(crate) fn quick_number_line<'a>(
 {
     let value = behind(s, key)?;
     let number = short_number(value)?;
-    let x = number.value;
+    let x = number.read;
     let rest = number.rest;
     if rest[0] != LINE_BREAK {
         return None;

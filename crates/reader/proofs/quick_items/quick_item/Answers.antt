@@ -11,11 +11,11 @@ returns-in_ok-x-in-Values c =
     let a = c.args in
     let h = c.in_ok-x-in-Values.ensures in
     let x = c.in_ok-x-in-Values.x in
-    (omega (arith, h.1, c.requires.0), split_shorter a.s.now _ _ h.2, subst (λ (k : Kind). ItemAt a.s.now k a.next a.next x.value x.rest.now) (sym c.in-Values.is) (value_at a.s.now x.rest.now a.next x.value c.requires.1 (omega (arith, h.0)) h.2))
+    (omega (arith, h.1, c.requires.0), split_shorter a.s.now _ _ h.2, subst (λ (k : Kind). ItemAt a.s.now k a.next a.next x.read x.rest.now) (sym c.in-Values.is) (value_at a.s.now x.rest.now a.next x.read c.requires.1 (omega (arith, h.0)) h.2))
 
 pub returns-in_ok-v-in-Members : goal.returns-in_ok-v-in-Members
 returns-in_ok-v-in-Members c =
     let a = c.args in
     let h = c.in_ok-v-in-Members.ensures in
     let v = c.in_ok-v-in-Members.v in
-    (omega (arith, h.1, c.requires.0), split_shorter a.s.now _ _ h.2, subst (λ (k : Kind). ItemAt a.s.now k a.next v.value 1 v.rest.now) (sym c.in-Members.is) (member_at a.s.now v.rest.now a.next v.value (omega (arith, h.0)) h.2))
+    (omega (arith, h.1, c.requires.0), split_shorter a.s.now _ _ h.2, subst (λ (k : Kind). ItemAt a.s.now k a.next v.read 1 v.rest.now) (sym c.in-Members.is) (member_at a.s.now v.rest.now a.next v.read (omega (arith, h.0)) h.2))

@@ -14,9 +14,9 @@ returns c =
     let e = part_rest m 1 in
     let g = rw e at c.in_ok-x.ensures in
     let n = length-drop 1 m in
-    let k = split_shorter (drop 1 m) (decimal c.in_ok-x.x.value) c.in_ok-x.x.rest.now g.2 in
-    let l = split_shorter s (decimal c.in_ok-v.v.value) m h.2 in (
+    let k = split_shorter (drop 1 m) (decimal c.in_ok-x.x.read) c.in_ok-x.x.rest.now g.2 in
+    let l = split_shorter s (decimal c.in_ok-v.v.read) m h.2 in (
       omega (arith, g.1, h.1, n, c.requires),
       omega (arith, k, l, n),
-      λ next. pair_at s c.in_ok-x.x.rest.now next c.in_ok-v.v.value c.in_ok-x.x.value m (omega (arith, h.0)) (omega (arith, g.0)) h.2 (omega (arith, h.1, c.requires)) c.if-middle-ne-COLON.false g.2,
+      λ next. pair_at s c.in_ok-x.x.rest.now next c.in_ok-v.v.read c.in_ok-x.x.read m (omega (arith, h.0)) (omega (arith, g.0)) h.2 (omega (arith, h.1, c.requires)) c.if-middle-ne-COLON.false g.2,
     )

@@ -30,10 +30,10 @@ pub returns-then-is_whole : goal.returns-then-is_whole
 returns-then-is_whole c = let a = c.args in
     let o = c.loop-rest in
     let l = o.invariant.1 a.rec.now (cleared a.rec.now c.fill_row.new.self a.row c.unnamed_of.result a.kind c.fill_row.ensures.0 c.unnamed_of.ensures) in
-    let f = c.fits.ensures c.if-not-fits.false in
+    let f = c.allows.ensures c.if-not-allows.false in
     let h = c.in_ok-item.ensures in
     let i = c.in_ok-item.item in
-    let q = i.pair in
+    let q = i.read in
     let n = length-sets a.rec.now a.row (replicate 16 c.unnamed_of.result) in
     let z = ap length c.fill_row.ensures.0 in
     let k = fits_kept a.rec.now o.rec a.row l.cells o.next q.variable q.value l.stored c.requires.0 f.1 f.0 in
@@ -43,10 +43,10 @@ returns-then-is_whole c = let a = c.args in
 pub loop-rest-preserved : goal.loop-rest-preserved
 loop-rest-preserved c = let a = c.args in
     let o = c.loop-rest in
-    let f = c.fits.ensures c.if-not-fits.false in
+    let f = c.allows.ensures c.if-not-allows.false in
     let h = c.in_ok-item.ensures in
     let i = c.in_ok-item.item in
-    let q = i.pair in (
+    let q = i.read in (
       omega (arith, f.1),
       λ r e. let m = o.invariant.1 r e in
           let n = length-sets r a.row (replicate 16 (unnamed a.kind)) in

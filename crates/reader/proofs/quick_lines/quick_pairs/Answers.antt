@@ -23,10 +23,10 @@ pub returns-then-c-eq-LINE_BREAK : goal.returns-then-c-eq-LINE_BREAK
 returns-then-c-eq-LINE_BREAK c = let a = c.args in
     let o = c.loop-rest in
     let l = o.invariant.1 a.rec.now c.fill_row.ensures.0 in
-    let f = c.fits.ensures c.if-not-fits.false in
+    let f = c.allows.ensures c.if-not-allows.false in
     let h = c.in_ok-item.ensures in
     let i = c.in_ok-item.item in
-    let q = i.pair in
+    let q = i.read in
     let n = length-sets a.rec.now a.row (replicate 16 255) in
     let z = ap length c.fill_row.ensures.0 in
     let k = fits_kept a.rec.now o.rec a.row l.cells o.next q.variable q.value l.stored c.requires.1 f.1 f.0 in
@@ -36,10 +36,10 @@ returns-then-c-eq-LINE_BREAK c = let a = c.args in
 pub loop-rest-preserved : goal.loop-rest-preserved
 loop-rest-preserved c = let a = c.args in
     let o = c.loop-rest in
-    let f = c.fits.ensures c.if-not-fits.false in
+    let f = c.allows.ensures c.if-not-allows.false in
     let h = c.in_ok-item.ensures in
     let i = c.in_ok-item.item in
-    let q = i.pair in (
+    let q = i.read in (
       omega (arith, f.1),
       λ r e. let m = o.invariant.1 r e in
           let n = length-sets r a.row (replicate 16 255) in
