@@ -1,5 +1,6 @@
 // The check of a plan as an archive for C, `libplan_check.a`: slices come as pointer and length, the answer goes back as five numbers by value
 // (c/planner.h).
+// Stays: the entry stands once more here than in `plan_check`: a crate is a library or an archive, and `planner` calls the library.
 #![tactic(auto)]
 
 ghost use Rattle.std.specs.Prelude.{◌≡◌};
