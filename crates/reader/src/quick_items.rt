@@ -79,7 +79,10 @@ pub(crate) fn quick_pair(s: &[u8]) -> Option<Front<'_, Pair>>
         variable: v.read,
         value: x.read,
     };
-    Some(Front { read: pair, rest: x.rest })
+    Some(Front {
+        read: pair,
+        rest: x.rest,
+    })
 }
 
 // A value or a member, where `next` is the variable that comes next. Pairs are read by `quick_pair` alone.
@@ -95,7 +98,10 @@ pub(crate) fn quick_item(s: &[u8], kind: Kind, next: usize) -> Option<Front<'_, 
                 variable: next,
                 value: x.read,
             };
-            Some(Front { read: pair, rest: x.rest })
+            Some(Front {
+                read: pair,
+                rest: x.rest,
+            })
         }
         Kind::Members => {
             let v = small_number(s)?;
@@ -103,7 +109,10 @@ pub(crate) fn quick_item(s: &[u8], kind: Kind, next: usize) -> Option<Front<'_, 
                 variable: v.read,
                 value: 1,
             };
-            Some(Front { read: pair, rest: v.rest })
+            Some(Front {
+                read: pair,
+                rest: v.rest,
+            })
         }
     }
 }
