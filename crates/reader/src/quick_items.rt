@@ -40,7 +40,7 @@ pub(crate) fn short_number(s: &[u8]) -> Option<Front<'_, usize>>
 }
 
 // A number below 20: those of a good list are below 16, so that one of two digits begins with 1.
-pub(crate) fn small_number(s: &[u8]) -> Option<Front<'_, usize>>
+fn small_number(s: &[u8]) -> Option<Front<'_, usize>>
     requires { 2 ≤ length s.now }
     ensures { IfSome result (λ n. (n.read < 20) × (length s.now ≤ length n.rest.now + 2) × (s.now ≡ decimal n.read ++ n.rest.now)) }
 {
@@ -65,7 +65,7 @@ pub(crate) fn small_number(s: &[u8]) -> Option<Front<'_, usize>>
 }
 
 // A pair.
-pub(crate) fn quick_pair(s: &[u8]) -> Option<Front<'_, Pair>>
+fn quick_pair(s: &[u8]) -> Option<Front<'_, Pair>>
     requires { 6 ≤ length s.now }
     ensures { IfSome result (λ i. (0 < length i.rest.now) × (length i.rest.now ≤ length s.now) × ((next : ℕ) → ItemAt s.now Kind.Pairs next i.read.variable i.read.value i.rest.now)) }
 {
@@ -82,13 +82,14 @@ pub(crate) fn quick_pair(s: &[u8]) -> Option<Front<'_, Pair>>
     Some(Front { read: pair, rest: x.rest })
 }
 
-// A value or a member, where `next` is the variable that comes next. Pairs are read by `quick_pair` alone.
+// An item of a list, where `next` is the variable that comes next. Compiled in place in the loop over items: there its kind is known.
+#[inline(always)]
 pub(crate) fn quick_item(s: &[u8], kind: Kind, next: usize) -> Option<Front<'_, Pair>>
-    requires { (3 ≤ length s.now) × (next < 256) }
+    requires { (6 ≤ length s.now) × (next < 256) }
     ensures { IfSome result (λ i. (0 < length i.rest.now) × (length i.rest.now ≤ length s.now) × ItemAt s.now kind next i.read.variable i.read.value i.rest.now) }
 {
     match kind {
-        Kind::Pairs => None,
+        Kind::Pairs => quick_pair(s),
         Kind::Values => {
             let x = small_number(s)?;
             let pair = Pair {

@@ -9,11 +9,13 @@ use crate::draft::Draft;
 use crate::lists::{Kind, is_values, is_whole, unnamed_of};
 use crate::pieces::{COMMA, LINE_BREAK};
 use crate::places::Field;
-use crate::quick_items::{quick_item, quick_pair, short_number};
-use task_record::layout::UNNAMED;
+use crate::quick_items::{quick_item, short_number};
 
 // In a good text at least so many bytes stand from the place of any line but the last on: those of the shortest last two lines.
 const LINE_ROOM: usize = 16;
+
+// And so many from the place of any item of a list on.
+const ITEM_ROOM: usize = 6;
 
 // What stands behind a key.
 fn behind<'a>(s: &'a [u8], key: &[u8]) -> Option<&'a [u8]>
@@ -28,20 +30,16 @@ fn behind<'a>(s: &'a [u8], key: &[u8]) -> Option<&'a [u8]>
 
 // Whether an empty list stands there.
 fn is_empty(s: &[u8], kind: Kind) -> bool
-    ensures { result ≡ true → (0 < length s.now) × (get_or s.now 0 0 ≡ 10) × (is_values kind ≡ false) }
+    requires { 0 < length s.now }
+    ensures { result ≡ true → (get_or s.now 0 0 ≡ 10) × (is_values kind ≡ false) }
 {
-    if s.len() == 0 {
-        return false;
-    }
-    if s[0] != LINE_BREAK {
-        return false;
-    }
-    !is_values(kind)
+    s[0] == LINE_BREAK && !is_values(kind)
 }
 
-// A list of values or of members up to the end of its line.
+// A list up to the end of its line.
+#[inline(always)]
 fn quick_list<'a>(s: &'a [u8], rec: &mut Draft, kind: Kind, row: usize) -> Option<&'a [u8]>
-    requires { (24 ≤ row) × (row + 16 ≤ record_size) }
+    requires { (0 < length s.now) × (24 ≤ row) × (row + 16 ≤ record_size) }
     ensures { IfSome result (λ e. ListAt s.now kind rec.old row rec.new e.now) }
 {
     let n = rec.variables();
@@ -52,46 +50,8 @@ fn quick_list<'a>(s: &'a [u8], rec: &mut Draft, kind: Kind, row: usize) -> Optio
     let mut rest = s;
     let mut next = 0;
     // Stays: a loop, since `split` at commas would run on past the line's end, and would not say what stands behind it.
-    while rest.len() >= 3 {
+    while rest.len() >= ITEM_ROOM {
         let item = quick_item(rest, kind, next)?;
-        let v = item.read.variable;
-        let x = item.read.value;
-        let after = item.rest;
-        if !rec.allows(next, v, x) {
-            return None;
-        }
-        rec.store(row + v, x as u8);
-        if after[0] == LINE_BREAK {
-            if is_whole(n, kind, v + 1) {
-                return Some(&after[1..]);
-            }
-            return None;
-        }
-        if after[0] != COMMA {
-            return None;
-        }
-        next = v + 1;
-        rest = &after[1..];
-    }
-    None
-}
-
-// Pairs up to the end of their line. They are most of a text: so they have a loop of their own, and it is compiled in place.
-// Stays: one loop for both would need a trait whose item, empty cell and end have laws, with three impls: longer than this loop.
-#[inline(always)]
-fn quick_pairs<'a>(s: &'a [u8], rec: &mut Draft, row: usize) -> Option<&'a [u8]>
-    requires { (0 < length s.now) × (24 ≤ row) × (row + 16 ≤ record_size) }
-    ensures { IfSome result (λ e. ListAt s.now Kind.Pairs rec.old row rec.new e.now) }
-{
-    rec.fill_row(row, UNNAMED);
-    if s[0] == LINE_BREAK {
-        return Some(&s[1..]);
-    }
-    let mut rest = s;
-    let mut next = 0;
-    // Stays: a loop, for the same reason.
-    while rest.len() >= 6 {
-        let item = quick_pair(rest)?;
         let v = item.read.variable;
         let x = item.read.value;
         let after = item.rest;
@@ -101,7 +61,10 @@ fn quick_pairs<'a>(s: &'a [u8], rec: &mut Draft, row: usize) -> Option<&'a [u8]>
         let c = after[0];
         rec.store(row + v, x as u8);
         if c == LINE_BREAK {
-            return Some(&after[1..]);
+            if is_whole(n, kind, v + 1) {
+                return Some(&after[1..]);
+            }
+            return None;
         }
         if c != COMMA {
             return None;
@@ -112,22 +75,8 @@ fn quick_pairs<'a>(s: &'a [u8], rec: &mut Draft, row: usize) -> Option<&'a [u8]>
     None
 }
 
-// A line with pairs. Compiled in place wherever it is called: there its key is known, and what is left of the text stays in registers.
+// A line with a list. Compiled in place wherever it is called: there its key and kind are known, and what is left of the text stays in registers.
 #[inline(always)]
-pub(crate) fn quick_pair_line<'a>(
-    s: &'a [u8],
-    rec: &mut Draft,
-    key: &[u8],
-    row: usize,
-) -> Option<&'a [u8]>
-    requires { (24 ≤ row) × (row + 16 ≤ record_size) × (length key.now ≤ 9) }
-    ensures { IfSome result (λ e. ListLine s.now key.now Kind.Pairs rec.old row rec.new e.now) }
-{
-    let value = behind(s, key)?;
-    quick_pairs(value, rec, row)
-}
-
-// A line with a list of values or of members.
 pub(crate) fn quick_list_line<'a>(
     s: &'a [u8],
     rec: &mut Draft,

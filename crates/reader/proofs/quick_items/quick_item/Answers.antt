@@ -1,10 +1,17 @@
--- `reader::quick_items::quick_item` meets its contract, kind by kind; pairs are not read by it. Assumes nothing.
+-- `reader::quick_items::quick_item` meets its contract, kind by kind. Assumes nothing.
 use mathlib.Core.Path.{sym, subst}
 use native.Mathlib.Omega.{arith}
+use Rattle.std.proofs.lemmas.Option.{IfSome_then}
 use Rattle.reader.specs.declared.lists.Kind.{Kind}
 use Rattle.reader.specs.Quick.{ItemAt}
 use Rattle.reader.proofs.QuickNumbers.{value_at, member_at, split_shorter}
 use Rattle.reader.proofs.quick_items.quick_item.Goals as goal
+
+pub returns-in-Pairs : goal.returns-in-Pairs
+returns-in-Pairs c =
+    let a = c.args in
+    IfSome_then c.quick_pair.result c.quick_pair.ensures
+    (λ p h. (h.0, h.1, subst (λ (k : Kind). ItemAt a.s.now k a.next p.read.variable p.read.value p.rest.now) (sym c.in-Pairs.is) (h.2 a.next)))
 
 pub returns-in_ok-x-in-Values : goal.returns-in_ok-x-in-Values
 returns-in_ok-x-in-Values c =

@@ -16,7 +16,7 @@ unfolding bytes
 loop-k-preserved c =
     let a = c.args in
     let l = c.loop-k in
-    let r = c.quick_pair_line.new.rec in
+    let r = c.quick_list_line.new.rec in
     let e = c.in_ok-rest.rest.now in
     let q = rw c.at_outcome.ensures at c.in_ok-rest.ensures in
     let kept = list_kept l.rest.now key_eff Pairs l.rec (at_outcome a.m l.k) r e q in

@@ -11,9 +11,9 @@ unfolding bytes
 returns c =
     let s = c.args.s.now in
     let r₀ = c.args.rec.now in
-    let r₁ = c.quick_pair_line.new.rec in
-    let r₂ = c.quick_list_line.new.rec in
+    let r₁ = c.quick_list_line.new.rec in
+    let r₂ = c.quick_list_line-2.new.rec in
     let a = c.in_ok-a.a.now in
     let p = c.in_ok-a.ensures in
-    IfSome_then c.quick_list_line.result c.quick_list_line.ensures
+    IfSome_then c.quick_list_line-2.result c.quick_list_line-2.ensures
     (λ x h. start_on Goal r₀ s a x.now r₁ r₂ (goal_on Goal r₀ s s a r₀ r₁ (leads_here Goal r₀ s) p) h)
