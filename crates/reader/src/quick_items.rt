@@ -40,6 +40,7 @@ pub(crate) fn short_number(s: &[u8]) -> Option<Front<'_, usize>>
 }
 
 // A number below 20: those of a good list are below 16, so that one of two digits begins with 1.
+// Stays: `short_number` would do in its place, but then the largest text takes 539,000 instructions in place of 429,000, where the bar is 453,000.
 fn small_number(s: &[u8]) -> Option<Front<'_, usize>>
     requires { 2 ≤ length s.now }
     ensures { IfSome result (λ n. (n.read < 20) × (length s.now ≤ length n.rest.now + 2) × (s.now ≡ decimal n.read ++ n.rest.now)) }
@@ -79,7 +80,10 @@ fn quick_pair(s: &[u8]) -> Option<Front<'_, Pair>>
         variable: v.read,
         value: x.read,
     };
-    Some(Front { read: pair, rest: x.rest })
+    Some(Front {
+        read: pair,
+        rest: x.rest,
+    })
 }
 
 // An item of a list, where `next` is the variable that comes next. Compiled in place in the loop over items: there its kind is known.
@@ -96,7 +100,10 @@ pub(crate) fn quick_item(s: &[u8], kind: Kind, next: usize) -> Option<Front<'_, 
                 variable: next,
                 value: x.read,
             };
-            Some(Front { read: pair, rest: x.rest })
+            Some(Front {
+                read: pair,
+                rest: x.rest,
+            })
         }
         Kind::Members => {
             let v = small_number(s)?;
@@ -104,7 +111,10 @@ pub(crate) fn quick_item(s: &[u8], kind: Kind, next: usize) -> Option<Front<'_, 
                 variable: v.read,
                 value: 1,
             };
-            Some(Front { read: pair, rest: v.rest })
+            Some(Front {
+                read: pair,
+                rest: v.rest,
+            })
         }
     }
 }
