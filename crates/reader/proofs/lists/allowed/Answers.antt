@@ -15,5 +15,8 @@ returns-then-n-v c = record { value = simp (le-leb _ _ c.if-v-next.false, le-ltb
 
 pub returns : goal.returns
 unfolding pair_fits
-returns c = record { value = simp (c.cell_at-size.ensures.0, le-leb _ _ c.if-v-next.false, lt-ltb _ _ (rw c.cell_at-n.ensures.0 at c.if-n-v.false)); bounds = λ e. let n = c.cell_at-n.ensures in
-    (omega (arith, n.0, c.if-n-v.false), omega (arith, n.1, c.if-n-v.false), omega (arith, c.cell_at-size.ensures.1, ltb-true c.args.x c.cell_at-size.result e)) }
+returns c = record {
+  value = simp (c.cell_at-size.ensures.0, le-leb _ _ c.if-v-next.false, lt-ltb _ _ (rw c.cell_at-n.ensures.0 at c.if-n-v.false));
+  bounds = λ e. let n = c.cell_at-n.ensures in
+      (omega (arith, n.0, c.if-n-v.false), omega (arith, n.1, c.if-n-v.false), omega (arith, c.cell_at-size.ensures.1, ltb-true c.args.x c.cell_at-size.result e));
+}
