@@ -58,6 +58,8 @@ fn take_number(rec: &mut [u8], due: Due, field: Field, n: Option<usize>) -> Resu
 }
 
 // The budget, lowest byte first.
+// Stays: `to_le_bytes` takes a number that fits 32 bits, which would be a premise here and of `store_budget`, and its law tells the bytes by
+// `from_le_bytes`, as a sum: longer than these four stores.
 pub(crate) fn put_budget(rec: &mut [u8], n: usize)
     ensures { rec.new ≡ sets rec.old at_budget (budget_bytes n) }
 {

@@ -137,7 +137,7 @@ pub(crate) fn read_list(rec: &[u8], kind: Kind, text: &[u8]) -> Gathered
     ensures { result ≡ list_of rec.now kind text.now }
 {
     let mut gathered = Gathered::new(kind);
-    if text.len() == 0 {
+    if text.is_empty() {
         if !is_values(kind) {
             return gathered;
         }

@@ -86,6 +86,7 @@ pub(crate) fn next_due(r: &[u8], d: Due) -> Due
 }
 
 // Whether nothing is due.
+// Stays: `due == Due::End` says that `due` is End or is not; then the definition's `ended` needs a law of its thirteen cases.
 pub(crate) fn is_end(due: Due) -> bool
     ensures { result ≡ ended due }
 {

@@ -40,6 +40,7 @@ pub(crate) fn short_number(s: &[u8]) -> Option<Front<'_, usize>>
 }
 
 // A number below 20: those of a good list are below 16, so that one of two digits begins with 1.
+// Stays: `short_number` would do in its place, but then the largest text takes 539,000 instructions in place of 429,000, where the bar is 453,000.
 fn small_number(s: &[u8]) -> Option<Front<'_, usize>>
     requires { 2 ≤ length s.now }
     ensures { IfSome result (λ n. (n.read < 20) × (length s.now ≤ length n.rest.now + 2) × (s.now ≡ decimal n.read ++ n.rest.now)) }

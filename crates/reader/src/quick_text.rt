@@ -154,7 +154,7 @@ pub(crate) fn is_good(text: &[u8], rec: &mut Draft) -> bool
     let Some(value) = last.strip_prefix(b"budget=") else {
         return false;
     };
-    if value.len() == 0 {
+    if value.is_empty() {
         return false;
     }
     let end = last_end(value);

@@ -24,7 +24,7 @@ fn read_lines(text: &[u8], rec: &mut [u8]) -> Result<(), Refusal>
     let mut rest = text;
     // Stays: a loop, since `split` gives one more piece, an empty one, behind a text's last line break, and `split_inclusive` each line with its
     // break, which would have to go again.
-    while rest.len() > 0 {
+    while !rest.is_empty() {
         let (first, after) = cut(rest, LINE_BREAK);
         due = take_line(rec, due, first).map_err(|fault| fault.at(line))?;
         line += 1;

@@ -1,4 +1,5 @@
 -- `reader::lists::read_list` meets its contract: an empty list, one piece more, no piece left. Assumes nothing.
+use borrow.Author.Tests.{eqb-true, eqb-false}
 use Prim.Native.Nat.{◌+◌, ◌<◌, ℕ}
 use lib.Dec.{eqb}
 use lib.ListN.{drop, get_or, length}
@@ -16,7 +17,7 @@ use Rattle.reader.specs.declared.lists.Gathered.{Gathered}
 use Rattle.reader.specs.declared.lists.Kind.{Kind}
 use Rattle.reader.proofs.Items.{listed_none, listed_some, listed_values}
 use Rattle.reader.proofs.Split.{split_pieces}
-use Rattle.reader.proofs.lists.read_list.Goals.{then-text-eq0+else-not-is_values, else-text-eq0}
+use Rattle.reader.proofs.lists.read_list.Goals.{then-is_empty+else-not-is_values, else-is_empty}
 use Rattle.reader.proofs.lists.read_list.Goals as goal
 
 module _ (r : List ℕ) (kind : Kind) where
@@ -39,15 +40,15 @@ module _ (r : List ℕ) (kind : Kind) where
 pub returns-then-not-is_values : goal.returns-then-not-is_values
 returns-then-not-is_values c =
     let a = c.args in
-    empty-list a.rec.now a.kind a.text.now c.new-gathered.result c.new-gathered.ensures (sym c.is_values.ensures ∙ c.if-not-is_values.true) c.if-text-eq0.true
+    empty-list a.rec.now a.kind a.text.now c.new-gathered.result c.new-gathered.ensures (sym c.is_values.ensures ∙ c.if-not-is_values.true) (eqb-true _ _ (sym c.is_empty.ensures ∙ c.if-is_empty.true))
 
 pub loop-piece-init : goal.loop-piece-init
 loop-piece-init c =
     let a = c.args in
     list-begins a.rec.now a.kind a.text.now c.new-gathered.result c.new-gathered.ensures
-    (elim c.if-text-eq0.branch [
-      | then-text-eq0+else-not-is_values w ↦ ap (λ b. listed b a.text.now) (sym w.is_values.ensures ∙ w.if-not-is_values.false) ∙ listed_values a.text.now
-      | else-text-eq0 w ↦ listed_some (is_values a.kind) a.text.now w.if-text-eq0.false
+    (elim c.if-is_empty.branch [
+      | then-is_empty+else-not-is_values w ↦ ap (λ b. listed b a.text.now) (sym w.is_values.ensures ∙ w.if-not-is_values.false) ∙ listed_values a.text.now
+      | else-is_empty w ↦ listed_some (is_values a.kind) a.text.now (eqb-false _ _ (sym c.is_empty.ensures ∙ w.if-is_empty.false))
     ])
 
 pub loop-piece-preserved : goal.loop-piece-preserved

@@ -1,10 +1,12 @@
 -- `reader::text::read_lines` meets its contract: a line is taken, or is faulty, or none is left. Assumes nothing.
-use Prim.Native.Nat.{◌+◌, ◌<◌, ◌≤◌, ℕ, suc}
+use Prim.Native.Nat.{◌+◌, ◌<◌, ℕ, suc}
 use lib.ListN.{drop, drop_of_length-le, length, length-drop, take}
 use mathlib.Core.List.{List, [], ◌∷◌}
 use mathlib.Core.Path.{◌∙◌, ◌≡◌, ap, ap₂, refl, sym}
 use native.Mathlib.Omega.{arith}
-use mathlib.Core.Bool.{false≢true}
+use borrow.Author.Tests.{eqb-true, eqb-false}
+use lib.Dec.{eqb}
+use mathlib.Core.Bool.{false≢true, true, false}
 use Rattle.std.proofs.Common.{Result, Ok, Err, rules, tests}
 use Rattle.std.proofs.lemmas.Result.{err_from_is_err_and}
 use Rattle.std.specs.Result.{IsErrAnd, MatchResult, is_ok}
@@ -16,6 +18,11 @@ use Rattle.reader.specs.declared.order.Due.{Due}
 use Rattle.reader.proofs.Lines.{read_complete, read_faulty, read_missing, read_taken}
 use Rattle.reader.proofs.Split.{lines_list, lines_none}
 use Rattle.reader.proofs.text.read_lines.Goals as goal
+
+-- what the loop's test says of the text that is left
+
+some-left : (t : List ℕ) → eqb (length t) 0 ≡ false → 0 < length t
+some-left t e = let n = eqb-false (length t) 0 e in omega (arith, n)
 
 -- the first line and those after it
 
@@ -30,8 +37,8 @@ module _ (t first after : List ℕ) (e : first ≡ take (index_of line_break t) 
 
 -- no line is left
 
-none_left : (t : List ℕ) → length t ≤ 0 → lines_of t ≡ []
-none_left t h = ap lines_of (drop_of_length-le t {i = 0} h) ∙ lines_none
+none_left : (t : List ℕ) → eqb (length t) 0 ≡ true → lines_of t ≡ []
+none_left t h = let n = eqb-true (length t) 0 h in ap lines_of (drop_of_length-le t {i = 0} (omega (arith, n))) ∙ lines_none
 
 -- what `map_err` was given, by what it gave: it tells a fault with the line's number
 
@@ -61,7 +68,7 @@ returns-in_err-due c =
     let p = c.cut.result in
     let k = was-faulty l.line _ (λ f e h. search (rules, tests)) c.take_line.result c.map_err.result c.in_err-due.field-0.0 c.map_err.ensures.cases c.in_err-due.was in
     let q = err_from_is_err_and c.from_residual.result c.from_residual.ensures.1 in
-    l.invariant.2 ∙ ap (read_from l.line l.due l.rec) (by_line l.rest.now p.0.now p.1.now c.cut.ensures.0 c.cut.ensures.1 c.loop-rest-test.true)
+    l.invariant.2 ∙ ap (read_from l.line l.due l.rec) (by_line l.rest.now p.0.now p.1.now c.cut.ensures.0 c.cut.ensures.1 (some-left _ (sym c.is_empty.ensures ∙ c.loop-rest-test.true)))
     ∙ read_faulty l.line l.due l.rec p.0.now (lines_of p.1.now) k.0 (c.take_line.ensures ∙ ap (λ (t : Result Due LineFault). told t c.take_line.new.rec) k.1)
     ∙ ap (λ (e : Refusal). refused e) (sym (q.2 ∙ k.2))
     ∙ ap (λ (r : Result Unit Refusal). whole_of r c.take_line.new.rec) (sym q.1)
@@ -70,25 +77,25 @@ pub loop-rest-init : goal.loop-rest-init
 loop-rest-init c = (omega arith, refl, refl)
 
 pub loop-rest-smaller : goal.loop-rest-smaller
-loop-rest-smaller c = shorter c.loop-rest.rest.now c.cut.result.0.now c.cut.result.1.now c.cut.ensures.0 c.cut.ensures.1 c.loop-rest-test.true
+loop-rest-smaller c = shorter c.loop-rest.rest.now c.cut.result.0.now c.cut.result.1.now c.cut.ensures.0 c.cut.ensures.1 (some-left _ (sym c.is_empty.ensures ∙ c.loop-rest-test.true))
 
 pub loop-rest-preserved : goal.loop-rest-preserved
 loop-rest-preserved c =
     let l = c.loop-rest in
     let p = c.cut.result in
     let k = was-taken l.line _ (λ f e h. search (rules, tests)) c.take_line.result c.map_err.result c.in_ok-due.due c.map_err.ensures.cases c.in_ok-due.was in (
-      omega (arith, l.invariant.0, shorter l.rest.now p.0.now p.1.now c.cut.ensures.0 c.cut.ensures.1 c.loop-rest-test.true),
+      omega (arith, l.invariant.0, shorter l.rest.now p.0.now p.1.now c.cut.ensures.0 c.cut.ensures.1 (some-left _ (sym c.is_empty.ensures ∙ c.loop-rest-test.true))),
       search rules,
-      l.invariant.2 ∙ ap (read_from l.line l.due l.rec) (by_line l.rest.now p.0.now p.1.now c.cut.ensures.0 c.cut.ensures.1 c.loop-rest-test.true)
+      l.invariant.2 ∙ ap (read_from l.line l.due l.rec) (by_line l.rest.now p.0.now p.1.now c.cut.ensures.0 c.cut.ensures.1 (some-left _ (sym c.is_empty.ensures ∙ c.loop-rest-test.true)))
           ∙ read_taken l.line l.due l.rec p.0.now (lines_of p.1.now) c.in_ok-due.due c.take_line.new.rec (c.take_line.ensures ∙ ap (λ (t : Result Due LineFault). told t c.take_line.new.rec) k),
     )
 
 pub returns-then-is_end : goal.returns-then-is_end
 returns-then-is_end c =
     let l = c.loop-rest in
-    l.invariant.2 ∙ ap (read_from l.line l.due l.rec) (none_left l.rest.now c.loop-rest-test.false) ∙ read_complete l.line l.due l.rec (sym c.is_end.ensures ∙ c.if-is_end.true)
+    l.invariant.2 ∙ ap (read_from l.line l.due l.rec) (none_left l.rest.now (sym c.is_empty.ensures ∙ c.loop-rest-test.false)) ∙ read_complete l.line l.due l.rec (sym c.is_end.ensures ∙ c.if-is_end.true)
 
 pub returns : goal.returns
 returns c =
     let l = c.loop-rest in
-    l.invariant.2 ∙ ap (read_from l.line l.due l.rec) (none_left l.rest.now c.loop-rest-test.false) ∙ read_missing l.line l.due l.rec (sym c.is_end.ensures ∙ c.if-is_end.false)
+    l.invariant.2 ∙ ap (read_from l.line l.due l.rec) (none_left l.rest.now (sym c.is_empty.ensures ∙ c.loop-rest-test.false)) ∙ read_missing l.line l.due l.rec (sym c.is_end.ensures ∙ c.if-is_end.false)
