@@ -26,6 +26,8 @@ pub mod Walks
 pub mod Graphs
 pub mod Ring
 pub mod Starting
+pub mod Counting
+pub mod WaysBack
 pub mod Making
 pub mod Rowing
 pub mod Parting

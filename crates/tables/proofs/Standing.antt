@@ -2,7 +2,6 @@
 use Rattle.std.proofs.Common.{◌≡◌, ℕ, zero, suc, ◌+◌, ◌-◌, ◌*◌, ◌/◌, ◌%◌, ◌<◌, ◌≤◌, Bool, true, false, cond, ◌&&◌, ◌||◌, T, eqb, ltb, ◌⊎◌, List, [], ◌∷◌, ◌++◌, length, get_or, take, replicate, sym, refl, ap, ◌∙◌, inl, inr, mod-lt, arith, eqb→eq, length-append, le-ltb}
 use native.Mathlib.Nat.{pow-le-pow_right}
 use native.Mathlib.Decide.{dec_lt}
-use lib.Bits.{and_zero_r}
 use lib.ListN.{length-replicate, get_or-eq_default}
 use Rattle.planning.specs.Finite.{All}
 use Rattle.planning.specs.Task.{Task, apply, action_at, fits_sizes, WellFormed}
@@ -36,8 +35,8 @@ use Rattle.tables.proofs.Settled.{Stands}
 use Rattle.tables.proofs.Sweeping.{false_true}
 use Rattle.tables.specs.Incoming.{Parted}
 use Rattle.tables.specs.Waiting.{index_after}
-use Rattle.tables.specs.Edges.{digit, PlainMask, Regular, Walkable}
-use Rattle.tables.proofs.PackedDigits.{digit_none, pack-digit, picking-digit, plain_mask}
+use Rattle.tables.specs.Edges.{digit, Regular, Walkable}
+use Rattle.tables.proofs.PackedDigits.{pack-digit, picking-digit, plain_mask}
 
 -- A state has 0 outside the pattern, and values below the sizes in it.
 state_outside : (zs p : List ℕ) (i u : ℕ) → eqb (get_or p u 0) 1 ≡ false → get_or (state_at zs p i) u 0 ≡ 0
@@ -136,21 +135,6 @@ module _ (t : Task) (w : WellFormed t) (k : Packable t) (p : List ℕ) (x : Spac
     below = below;
     closed = λ m o i l b d q. let h = action_of_lem m l in closed m o h (outcome_of m o h b) i d;
   }
-
--- The same, of as many states or another name of the mask.
-pub regular_as : {x : Space} {sizes : List ℕ} {n l : ℕ} → n ≡ l → Regular x sizes n → Regular x sizes l
-regular_as e g = rw e at g
-
--- An index that is not split: the lower part has one state, and no digit.
-pub parted_whole : (states : List ℕ) (n mask : ℕ) → PlainMask mask → Parted states n 1 0 (mask - 0)
-parted_whole states n mask p = record {
-  lower_some = omega arith;
-  lower_few = omega arith;
-  low_plain = λ u. inl (digit_none u);
-  high_plain = λ u. let z : mask - 0 ≡ mask = omega arith in rw z (p u);
-  below = λ j l. and_zero_r (get_or states (j % 1) 0) ∙ sym (and_zero_r (get_or states j 0));
-  above = λ j l. let z : j / 1 * 1 ≡ j = omega arith in rw z;
-}
 
 pub parted_as : {states : List ℕ} {n l lower low high : ℕ} → n ≡ l → Parted states n lower low high → Parted states l lower low high
 parted_as e g = rw e at g

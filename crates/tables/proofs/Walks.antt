@@ -8,7 +8,7 @@ use Rattle.tables.specs.Packed.{outcome_count, action_weight}
 use Rattle.tables.specs.Steps.{Space, weigh, worst, outcome_entry, offer, offer_at, permitted_at}
 use Rattle.tables.specs.Waiting.{Heard, low, later, Leads, Told, is, again}
 use Rattle.tables.specs.Queue.{Queue}
-use Rattle.tables.specs.Edges.{edge_action, edge_lanes, edge_free, lane_weight, lane_values, lane_value, lane_sum, lane_after, way_back, Before, Choices, EdgesOf}
+use Rattle.tables.specs.Edges.{edge_action, edge_lanes, edge_free, lane_weight, lane_values, lane_value, lane_sum, lane_after, way_back, Before, Choices}
 use Rattle.tables.specs.Visits.{above, Going, Laned, Freed, Passed}
 use Rattle.tables.proofs.Settled.{inside}
 use Rattle.tables.proofs.Sweeping.{weigh_step}
@@ -87,10 +87,6 @@ module _ {x : Space} {es : List ℕ} {e j at y z : ℕ} {t marks u p b : List �
       either i b₁ f g l m r (yes o) = a.moved.keeps (edge_action es e) i (w.heard i (omega (arith, b₁, a.moved.long)) f g o m r)
       either i b₁ f g l m r (no o) = let v = same i i₀ s (omega arith) m r in rw v (n (rw v at b₁) (rw v at f) (rw v at g))
 
-pub cells_as : {x : Space} {es : List ℕ} {e j at y z : ℕ} {t marks u p b u₁ p₁ b₁ : List ℕ} {h c k k₁ : ℕ} → u₁ ≡ u → p₁ ≡ p → b₁ ≡ b → k₁ ≡ k →
-    Cells x es e j at y z t marks c u p b h k → Cells x es e j at y z t marks c u₁ p₁ b₁ h k₁
-cells_as f g l m w = rw (f, g, l, m) w
-
 module _ {x : Space} {es : List ℕ} {e j at y : ℕ} {t marks u p b : List ℕ} {h c k : ℕ} (w : Rows x es e j at y t marks c u p b h k) where
   pub rows_next : {z : ℕ} {new q d : List ℕ} {l : ℕ} → Cells x es e j at y z u b k new q d h l → lane_values (edge_lanes es e) ≤ z → Rows x es e j at (y + 1) t marks c new q d h l
   rows_next {z} {new} {q} {d} a n = record { going = going_then w.going a.going; heard = λ i b f g l m r. either i b f g l m r (dec_lt (two x es e i) y) }
@@ -102,9 +98,6 @@ module _ {x : Space} {es : List ℕ} {e j at y : ℕ} {t marks u p b : List ℕ}
 
   pub rows_end : lane_values (lane_after (edge_lanes es e)) ≤ y → Laned x es e j at t marks c u p b h k
   rows_end n = record { going = w.going; heard = λ i b f g l m r. w.heard i b f g l (omega arith) r }
-
-pub edges_as : {x : Space} {sizes : List ℕ} {n l : ℕ} {ts es : List ℕ} {k : ℕ} → n ≡ l → EdgesOf x sizes n ts es k → EdgesOf x sizes l ts es k
-edges_as e g = rw e at g
 
 pub choices_as : {states sizes : List ℕ} {n k v free : ℕ} → n ≡ k → Choices states sizes n v free → Choices states sizes k v free
 choices_as e c = rw e at c

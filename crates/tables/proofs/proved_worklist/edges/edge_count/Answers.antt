@@ -1,7 +1,7 @@
 -- `edge_count`: the outcomes of the actions that are left. Assumes nothing.
 use Rattle.std.proofs.Common.{arith}
 use Rattle.tables.proofs.Gathering.{set-falls}
-use Rattle.tables.proofs.Making.{counting_start, counting_known, counting_next, counting_end}
+use Rattle.tables.proofs.Counting.{counting_start, counting_known, counting_next, counting_end}
 use Rattle.tables.proofs.proved_worklist.edges.edge_count.Goals as goal
 
 pub loop-rest-init : goal.loop-rest-init

@@ -1,5 +1,5 @@
 -- `edge_count`: the outcomes of the actions that are left. Assumes nothing.
-use Rattle.tables.proofs.Making.{Counting}
+use Rattle.tables.proofs.Counting.{Counting}
 use Rattle.tables.proofs.proved_worklist.edges.edge_count.Given as goal
 
 abbrev pub invariant-loop-rest : goal.invariant-loop-rest

@@ -1,5 +1,5 @@
 -- `tables::proved_worklist::incoming::fill_row` meets its contract. Assumes nothing.
-use Rattle.std.proofs.Common.{◌≤◌, ◌*◌, refl, mul-le-mul_right, arith}
+use Rattle.std.proofs.Common.{refl, mul-le-mul_right, arith}
 use Rattle.task_record.proofs.Sixteens.{zeros}
 use Rattle.tables.proofs.Rowing.{row_made}
 use Rattle.tables.proofs.proved_worklist.incoming.fill_row.Goals as goal
