@@ -14,7 +14,7 @@ mod compile_record;
 mod edges;
 mod incoming;
 mod offsets;
-mod packed;
+pub mod packed;
 mod pattern;
 mod places;
 mod proved_worklist;

@@ -1,6 +1,11 @@
-// Sixteen cells packed into a word of 64 bits, 4 bits each.
+// Sixteen cells packed into a word of 64 bits, 4 bits each. `mask_of` is public for the search and is no entry of the product: it answers for any cells
+// and any number of a pattern what its equation says.
 ghost use Rattle.std.specs.Prelude.{◌≡◌, ◌<◌, ◌≤◌, length};
-ghost use Rattle.tables.specs.Packed.{pack_by, digit_by};
+ghost use Rattle.task_record.specs.Layout.{at_pattern};
+ghost use Rattle.task_record.specs.TaskOf.{cells_at};
+ghost use Rattle.tables.specs.Packed.{pack_by, digit_by, picking};
+
+use task_record::cells::pattern_cells;
 
 // The rules for a digit: 15 where a cell names its variable, or where it does not; the value that it names; the value itself; 15 where it is 1.
 #[derive(Clone, Copy, PartialEq, Eq)]
@@ -36,4 +41,11 @@ pub(crate) fn pack(rule: DigitRule, cells: &[u8]) -> u64
         p = p * 16 + digit(rule, cells[i]);
     }
     p
+}
+
+// The digits of the variables that pattern p of a record names.
+pub fn mask_of(rec: &[u8], p: u8) -> u64
+    ensures { result ≡ pack_by picking (cells_at rec.now (at_pattern p)) }
+{
+    pack(DigitRule::Picking, pattern_cells(rec, p))
 }

@@ -2,7 +2,7 @@
 ghost use Rattle.std.specs.Prelude.{◌≡◌};
 ghost use Rattle.tables.specs.Patterned.{Chosen, PatternOf, states_of};
 
-use crate::packed::{DigitRule, pack};
+use crate::packed::mask_of;
 use crate::ranking::state_count;
 use crate::sweep::lively;
 use std::marker::Model;
@@ -45,7 +45,7 @@ impl<'a> Pattern<'a> {
     {
         let actions = usize::from(action_count(record.cells));
         let picked = state_of(pattern_cells(record.cells, p));
-        let mask = pack(DigitRule::Picking, &picked);
+        let mask = mask_of(record.cells, p);
         Pattern {
             task,
             actions,
