@@ -1,4 +1,4 @@
-// Tables of a task's patterns: packed states (`packed`, `words`), the compiled task (`compile`, `compile_record`), the actions whose preconditions
+// Tables of a task's patterns: packed states (`packed`, `words`), sets of small numbers (`sets`), the compiled task (`compile`, `compile_record`), the actions whose preconditions
 // a state meets as a set (`applying`), the abstract states of a pattern (`ranking`), a candidate for its table from the goals backwards
 // (`worklist`, and what that needs: `places`, `offsets`, `edges`, `incoming`, `visits`, `queue`), the test of a candidate (`certify`), passes
 // that need none (`sweep`), the table of one pattern (`build`), the same by one worklist that is itself proved (`proved_worklist`), what both have
@@ -21,6 +21,7 @@ mod proved_worklist;
 mod queue;
 mod ranking;
 pub mod record_tables;
+mod sets;
 mod space;
 pub mod spread;
 mod sweep;

@@ -7,7 +7,7 @@ ghost use Rattle.tables.specs.Incoming.{Row, Tests, Halved, Incoming, edge_need,
 
 use crate::applying::enter;
 use crate::proved_worklist::edges::Graph;
-use crate::sweep::joined;
+use crate::sets::set_of;
 
 // Enters the edges from `first` on, `count` of them, in the slots of what their tests ask of each digit, and
 // hands back the set of all of them.
@@ -131,14 +131,10 @@ fn tested(tests: &[u64], word: u64, k: usize, c: usize) -> u64
     ensures { Row tests.now word k c result }
 {
     let count = (k - 64 * c).min(64);
-    let mut set = 0u64;
-    let mut bit = 1u64;
-    for q in 0..count {
+    set_of(count, |q| {
         let at = 2 * (64 * c + q);
-        set = joined(set, bit, word & tests[at] == tests[at + 1]);
-        bit = bit % 9223372036854775808 * 2;
-    }
-    set
+        word & tests[at] == tests[at + 1]
+    })
 }
 
 // j / lower by a product; the division itself is made only where that is off.
