@@ -20,7 +20,7 @@ pub(crate) fn state_count(sizes: &[u8], pattern: &[u8]) -> Option<usize>
     let mut weight = 1usize;
     for (v, size) in sizes.iter().enumerate() {
         if pattern[v] == 1 {
-            weight = weight * usize::from(*size);
+            weight *= usize::from(*size);
             if weight > 4096 {
                 return None;
             }
@@ -38,8 +38,8 @@ pub(crate) fn place_of(sizes: &[u8], pattern: &[u8], state: &[u8]) -> Place
     let mut states = 1usize;
     for (v, size) in sizes.iter().enumerate() {
         if pattern[v] == 1 {
-            index = index + usize::from(state[v]) * states;
-            states = states * usize::from(*size);
+            index += usize::from(state[v]) * states;
+            states *= usize::from(*size);
         }
     }
     Place { index, states }

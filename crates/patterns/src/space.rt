@@ -30,7 +30,7 @@ pub(crate) fn judge_room(record: &SoundRecord, sizes: &[u8], lent: usize) -> Res
         let Some(states) = state_count(sizes, pattern_cells(record.cells, p)) else {
             return Err(Refusal::LargePattern(u64::from(p)));
         };
-        needed = needed + states;
+        needed += states;
     }
     if lent < needed {
         return Err(Refusal::ShortTables(needed as u64));

@@ -17,7 +17,7 @@ use task_record::refusal::Refusal;
 use task_record::sound::SoundRecord;
 
 // Sizes and state have a cell for each variable of the task. The tables follow each other, so each begins where the one before ends.
-// Stays: a `for` over numbers, since a pattern's row is asked for by its number.
+// Stays: a `for` over numbers: `cells[AT_PATTERNS..].chunks_exact(ROW_SIZE).take(..)` is no plainer than a row by its number (`pattern_cells`).
 fn sum_entries(record: &SoundRecord, sizes: &[u8], state: &[u8], tables: &[u16]) -> Option<u64>
     requires { (sizes.now ≡ (task_of record.now).sizes) × (State (task_of record.now) state.now) × (Small (task_of record.now) (patterns_of record.now)) × (entries_needed (task_of record.now).sizes (patterns_of record.now) ≤ length tables.now) }
     ensures { result ≡ value_of (value (task_of record.now).sizes (patterns_of record.now) tables.now state.now) }
@@ -27,12 +27,12 @@ fn sum_entries(record: &SoundRecord, sizes: &[u8], state: &[u8], tables: &[u16])
     for p in 0..pattern_count(record.cells) {
         let place = place_of(sizes, pattern_cells(record.cells, p), state);
         let at = begin + place.index;
-        let e = u64::from(tables[at]);
-        if e == 65535 {
+        let entry = tables[at];
+        if entry == u16::MAX {
             return None;
         }
-        sum = sum + e;
-        begin = begin + place.states;
+        sum += u64::from(entry);
+        begin += place.states;
     }
     Some(sum)
 }

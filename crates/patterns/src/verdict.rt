@@ -1,5 +1,4 @@
 // The additivity verdict: whether each action affects at most one pattern.
-// Stays: `for` over numbers, since actions, outcomes and patterns are asked for by their numbers, which a conflict tells.
 ghost use Rattle.std.specs.Prelude.{◌≡◌, ℕ, ◌+◌, ◌*◌, ◌≤◌, ◌<◌, true, cond, eqb, length, get_or};
 ghost use Rattle.planning.specs.Pattern.{affects, affects_pattern, additive, verdict};
 ghost use Rattle.task_record.specs.Layout.{at_pattern, at_outcome};
@@ -13,7 +12,7 @@ use std::marker::Model;
 use task_record::cells::{
     action_count, outcome_cells, outcome_count, pattern_cells, pattern_count,
 };
-use task_record::layout::at_outcome;
+use task_record::layout::{UNNAMED, at_outcome};
 use task_record::refusal::Refusal;
 use task_record::sound::SoundRecord;
 
@@ -29,7 +28,7 @@ pub struct Conflict {
 fn named(cell: u8, set: u8) -> u8
     ensures { result ≡ cond (eqb cell 255) 0 set }
 {
-    if cell == 255 { 0 } else { set }
+    if cell == UNNAMED { 0 } else { set }
 }
 
 // What the outcomes of an action have in common at the cells of a variable, the first at offset `at`: less than 255 where one of them names it.
@@ -40,9 +39,9 @@ fn common_cell(rec: &[u8], at: usize) -> u8
     ensures low { (k : ℕ) → k < 8 → result ≤ get_or rec.now (at + 16 * k) 0 }
     ensures bytes { (k : ℕ) → get_or rec.now k 0 ≤ 255 }
 {
-    let mut low = 255u8;
+    let mut low = UNNAMED;
     for k in 0..8usize {
-        low = low & rec[at + 16 * k];
+        low &= rec[at + 16 * k];
     }
     low
 }
@@ -100,7 +99,7 @@ impl<'a> Members<'a> {
         let cells = outcome_cells(self.rec, m, k);
         let mut affected = 0u8;
         for (v, set) in self.sets.iter().enumerate() {
-            affected = affected | named(cells[v], *set);
+            affected |= named(cells[v], *set);
         }
         affected
     }
@@ -111,7 +110,7 @@ impl<'a> Members<'a> {
     {
         let mut affected = 0u8;
         for k in 0..outcome_count(self.rec, m) {
-            affected = affected | self.outcome_set(m, k);
+            affected |= self.outcome_set(m, k);
         }
         affected
     }
@@ -124,12 +123,13 @@ impl<'a> Members<'a> {
         let at = at_outcome(m, 0);
         let mut touched = 0u8;
         for (v, set) in self.sets.iter().enumerate() {
-            touched = touched | named(common_cell(self.rec, at + v), *set);
+            touched |= named(common_cell(self.rec, at + v), *set);
         }
         touched
     }
 
     // Whether each action affects at most one pattern, without the numbers of a conflict.
+    // Stays: by `all` over the actions the value of a state takes 1.04 to 1.09 of the time where there are 64 of them.
     fn is_additive(&self) -> bool
         ensures { result ≡ true → verdict (task_of self.now) (patterns_of self.now) ≡ additive }
     {
@@ -146,31 +146,34 @@ impl<'a> Members<'a> {
 
     // The affected patterns of an action are found once; `left` holds those from the current pattern on. After the first that is affected the
     // next one makes the conflict, and where there is none there is no other pair.
+    // Stays: the form that document 01 names: "Loops over moves and pattern pairs left by a label at the first conflicting move".
     fn scan(&self) -> Option<Conflict>
         ensures { result ≡ additivity_of (verdict (task_of self.now) (patterns_of self.now)) }
     {
         let actions = action_count(self.rec);
         let patterns = pattern_count(self.rec);
-        for m in 0..actions {
+        let mut found = None;
+        'actions: for m in 0..actions {
             let mut left = self.affected_set(m);
             for p in 0..patterns {
                 if left % 2 == 1 {
                     for q in p + 1..patterns {
-                        left = left / 2;
+                        left /= 2;
                         if left % 2 == 1 {
-                            return Some(Conflict {
+                            found = Some(Conflict {
                                 action: u64::from(m),
                                 lower: u64::from(p),
                                 upper: u64::from(q),
                             });
+                            break 'actions;
                         }
                     }
-                    break;
+                    continue 'actions;
                 }
-                left = left / 2;
+                left /= 2;
             }
         }
-        None
+        found
     }
 }
 

@@ -5,6 +5,7 @@ ghost use Rattle.planning.specs.Task.{meets_cell, meets, apply_cell, apply};
 ghost use Rattle.task_record.specs.TaskOf.{cells_at};
 
 use std::array;
+use task_record::layout::UNNAMED;
 
 // Cell by cell and not by `copy_from_slice`, with which the check of a plan takes 76.6 instructions a byte in place of 40.1.
 pub(crate) fn cells_at(rec: &[u8], at: usize) -> [u8; 16]
@@ -18,7 +19,7 @@ pub(crate) fn cells_at(rec: &[u8], at: usize) -> [u8; 16]
 fn misses(y: u8, x: u8) -> u8
     ensures { eqb result 0 ≡ meets_cell y x }
 {
-    u8::from(y != 255 && y != x)
+    u8::from(y != UNNAMED && y != x)
 }
 
 // Whether the state has all the values that the cells name. It does not stop at a fault, so that it becomes one vector compare.
@@ -35,7 +36,7 @@ pub(crate) fn met(cells: [u8; 16], state: [u8; 16]) -> bool
 fn choose(y: u8, x: u8) -> u8
     ensures { result ≡ apply_cell y x }
 {
-    if y == 255 { x } else { y }
+    if y == UNNAMED { x } else { y }
 }
 
 // The state after an outcome: what the cells name is changed.

@@ -11,7 +11,7 @@ ghost use Rattle.task_record.specs.Columns.{ActionColumn, MemberColumn, FrontPas
 
 use crate::blocks::misfit;
 use crate::cells::{action_count, pattern_count, variable_count};
-use crate::layout::{ACTION_SIZE, AT_ACTIONS, AT_GOAL, AT_PATTERNS, AT_START};
+use crate::layout::{ACTION_SIZE, AT_ACTIONS, AT_GOAL, AT_PATTERNS, AT_START, UNNAMED};
 use crate::measured::{LongRecord, Measured};
 
 // A state's cell: below the size, or 255 where the size is 0.
@@ -123,11 +123,11 @@ fn action_fault(c: &[u8], size: u8, a: usize, used: usize) -> u8
     for j in 0..used {
         high = high.max(c[a + 16 * j].wrapping_add(1));
     }
-    let mut low = 255u8;
+    let mut low = UNNAMED;
     for j in used..9 {
         low &= c[a + 16 * j];
     }
-    high.saturating_sub(size) | (255 - low)
+    high.saturating_sub(size) | (UNNAMED - low)
 }
 
 fn nine_fit<const USED: usize>(c: &[u8], sizes: &[u8; 16], a: usize) -> bool
@@ -166,11 +166,11 @@ fn unnamed_fault(c: &[u8], a: usize) -> u8
     requires { (a + 128 < length c.now) × (a ≤ 65536) }
     ensures { result ≡ 0 → (j : ℕ) → j < 9 → 255 ≤ slice_index c.now (a + 16 * j) }
 {
-    let mut low = 255u8;
+    let mut low = UNNAMED;
     for j in 0..9usize {
         low &= c[a + 16 * j];
     }
-    255 - low
+    UNNAMED - low
 }
 
 fn nine_unnamed(c: &[u8], a: usize) -> bool
@@ -203,6 +203,7 @@ fn unused_fits(record: &Measured, m: usize) -> bool
     nine_unnamed(record.rec, a + 1)
 }
 
+// Stays: by `all` over the used actions and over the others the check of a record takes 1.02 of the instructions, and up to 1.04.
 pub(crate) fn actions_fit(record: &Measured) -> bool
     requires { action_count record.now.rec.now ≤ 64 }
     ensures { result ≡ true → first_from (cell_ok record.now.rec.now) (at_action 0) (record_size - at_action 0) ≡ record_size }

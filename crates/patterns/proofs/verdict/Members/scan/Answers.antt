@@ -1,4 +1,5 @@
--- `scan`: actions passed affect at most one pattern each; patterns passed are not affected; in the inner loop p is, and none between p and q. Assumes nothing.
+-- `scan`: actions passed affect at most one pattern each; patterns passed are not affected; in the inner loop p is, and none between p and q;
+-- nothing is found yet. Assumes nothing.
 use mathlib.Core.Path.{refl, sym, ap, ◌∙◌}
 use mathlib.Core.List.{◌∷◌}
 use Prim.Native.Nat.{◌+◌}
@@ -10,55 +11,56 @@ use Rattle.patterns.specs.Additivity.{additivity_of}
 use Rattle.patterns.proofs.Affected.{verdict-at_start}
 use Rattle.patterns.proofs.Gathering.{set_half, set_odd, set_even}
 use Rattle.patterns.proofs.Reading.{affects_at, affected_from, patterns_passed, pattern_spared, pattern_affected, actions_passed, no_pattern, one_pattern, two_patterns}
-use Rattle.patterns.proofs.verdict.Members.scan.Goals.{else-loop-p-test, then-loop-p-test+then-left-eq1+else-loop-q-test}
 use Rattle.patterns.proofs.verdict.Members.scan.Goals as goal
 
-pub loop-m-init : goal.loop-m-init
-loop-m-init c = let r = c.args.self.now in (verdict-at_start (task_of r) (patterns_of r), omega arith, rw c.self.view_is at c.action_count-actions.ensures, rw c.self.view_is at c.pattern_count-patterns.ensures)
+pub actions-init : goal.actions-init
+actions-init c = let r = c.args.self.now in (verdict-at_start (task_of r) (patterns_of r), omega arith, rw c.self.view_is at c.action_count-actions.ensures, rw c.self.view_is at c.pattern_count-patterns.ensures, refl)
 
 pub loop-p-init : goal.loop-p-init
-loop-p-init c = (refl, omega arith, rw sub-zero c.affected_set-left.ensures)
+loop-p-init c = (refl, omega arith, rw sub-zero c.affected_set-left.ensures, c.actions.invariant.4)
 
 pub loop-q-init : goal.loop-q-init
-loop-q-init c = let r = c.args.self.now in let s = c.loop-m in let l = c.loop-p in
+loop-q-init c = let r = c.args.self.now in let s = c.actions in let l = c.loop-p in
     let t = rw s.invariant.3 at c.loop-p-test.true in (
       l.invariant.0 ∙ pattern_affected r s.m l.p t (set_odd (affects_at r s.m) l.p (pattern_count r) t (rw l.invariant.2 at c.if-left-eq1.true)),
       omega arith,
       rw l.invariant.2 (set_half (affects_at r s.m) l.p (pattern_count r) t),
+      l.invariant.3,
     )
 
 pub loop-q-preserved : goal.loop-q-preserved
-loop-q-preserved c = let r = c.args.self.now in let s = c.loop-m in let l = c.loop-q in
+loop-q-preserved c = let r = c.args.self.now in let s = c.actions in let l = c.loop-q in
     let t = rw s.invariant.3 at c.loop-q-test.true in (
       l.invariant.0 ∙ ap (λ x. c.loop-p.p ∷ x) (pattern_spared r s.m l.q t (set_even (affects_at r s.m) l.q (pattern_count r) t (rw l.invariant.2 at c.if-left-eq1-2.false))),
       omega arith,
       rw l.invariant.2 (set_half (affects_at r s.m) l.q (pattern_count r) t),
+      l.invariant.3,
     )
 
 pub loop-p-preserved : goal.loop-p-preserved
-loop-p-preserved c = let r = c.args.self.now in let s = c.loop-m in let l = c.loop-p in
+loop-p-preserved c = let r = c.args.self.now in let s = c.actions in let l = c.loop-p in
     let t = rw s.invariant.3 at c.loop-p-test.true in (
       l.invariant.0 ∙ pattern_spared r s.m l.p t (set_even (affects_at r s.m) l.p (pattern_count r) t (rw l.invariant.2 at c.if-left-eq1.false)),
       omega arith,
       rw l.invariant.2 (set_half (affects_at r s.m) l.p (pattern_count r) t),
+      l.invariant.3,
     )
 
-pub loop-m-preserved : goal.loop-m-preserved
-loop-m-preserved c = let r = c.args.self.now in let s = c.loop-m in let l = c.loop-p in
-    let t = rw s.invariant.2 at c.loop-m-test.true in
-    elim c.loop-p-test.branch [
-      | else-loop-p-test w ↦ (s.invariant.0 ∙ no_pattern r s.m t (l.invariant.0 ∙ patterns_passed r s.m l.p (rw s.invariant.3 at w.loop-p-test.false)), omega arith, s.invariant.2, s.invariant.3)
-      | then-loop-p-test+then-left-eq1+else-loop-q-test w ↦ let k = w.loop-q in
-          (s.invariant.0 ∙ one_pattern r s.m t l.p (k.invariant.0 ∙ ap (λ x. l.p ∷ x) (patterns_passed r s.m k.q (rw s.invariant.3 at w.loop-q-test.false))), omega arith, s.invariant.2, s.invariant.3)
-    ]
+pub actions-preserved : goal.actions-preserved
+actions-preserved c = let r = c.args.self.now in let s = c.actions in let l = c.loop-p in
+    (s.invariant.0 ∙ no_pattern r s.m (rw s.invariant.2 at c.actions-test.true) (l.invariant.0 ∙ patterns_passed r s.m l.p (rw s.invariant.3 at c.loop-p-test.false)), omega arith, s.invariant.2, s.invariant.3, l.invariant.3)
 
-pub returns : goal.returns
+pub actions-preserved-then-left-eq1 : goal.actions-preserved-then-left-eq1
+actions-preserved-then-left-eq1 c = let r = c.args.self.now in let s = c.actions in let l = c.loop-p in let k = c.loop-q in
+    (s.invariant.0 ∙ one_pattern r s.m (rw s.invariant.2 at c.actions-test.true) l.p (k.invariant.0 ∙ ap (λ x. l.p ∷ x) (patterns_passed r s.m k.q (rw s.invariant.3 at c.loop-q-test.false))), omega arith, s.invariant.2, s.invariant.3, k.invariant.3)
+
+pub returns-after-actions : goal.returns-after-actions
 unfolding additivity_of
-returns c = let u = c.loop-m in sym (ap additivity_of (u.invariant.0 ∙ actions_passed c.args.self.now u.m (rw u.invariant.2 at c.loop-m-test.false)))
+returns-after-actions c = let u = c.actions in u.invariant.4 ∙ sym (ap additivity_of (u.invariant.0 ∙ actions_passed c.args.self.now u.m (rw u.invariant.2 at c.actions-test.false)))
 
 pub returns-then-left-eq1-2 : goal.returns-then-left-eq1-2
 unfolding additivity_of
-returns-then-left-eq1-2 c = let r = c.args.self.now in let s = c.loop-m in let l = c.loop-p in let k = c.loop-q in
+returns-then-left-eq1-2 c = let r = c.args.self.now in let s = c.actions in let l = c.loop-p in let k = c.loop-q in
     let t = rw s.invariant.3 at c.loop-q-test.true in
-    rw (c.from.ensures, c.from-then-left-eq1-2.ensures, c.from-then-left-eq1-2-2.ensures) (sym (ap additivity_of (s.invariant.0 ∙ two_patterns r s.m (rw s.invariant.2 at c.loop-m-test.true) l.p k.q (affected_from r s.m (k.q + 1))
+    rw (c.from.ensures, c.from-then-left-eq1-2.ensures, c.from-then-left-eq1-2-2.ensures) (sym (ap additivity_of (s.invariant.0 ∙ two_patterns r s.m (rw s.invariant.2 at c.actions-test.true) l.p k.q (affected_from r s.m (k.q + 1))
     (k.invariant.0 ∙ ap (λ x. l.p ∷ x) (pattern_affected r s.m k.q t (set_odd (affects_at r s.m) k.q (pattern_count r) t (rw k.invariant.2 at c.if-left-eq1-2.true)))))))
