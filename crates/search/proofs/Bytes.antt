@@ -50,9 +50,3 @@ module _ (at end : ℕ) (mid new : List ℕ) (p q : List ℕ) (l : length new �
   pub holds_joined : Holds (p ++ q) at new
   unfolding Holds
   holds_joined j u v = joined_at j (dec_lt j (length p)) u v
-
--- Inside a list the default does not matter.
-pub get_or_any : (l : List ℕ) (i a b : ℕ) → i < length l → get_or l i a ≡ get_or l i b
-get_or_any [] i a b h = absurd (omega arith)
-get_or_any (x ∷ l) zero a b h = refl
-get_or_any (x ∷ l) (suc i) a b h = get_or_any l i a b (omega arith)

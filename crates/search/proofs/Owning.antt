@@ -1,6 +1,7 @@
 -- Laws of owners: an outcome that names no variable of a pattern leaves every word's index in it, and with additive patterns the pattern
 -- that an action touches is its only one. Assumes nothing.
 use Rattle.std.proofs.Common.{◌≡◌, ℕ, zero, suc, ◌+◌, ◌-◌, ◌*◌, ◌/◌, ◌%◌, ◌<◌, ◌≤◌, Bool, true, false, cond, not, ◌&&◌, ◌||◌, T, eqb, List, [], ◌∷◌, length, get_or, drop, set, sym, refl, ap, ◌∙◌, subst, ap₂, inl, inr, add-zero, mod-eq_of_lt, zero-add, add-one, arith, length-set, get_or-set_other, get_or-set_same, eq-eqb, ne_eqb}
+use Rattle.std.specs.List.{list_any, range_with_len}
 use native.Mathlib.Decide.{ℕ_discrete}
 use lib.Arith.{digits_div, digits_mod}
 use lib.Bits.{bit_and, bit_or, and_block, or_block, or_lt, and_le_l, and_mask, and_zero_r, or_zero_r}
@@ -90,9 +91,6 @@ not_either false b = refl
 cond_below : (t : Bool) → cond t 15 0 < 16
 cond_below true = omega arith
 cond_below false = omega arith
-
-pub picking-digit : (x : ℕ) → picking x < 16
-picking-digit x = cond_below (eqb x 1)
 
 kept_is : (p o : List ℕ) → length p ≤ length o → eqb (bit_and (pack_by leaving o) (pack_by picking p)) (pack_by picking p) ≡ not (affects p o)
 unfolding pack_by affects
@@ -235,16 +233,7 @@ module _ {task : List ℕ} {mask p : ℕ} {old new : List ℕ} {i : ℕ} (g : Ma
   pub marking_ends : (actions : ℕ) → actions ≤ i → Marked task mask p actions old new
   marking_ends actions l = record { marks = λ m k. g.done m (omega arith) }
 
--- The outcomes of an action from number k on, n in all: one names a variable under the mask, or the next is looked at.
-module _ (task : List ℕ) (mask m k n : ℕ) where
-  abbrev left : Bool
-  left = any_from k (n - k) (λ o. not (eqb (bit_and (keep_mask task m o) mask) mask))
-
-  pub naming_hit : k < n → (bit_and (keep_mask task m k) mask ≡ mask → ⊥) → left ≡ true
-  naming_hit l h = rw (one_more n k l, ne_eqb _ _ h)
-
-  pub naming_miss : k < n → bit_and (keep_mask task m k) mask ≡ mask → left ≡ any_from (k + 1) (n - (k + 1)) (λ o. not (eqb (bit_and (keep_mask task m o) mask) mask))
-  naming_miss l h = rw (one_more n k l, eq-eqb _ _ h) (ap (λ (j : ℕ). any_from j (n - (k + 1)) (λ o. not (eqb (bit_and (keep_mask task m o) mask) mask))) (sym (add-one k)))
-
-  pub naming_end : n ≤ k → left ≡ false
-  naming_end l = let z : n - k ≡ zero = omega arith in rw z
+-- The test passes at one of the numbers in a list of n from k on.
+pub any_of_numbers : (k n : ℕ) (f : ℕ → Bool) → list_any f (range_with_len k n) ≡ any_from k n f
+any_of_numbers k zero f = refl
+any_of_numbers k (suc n) f = ap (λ (b : Bool). f k || b) (ap (λ (j : ℕ). list_any f (range_with_len j n)) (add-one k) ∙ any_of_numbers (suc k) n f)

@@ -1,6 +1,6 @@
 -- Filling the blocks: sixteen sums, a block, the blocks of a pattern, and those of every pattern. Assumes nothing.
-use Rattle.std.proofs.Common.{◌≡◌, ℕ, ◌+◌, ◌-◌, ◌*◌, ◌/◌, ◌%◌, ◌<◌, ◌≤◌, true, false, ltb, ◌⊎◌, List, Option, Some, None, length, get_or, set, sym, refl, ap, ◌∙◌, inl, inr, ⊎_elim, true≢false, mul-le-mul_right, mod-eq_of_lt, arith, ltb→lt, length-set, get_or-set_other, get_or-set_same}
-use Rattle.std.specs.Option.{SomeIff, is_some}
+use Rattle.std.proofs.Common.{◌≡◌, ℕ, ◌+◌, ◌-◌, ◌*◌, ◌/◌, ◌%◌, ◌<◌, ◌≤◌, true, false, ltb, ◌⊎◌, List, Option, Some, None, length, get_or, set, sym, refl, ap, ◌∙◌, inl, inr, ⊎_elim, true≢false, mul-le-mul_right, mod-eq_of_lt, arith, ltb→lt, lt-ltb, length-set, get_or-set_other, get_or-set_same}
+use Rattle.std.specs.Option.{SomeIff, MatchOption, is_some, unwrap_or}
 use native.Mathlib.Decide.{ℕ_discrete}
 use Rattle.planning.proofs.Test.{by_test}
 use Rattle.search.specs.Value.{row_entry}
@@ -61,14 +61,14 @@ module _ {low high old new : List ℕ} {at h : ℕ} (s : Blocking low high old n
     kept = s.kept;
   }
 
--- One variable more that adds nothing, upward and downward.
-unused_at : (rows : List ℕ) (p v : ℕ) → ((u : ℕ) → u < v → row_entry rows u 1 p ≡ 0) → row_entry rows v 1 p ≡ 0 → (u : ℕ) → Dec (u ≡ v) → u < v + 1 → row_entry rows u 1 p ≡ 0
-unused_at rows p v h e u (yes q) l = rw q e
-unused_at rows p v h e u (no q) l = h u (omega arith)
+-- The variables before the first that adds something, if one does.
+pub unused_first : (rows : List ℕ) (p n : ℕ) (r : Option ℕ) → MatchOption r ((v : ℕ) → 0 ≤ v → v < n → digit_adds rows n p v 1 ≡ 0) (λ i. (0 ≤ i) × (i < n) × Unit {0} × ((v : ℕ) → 0 ≤ v → v < i → digit_adds rows n p v 1 ≡ 0)) →
+    (unwrap_or r n ≤ n) × ((v : ℕ) → v < unwrap_or r n → row_entry rows v 1 p ≡ 0)
+unfolding digit_adds
+unused_first rows p n None h = (omega arith, λ v l. rw (lt-ltb v n l) at (h v (omega arith) l))
+unused_first rows p n (Some i) h = (omega (arith, h.1), λ v l. rw (lt-ltb v n (omega (arith, l, h.1))) at (h.3 v (omega arith) l))
 
-pub unused_next : (rows : List ℕ) (p v : ℕ) → ((u : ℕ) → u < v → row_entry rows u 1 p ≡ 0) → row_entry rows v 1 p ≡ 0 → (u : ℕ) → u < v + 1 → row_entry rows u 1 p ≡ 0
-unused_next rows p v h e u = unused_at rows p v h e u (ℕ_discrete u v)
-
+-- One variable more that adds nothing, downward.
 unused_below : (rows : List ℕ) (p n v : ℕ) → 0 < v → ((u : ℕ) → v ≤ u → u < n → row_entry rows u 1 p ≡ 0) → row_entry rows (v - 1) 1 p ≡ 0 → (u : ℕ) → Dec (u ≡ v - 1) → v - 1 ≤ u → u < n → row_entry rows u 1 p ≡ 0
 unused_below rows p n v o h e u (yes q) l m = rw q e
 unused_below rows p n v o h e u (no q) l m = h u (omega arith) m

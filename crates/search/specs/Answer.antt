@@ -8,7 +8,6 @@ use Rattle.search.specs.Examination.{plan_size}
 use Rattle.search.specs.Value.{packed_value, Estimated}
 use Rattle.search.specs.Packed.{guided_examination, guided_value}
 use Rattle.search.specs.Memory.{Remembers}
-use Rattle.search.specs.declared.rounds.Conclusion.{Conclusion}
 use Rattle.search.specs.declared.entry.SearchAnswer.{SearchAnswer}
 use Rattle.search.specs.declared.entry.SearchAnswer.TheVariants as outcome
 use Rattle.search.specs.declared.rounds.TooLong.{TooLong}
@@ -80,14 +79,7 @@ module _ (i : Instance) (s : ℕ) (x : planning.Answer) where
     pub counted : c ≤ i.guide.budget
     pub many : most < c
 
-  -- How the rounds end.
-  abbrev pub Concludes : ℕ → Result Conclusion Unfinished → Type 0
-  Concludes most (Ok (Conclusion.Found d c n)) = FoundBy d c n
-  Concludes most (Ok (Conclusion.Over c)) = x ≡ over c
-  Concludes most (Ok (Conclusion.Spent d c)) = x ≡ spent d c
-  Concludes most (Err u) = Left most u.round u.count
-
-  -- The same with a buffer of n bytes.
+  -- How the rounds end, with a buffer of n bytes.
   abbrev pub Replies : ℕ → ℕ → List ℕ → Result (Result SearchAnswer TooLong) Unfinished → Type 0
   Replies most n new (Ok a) = Replied n x new a
   Replies most n new (Err u) = Left most u.round u.count

@@ -36,16 +36,12 @@ impl<'a> Column<'a> {
     }
 
     // The first variable that adds something, and the place after the last.
-    // Stays: `for` over numbers, since the variables' entries stand 128 apart: `iter().skip(8 + p).step_by(128)` says no more than the index does.
     pub(crate) fn first_used(&self) -> usize
         ensures { (result ≤ self.now.variables) × ((v : ℕ) → v < result → row_entry self.now.rows.now v 1 self.now.p ≡ 0) }
     {
-        for v in 0..self.variables {
-            if self.rows[(16 * v + 1) * 8 + self.p] != 0 {
-                return v;
-            }
-        }
-        self.variables
+        (0..self.variables)
+            .find(|&v| self.digit_adds(v, 1) != 0)
+            .unwrap_or(self.variables)
     }
 
     pub(crate) fn end_used(&self) -> usize

@@ -8,6 +8,9 @@ ghost use Rattle.search.specs.Packed.{guided_value};
 
 use crate::instance::Instance;
 
+// An infinite entry as a number. Where it stands for a value, that is above every depth.
+pub(crate) const INFINITE: u64 = 65535;
+
 fn lowest_digit(s: u64) -> usize
     ensures { (result ≡ s % 16) × (result < 16) }
 {
@@ -33,10 +36,7 @@ pub(crate) fn index_of(instance: &Instance, s: u64, p: usize) -> usize
 fn entry_at(tables: &[u16], i: usize) -> u16
     ensures { result ≡ slice_index_or tables.now i 65535 }
 {
-    if i < tables.len() {
-        return tables[i];
-    }
-    65535
+    tables.get(i).copied().unwrap_or(u16::MAX)
 }
 
 // The cost that the table of pattern p gives at an index.
@@ -54,7 +54,7 @@ pub(crate) fn value_of(instance: &Instance, s: u64) -> Option<u64>
     let mut sum = 0u64;
     for p in 0..instance.guide.patterns {
         let e = cost_at(instance, p, index_of(instance, s, p));
-        if e == 65535 {
+        if e == INFINITE {
             return None;
         }
         sum = sum + e;

@@ -8,6 +8,7 @@ ghost use Rattle.search.specs.Value.{Estimated};
 ghost use Rattle.search.specs.Packed.{guided_opening, guided_examination, guided_outcomes, guided_value};
 ghost use Rattle.search.specs.Cycle.{Examinable, Openable, Examines, Glanced};
 
+use crate::buffer::ARRIVED;
 use crate::carried::{rest_of, sum_with};
 use crate::compiled::{is_beyond, is_goal, left_after, outcome_count, successor};
 use crate::instance::Instance;
@@ -94,7 +95,7 @@ fn look(instance: &Instance, memory: &[Slot], v: Visit) -> Option<Ending>
     match open_state(instance, v) {
         Opening::Spent => Some(Ending::Stopped(v.count)),
         Opening::Cut => Some(Ending::Failed(v.count + 1)),
-        Opening::Arrived => Some(Ending::Succeeded(v.count + 1, 1, 254)),
+        Opening::Arrived => Some(Ending::Succeeded(v.count + 1, 1, ARRIVED)),
         Opening::Expand => {
             let known = recall(memory, v.s, v.d, instance.guide.budget - v.count)?;
             if known.size == 0 {

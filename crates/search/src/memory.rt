@@ -75,26 +75,9 @@ pub(crate) fn note(memory: &mut [Slot], s: u64, d: u32, k: u32, n: u32, b: u8)
     memory[slot_of(s, d, memory.len())] = Slot { state: s, word };
 }
 
-// 1 where a slot is taken, else 0.
-fn taken(memory: &[Slot], i: usize) -> u32
-    ensures { result ≤ 1 }
-{
-    if i < memory.len() {
-        if memory[i].word != 0 {
-            return 1;
-        }
-    }
-    0
-}
-
 // Whether most of some slots are taken; so are the others then, since the products spread the states.
-// Stays: by number: `taken` answers for a place that a short memory does not have.
 fn is_crowded(memory: &[Slot]) -> bool {
-    let mut count = 0u32;
-    for i in 0..8usize {
-        count = count + taken(memory, i);
-    }
-    count > 6
+    memory.iter().take(8).filter(|slot| slot.word != 0).count() > 6
 }
 
 // Whether a memory is too small for rounds that have made c examinations, more than `most`. How crowded it is carries no proof.

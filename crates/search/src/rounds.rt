@@ -1,12 +1,13 @@
-// Rounds of examinations from a state, one more depth each, up to the limit; then the plan that was found is written and the buffer is filled
-// up with 255. The rounds begin with a small memory; where they outgrow it, they go on with a larger one, which begins empty.
+// Rounds of examinations from a state, one more depth each, up to the limit; then the plan that was found is written and the buffer
+// is cleared behind it. The rounds begin with a small memory; where they outgrow it, they go on with a larger one, which begins empty.
 // Asks for a limit whose depths fit the memory.
 ghost use Rattle.std.specs.Prelude.{◌≡◌, ◌<◌, ◌≤◌, length};
 ghost use Rattle.planning.specs.Search as planning;
 ghost use Rattle.search.specs.Memory.{Remembers};
 ghost use Rattle.search.specs.Packed.{guided_examination};
-ghost use Rattle.search.specs.Answer.{Begun, FoundBy, Startable, Concludes, Replies, Replied, guided_rounds, guided_search};
+ghost use Rattle.search.specs.Answer.{Begun, FoundBy, Startable, Replies, Replied, guided_rounds, guided_search};
 
+use crate::buffer::clear;
 use crate::entry::SearchAnswer;
 use crate::estimate::value_of;
 use crate::examine::{Ending, Visit, examine_any};
@@ -22,14 +23,6 @@ const SMALL: usize = 1024;
 const LARGE: usize = 16384;
 
 const MOST: u32 = 1024;
-
-// How rounds end: found with cost, count and the size of the plan; over with the count; spent with round and count.
-#[derive(Clone, Copy)]
-pub(crate) enum Conclusion {
-    Found(u32, u32, u32),
-    Over(u32),
-    Spent(u32, u32),
-}
 
 // Rounds that are not finished: the next round and the count.
 #[derive(Clone, Copy)]
@@ -63,37 +56,6 @@ fn found_with(v: Visit, bytes: u32) -> SearchAnswer
     SearchAnswer::Found(u64::from(v.d), u64::from(v.count), u64::from(bytes))
 }
 
-// The rounds from a visit's depth and count up to the limit, as long as the memory is not outgrown.
-fn deepen(
-    instance: &Instance,
-    memory: &mut [Slot],
-    v: Visit,
-    most: u32,
-) -> Result<Conclusion, Unfinished>
-    requires { Begun instance.now memory.old v.s v.value v.d v.count }
-    ensures conclusion { Concludes instance.now v.s (guided_rounds instance.now v.s v.d v.count) most result }
-    ensures memory { Remembers (guided_examination instance.now) instance.now.guide.budget memory.new }
-{
-    let mut c = v.count;
-    for d in v.d..instance.guide.limit + 1 {
-        if is_outgrown(memory, most, c) {
-            return Err(Unfinished { round: d, count: c });
-        }
-        match examine_any(instance, memory, Visit { d, count: c, ..v }) {
-            Ending::Stopped(e) => {
-                return Ok(Conclusion::Spent(d, e));
-            }
-            Ending::Failed(e) => {
-                c = e;
-            }
-            Ending::Succeeded(e, n, _) => {
-                return Ok(Conclusion::Found(d, e, n));
-            }
-        }
-    }
-    Ok(Conclusion::Over(c))
-}
-
 // The plan of n bytes that a visit's depth has found with its count: written, if the buffer is long enough.
 // Stays: `as`: a number of 32 bits has no `From` into a length.
 fn tell_found(
@@ -108,19 +70,19 @@ fn tell_found(
 {
     let bytes = n as usize;
     if plan.len() < bytes {
-        plan.fill(255);
+        clear(plan);
         return Err(TooLong {
             count: v.count,
             bytes: n,
         });
     }
     write_found(instance, memory, plan, v.s, v.d);
-    plan[bytes..].fill(255);
+    clear(&mut plan[bytes..]);
     Ok(found_with(v, n))
 }
 
-// The rounds, and the buffer as their answer wants it.
-fn conclude(
+// The rounds from a visit's depth and count up to the limit, as long as the memory is not outgrown, and the buffer as their answer wants it.
+fn deepen(
     instance: &Instance,
     memory: &mut [Slot],
     plan: &mut [u8],
@@ -130,20 +92,27 @@ fn conclude(
     requires { Begun instance.now memory.old v.s v.value v.d v.count }
     ensures { Replies instance.now v.s (guided_rounds instance.now v.s v.d v.count) most (length plan.old) plan.new result }
 {
-    match deepen(instance, memory, v, most)? {
-        Conclusion::Found(d, count, n) => {
-            let w = Visit { d, count, ..v };
-            Ok(tell_found(instance, memory, plan, w, n))
+    let mut c = v.count;
+    for d in v.d..instance.guide.limit + 1 {
+        if is_outgrown(memory, most, c) {
+            return Err(Unfinished { round: d, count: c });
         }
-        Conclusion::Over(c) => {
-            plan.fill(255);
-            Ok(Ok(SearchAnswer::Over(u64::from(c))))
-        }
-        Conclusion::Spent(d, c) => {
-            plan.fill(255);
-            Ok(Ok(SearchAnswer::Spent(u64::from(d), u64::from(c))))
+        match examine_any(instance, memory, Visit { d, count: c, ..v }) {
+            Ending::Stopped(e) => {
+                clear(plan);
+                return Ok(Ok(SearchAnswer::Spent(u64::from(d), u64::from(e))));
+            }
+            Ending::Failed(e) => {
+                c = e;
+            }
+            Ending::Succeeded(e, n, _) => {
+                let w = Visit { d, count: e, ..v };
+                return Ok(tell_found(instance, memory, plan, w, n));
+            }
         }
     }
+    clear(plan);
+    Ok(Ok(SearchAnswer::Over(u64::from(c))))
 }
 
 // The rounds with a memory of so many slots.
@@ -157,7 +126,7 @@ fn run_with<const SLOTS: usize>(
     ensures { Replies instance.now v.s (guided_rounds instance.now v.s v.d v.count) most (length plan.old) plan.new result }
 {
     let mut memory = [EMPTY; SLOTS];
-    conclude(instance, &mut memory, plan, v, most)
+    deepen(instance, &mut memory, plan, v, most)
 }
 
 // The rounds with the large memory. They may make as many examinations as any budget has, so that they are never unfinished.
@@ -208,12 +177,12 @@ pub(crate) fn run_rounds(
 {
     match value_of(instance, s) {
         None => {
-            plan.fill(255);
+            clear(plan);
             Ok(SearchAnswer::None(0))
         }
         Some(value) => {
             if u64::from(instance.guide.limit) < value {
-                plan.fill(255);
+                clear(plan);
                 return Ok(SearchAnswer::Over(0));
             }
             let v = Visit {

@@ -1,7 +1,7 @@
 // The rows of a task: what each value of each variable adds to the index in each pattern's table, and where each table begins.
 // Asks for a built task, whose patterns have at most 4,096 states each, so that every row entry is below 65,536.
 // Stays: `for` over numbers, since variables and patterns are asked for by their numbers, and the entries of a variable stand eight apart.
-ghost use Rattle.std.specs.Prelude.{◌*◌, ◌≡◌, ◌<◌, ◌≤◌, if◌then◌else◌, nat_eq};
+ghost use Rattle.std.specs.Prelude.{◌<◌, ◌≤◌};
 ghost use Rattle.task_record.specs.Layout.{at_pattern};
 ghost use Rattle.task_record.specs.Numbers.{pattern_count};
 ghost use Rattle.task_record.specs.TaskOf.{cells_at, task_of, patterns_of};
@@ -20,27 +20,6 @@ fn fill_values(rows: &mut [u16; 2048], v: usize, p: usize, weight: u16)
     }
 }
 
-// The weight of a variable: that of the next one in the pattern, 0 outside it.
-fn weight_in(b: u8, weight: u16) -> u16
-    ensures { (result ≡ (if nat_eq b 1 then weight else 0)) × (result ≤ weight) }
-{
-    if b == 1 {
-        return weight;
-    }
-    0
-}
-
-// The weight of the next variable in the pattern after one of size z.
-fn weight_after(b: u8, weight: u16, z: u8) -> u16
-    requires { (if nat_eq b 1 then weight * z else weight) ≤ 4096 }
-    ensures { result ≡ (if nat_eq b 1 then weight * z else weight) }
-{
-    if b == 1 {
-        return weight * u16::from(z);
-    }
-    weight
-}
-
 // The rows of pattern p, and the number of its abstract states.
 fn fill_pattern(built: &BuiltTask, rows: &mut [u16; 2048], p: u8) -> u16
     requires { p < pattern_count built.now.rec.now }
@@ -49,9 +28,12 @@ fn fill_pattern(built: &BuiltTask, rows: &mut [u16; 2048], p: u8) -> u16
     let cells = pattern_cells(built.rec, p);
     let mut weight = 1u16;
     for v in 0..variable_count(built.rec) {
-        let b = cells[usize::from(v)];
-        fill_values(rows, usize::from(v), usize::from(p), weight_in(b, weight));
-        weight = weight_after(b, weight, size_of(built.rec, v));
+        if cells[usize::from(v)] == 1 {
+            fill_values(rows, usize::from(v), usize::from(p), weight);
+            weight *= u16::from(size_of(built.rec, v));
+        } else {
+            fill_values(rows, usize::from(v), usize::from(p), 0);
+        }
     }
     weight
 }

@@ -13,9 +13,9 @@ ghost use Rattle.search.specs.Value.{Estimated};
 ghost use Rattle.search.specs.Packed.{guided_examination};
 ghost use Rattle.search.specs.Written.{Names, Succeeding, Starts, Writable, Writes};
 
-use crate::buffer::put;
+use crate::buffer::{ARRIVED, put};
 use crate::compiled::{is_goal, left_after, outcome_count, successor};
-use crate::estimate::value_of;
+use crate::estimate::{INFINITE, value_of};
 use crate::examine::{Ending, Visit, examine_any};
 use crate::instance::Instance;
 use crate::memory::{EMPTY, Slot, recall};
@@ -28,24 +28,14 @@ struct Start {
     first: u8,
 }
 
-// The action that a plan's first byte names; 254 is a goal's.
+// The action that a plan's first byte names, none for a goal's.
 fn action_of(b: u8) -> Option<usize>
     ensures { Names b result }
 {
-    if b == 254 {
+    if b == ARRIVED {
         return None;
     }
     Some(usize::from(b))
-}
-
-// A number that stands for a value: an infinite one is above every depth.
-fn number_for(value: Option<u64>) -> u64
-    ensures { (h : ℕ∞) → value ≡ value_of h → Estimated h result }
-{
-    match value {
-        None => 65535,
-        Some(v) => v,
-    }
 }
 
 // The size and the first byte of the plan of a state that succeeds: a goal's, what the state's slot says, or else what examining it again answers.
@@ -56,7 +46,7 @@ fn start_of(instance: &Instance, memory: &mut [Slot], s: u64, d: u32) -> Start
     if is_goal(instance.task, s) {
         return Start {
             size: 1,
-            first: 254,
+            first: ARRIVED,
         };
     }
     if let Some(known) = recall(memory, s, d, instance.guide.budget) {
@@ -67,7 +57,7 @@ fn start_of(instance: &Instance, memory: &mut [Slot], s: u64, d: u32) -> Start
     }
     let v = Visit {
         s,
-        value: number_for(value_of(instance, s)),
+        value: value_of(instance, s).unwrap_or(INFINITE),
         d,
         count: 0,
     };

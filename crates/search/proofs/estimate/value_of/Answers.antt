@@ -10,16 +10,16 @@ pub loop-p-init : goal.loop-p-init
 unfolding packed_value
 loop-p-init c = (rw sub-zero (sym (nothing_joins _)), omega arith, omega arith)
 
-pub returns-then-e-eq65535 : goal.returns-then-e-eq65535
+pub returns-then-e-eq-INFINITE : goal.returns-then-e-eq-INFINITE
 unfolding value_of
-returns-then-e-eq65535 c = let l = c.loop-p in
+returns-then-e-eq-INFINITE c = let l = c.loop-p in
     let e = entry_found _ _ _ _ _ _ _ _ c.index_of.ensures.0 c.cost_at-e.ensures.0 in
-    rw (value_infinite _ _ _ _ _ _ _ _ l.sum _ l.invariant.0 c.loop-p-test.true e c.if-e-eq65535.true)
+    rw (value_infinite _ _ _ _ _ _ _ _ l.sum _ l.invariant.0 c.loop-p-test.true e c.if-e-eq-INFINITE.true)
 
 pub loop-p-preserved : goal.loop-p-preserved
 loop-p-preserved c = let l = c.loop-p in
     let e = entry_found _ _ _ _ _ _ _ _ c.index_of.ensures.0 c.cost_at-e.ensures.0 in
-    (value_grows _ _ _ _ _ _ _ _ l.sum _ l.invariant.0 c.loop-p-test.true e c.if-e-eq65535.false, omega arith, omega arith)
+    (value_grows _ _ _ _ _ _ _ _ l.sum _ l.invariant.0 c.loop-p-test.true e c.if-e-eq-INFINITE.false, omega arith, omega arith)
 
 pub returns : goal.returns
 unfolding value_of

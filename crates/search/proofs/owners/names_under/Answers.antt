@@ -1,20 +1,16 @@
--- `search::owners::names_under` meets its contract. The loop's invariant: the outcomes left decide. Assumes nothing.
-use Rattle.std.proofs.Common.{sym, ◌∙◌, arith}
-use Rattle.search.specs.Owned.{touches}
+-- `search::owners::names_under` meets its contract: the outcomes are asked one after the other. Assumes nothing.
+use Rattle.std.proofs.Common.{refl, ◌∙◌, not, eqb, rules, tests}
 use native.Mathlib.Nat.{sub-zero}
-use Rattle.tables.specs.Packed.{outcome_count}
-use Rattle.search.proofs.Owning.{naming_hit, naming_miss, naming_end}
+use lib.Bits.{bit_and}
+use Rattle.std.proofs.lemmas.Iterator.{YieldsList-from_range}
+use Rattle.std.proofs.lemmas.Iterator.Search.{any_from_yields_List}
+use Rattle.tables.specs.Packed.{outcome_count, keep_mask}
+use Rattle.search.specs.Owned.{touches}
+use Rattle.search.proofs.Owning.{any_of_numbers}
 use Rattle.search.proofs.owners.names_under.Goals as goal
 
-pub loop-k-init : goal.loop-k-init
-unfolding touches
-loop-k-init c = (rw sub-zero, omega arith, c.outcome_count-k-end.ensures)
-
-pub returns-then-task-m : goal.returns-then-task-m
-returns-then-task-m c = let a = c.args in let l = c.loop-k in sym (l.invariant.0 ∙ naming_hit a.task.now a.mask a.m l.k (outcome_count a.task.now a.m) (omega (arith, c.loop-k-test.true, l.invariant.2)) c.if-task-m.true)
-
-pub loop-k-preserved : goal.loop-k-preserved
-loop-k-preserved c = let a = c.args in let l = c.loop-k in (l.invariant.0 ∙ naming_miss a.task.now a.mask a.m l.k (outcome_count a.task.now a.m) (omega (arith, c.loop-k-test.true, l.invariant.2)) c.if-task-m.false, omega arith, l.invariant.2)
-
 pub returns : goal.returns
-returns c = let a = c.args in let l = c.loop-k in sym (l.invariant.0 ∙ naming_end a.task.now a.mask a.m l.k (outcome_count a.task.now a.m) (omega (arith, c.loop-k-test.false, l.invariant.2)))
+unfolding touches
+returns c = let a = c.args in
+    any_from_yields_List (λ k. not (eqb (bit_and (keep_mask a.task.now a.m k) a.mask) a.mask)) _ _ c.any.result c.any.ensures.ran
+    (YieldsList-from_range 0 c.outcome_count.result (outcome_count a.task.now a.m) refl (rw sub-zero c.outcome_count.ensures)) (λ x b q k. search (rules, tests)) ∙ any_of_numbers 0 (outcome_count a.task.now a.m) _

@@ -6,7 +6,7 @@ use Rattle.search.specs.Answer.{guided_rounds}
 use Rattle.search.proofs.rounds.deepen.Given as goal
 
 abbrev pub invariant-loop-d : goal.invariant-loop-d
-invariant-loop-d l = (guided_rounds l.instance l.v.s l.v.d l.v.count ≡ guided_rounds l.instance l.v.s l.d l.c) × (l.c ≤ l.instance.guide.budget) × Remembers (guided_examination l.instance) l.instance.guide.budget l.memory × (length l.memory ≡ length l.initial.memory) × (l.d ≤ 256)
+invariant-loop-d l = (guided_rounds l.instance l.v.s l.v.d l.v.count ≡ guided_rounds l.instance l.v.s l.d l.c) × (l.c ≤ l.instance.guide.budget) × Remembers (guided_examination l.instance) l.instance.guide.budget l.memory × (length l.memory ≡ length l.initial.memory) × (l.d ≤ 256) × (length l.plan ≡ length l.initial.plan)
 
 abbrev pub decreases-loop-d : goal.decreases-loop-d
 decreases-loop-d l = l.instance.guide.limit + 1 - l.d

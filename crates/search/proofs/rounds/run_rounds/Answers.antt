@@ -7,10 +7,10 @@ use Rattle.search.proofs.Conclusions.{ends_over, ends_none, search_none, search-
 use Rattle.search.proofs.rounds.run_rounds.Goals as goal
 
 pub returns-in-None : goal.returns-in-None
-returns-in-None c = ends_none _ _ _ (c.fill.ensures.after (λ y h. h)) _ (search_none _ _ _ _ _ (sym c.in-None.is ∙ c.value_of.ensures))
+returns-in-None c = ends_none _ _ _ c.clear.ensures _ (search_none _ _ _ _ _ (sym c.in-None.is ∙ c.value_of.ensures))
 
 pub returns-then-from-value : goal.returns-then-from-value
-returns-then-from-value c = ends_over _ _ _ (c.fill-then-from-value.ensures.after (λ y h. h)) _ (search-over _ _ _ _ _ _ (sym c.in-Some.is ∙ c.value_of.ensures) (rw c.from.ensures at c.if-from-value.true))
+returns-then-from-value c = ends_over _ _ _ c.clear-then-from-value.ensures _ (search-over _ _ _ _ _ _ (sym c.in-Some.is ∙ c.value_of.ensures) (rw c.from.ensures at c.if-from-value.true))
 
 pub run_from-requires : goal.run_from-requires
 run_from-requires c = let i = c.args.instance.now in record {

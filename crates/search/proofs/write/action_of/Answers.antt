@@ -2,4 +2,4 @@
 use Rattle.search.proofs.write.action_of.Goals as goal
 
 pub returns : goal.returns
-returns c = (c.from.ensures, c.if-b-eq254.false)
+returns c = (c.from.ensures, c.if-b-eq-ARRIVED.false)

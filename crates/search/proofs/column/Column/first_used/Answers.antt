@@ -1,16 +1,12 @@
--- `search::column::Column::first_used` meets its contract. The loop's invariant: no variable below v adds anything. Assumes nothing.
-use Rattle.std.proofs.Common.{arith}
-use Rattle.search.proofs.PlacesFilled.{unused_next}
+-- `search::column::Column::first_used` meets its contract: the variables before the one that was found add nothing. Assumes nothing.
+use Rattle.std.proofs.Common.{◌≡◌, rules, tests}
+use Rattle.std.proofs.lemmas.Iterator.{first_from_Range}
+use Rattle.search.specs.ByteRows.{digit_adds}
+use Rattle.search.proofs.PlacesFilled.{unused_first}
 use Rattle.search.proofs.column.Column.first_used.Goals as goal
 
-pub loop-v-init : goal.loop-v-init
-loop-v-init c = (omega arith, λ u h. absurd (omega arith))
-
-pub returns-then-self-v-ne0 : goal.returns-then-self-v-ne0
-returns-then-self-v-ne0 c = (omega (arith, c.loop-v.invariant.0), c.loop-v.invariant.1)
-
-pub loop-v-preserved : goal.loop-v-preserved
-loop-v-preserved c = (omega arith, unused_next c.args.self.now.rows.now c.args.self.now.p c.loop-v.v c.loop-v.invariant.1 c.if-self-v-ne0.false)
-
 pub returns : goal.returns
-returns c = (omega arith, λ u h. c.loop-v.invariant.1 u (omega (arith, h, c.loop-v-test.false)))
+returns c = let a = c.args.self.now in
+    rw c.unwrap_or.ensures (unused_first a.rows.now a.p a.variables c.find.result (
+    first_from_Range _ _ _ c.find.result (λ v. Unit {0}) (λ v. digit_adds a.rows.now a.variables a.p v 1 ≡ 0) c.find.ensures.ran
+    (λ x q m. tt) (λ x q m. (search rules, search (rules, tests)))))
