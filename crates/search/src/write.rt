@@ -3,13 +3,10 @@
 // copied. Asks for a state that succeeds from the count 0 with a plan that fits the buffer. Argued, not proved: the last round examined the states
 // on one level of the plan one after the other, so the writer examines on each level no more than that round did, in all at most (depth + 1) times that.
 ghost use Rattle.std.specs.Prelude.{◌≡◌, ℕ, ◌≤◌, length};
-ghost use Rattle.planning.specs.Extended.{ℕ∞};
 ghost use Rattle.planning.specs.Plan.{Plan, encode};
 ghost use Rattle.planning.specs.Search.{succeeded};
 ghost use Rattle.search.specs.Buffer.{Holds};
 ghost use Rattle.search.specs.Examination.{plan_size};
-ghost use Rattle.patterns.specs.Value.{value_of};
-ghost use Rattle.search.specs.Value.{Estimated};
 ghost use Rattle.search.specs.Packed.{guided_examination};
 ghost use Rattle.search.specs.Written.{Names, Succeeding, Starts, Writable, Writes};
 
