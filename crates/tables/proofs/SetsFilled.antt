@@ -78,6 +78,15 @@ module _ (needs : ℕ → ℕ → ℕ) (digits : ℕ) where
   unfolding set_from
   slotting_starts slots l z = record { long = l; slot_at = λ v k h g. z (17 * v + k); power = λ h. refl }
 
+  -- The same, where the bit is made anew for each number.
+  pub slotting_next : {slots new : List ℕ} {m : ℕ} (few : m < 64) → Slotting needs digits slots (2 ^ m) m → length new ≡ length slots
+      → {need value : ℕ} (of : (v : ℕ) → needs m v ≡ need_at need value v) → Entered slots new need value (1 * 2 ^ m % 18446744073709551616) digits → Slotting needs digits new (2 ^ (m + 1)) (m + 1)
+  slotting_next {slots} {new} {m} few s kept of g = let l : m ≤ 63 = omega arith in let p = pow-le-pow_right {n = 2} (omega arith) l in let one : 1 * 2 ^ m % 18446744073709551616 ≡ 2 ^ m = omega arith in record {
+    long = kept ∙ s.long;
+    slot_at = λ v k h i. (rw one at g).slots v k h i ∙ rw (s.slot_at v k h i, ← of v) (sym (set_more (λ j. eqb k (needs j v)) m));
+    power = λ h. refl;
+  }
+
   module _ {slots new : List ℕ} {bit m : ℕ} (s : Slotting needs digits slots bit m) (few : m < 64) (kept : length new ≡ length slots)
       {need value : ℕ} (of : (v : ℕ) → needs m v ≡ need_at need value v) (g : Entered slots new need value bit digits) where
     slot-after : (v k : ℕ) → v < digits → k < 17 → get_or new (17 * v + k) 0 ≡ set_from (λ j. eqb k (needs j v)) 0 (m + 1)

@@ -5,6 +5,8 @@
 ghost use Rattle.std.specs.Prelude.{◌≡◌, ℕ, ◌+◌, ◌*◌, ◌/◌, ◌%◌, ◌<◌, ◌≤◌, length, bit_and, slice_index};
 ghost use Rattle.tables.specs.Sets.{lowest_need, action_need, spread, meet_from, Entered, SlotsOf, RowFilled, RowsFilled, sets_filled};
 
+use crate::compiled_task::{need, value};
+
 // The slot of the lowest digit that an action needs: its value, or the last of seventeen where any value will do.
 // Stays: 16 is a place among the slots like the others, and goes into an index as it is; an Option would be turned into it at once.
 fn lowest_need(need: u64, value: u64) -> usize
@@ -36,12 +38,14 @@ fn enter_all(task: &[u64; 1282], mask: u64, actions: usize, digits: usize, slots
     requires { (actions ≤ 64) × (digits ≤ 16) × ((i : ℕ) → slice_index slots.old i ≡ 0) }
     ensures { SlotsOf (action_need task.now mask) actions digits slots.new }
 {
-    let mut bit = 1u64;
     for m in 0..actions {
-        let need = task[20 * m] & mask;
-        let value = task[20 * m + 1] & mask;
-        enter(slots, need, value, bit, digits);
-        bit = bit % 9223372036854775808 * 2;
+        enter(
+            slots,
+            need(task, m) & mask,
+            value(task, m) & mask,
+            1 << m,
+            digits,
+        );
     }
 }
 

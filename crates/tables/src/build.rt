@@ -19,7 +19,7 @@ fn make(x: &Space<'_>, entries: &mut [u16])
     ensures { Finished (space_of x.now) entries.new }
 {
     candidate(x.task, x.mask, x.weights, x.sizes, x.actions, entries);
-    if is_certified(x, x.bytes, entries) {
+    if is_certified(x, entries) {
         return;
     }
     start(x.task, x.mask, x.states, entries);

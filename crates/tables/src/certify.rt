@@ -3,9 +3,10 @@ ghost use Rattle.std.specs.Prelude.{◌≡◌, ◌<◌, true, length, slice_inde
 ghost use Rattle.tables.specs.Sets.{set_from, SetsOf, spread};
 ghost use Rattle.tables.specs.Spaces.{space_of};
 ghost use Rattle.tables.specs.Steps.{offer};
-ghost use Rattle.tables.specs.Certified.{Lookable, counts, Judged, Said, Exact, Certified};
+ghost use Rattle.tables.specs.Certified.{counts, Judged, Said, Exact, Certified};
 
 use crate::applying::{applying, fill_sets};
+use crate::compiled_task::{kept, need, outcome_count, set, value, weight};
 use crate::places::variables;
 use crate::space::Space;
 use crate::sweep::{Guess, at_goal, index_of, raise, worst_entry};
@@ -42,15 +43,15 @@ impl Step {
     fn new(task: &[u64; 1282], mask: u64, weights: &[u16; 16], m: usize, o: usize) -> Step
         requires { (m < 64) × (o < 8) }
     {
-        let named = mask & !task[20 * m + 4 + 2 * o];
-        let to = index_of(weights, task[20 * m + 5 + 2 * o] & mask);
-        let from = index_of(weights, task[20 * m + 1] & named);
+        let named = mask & !kept(task, m, o);
+        let to = index_of(weights, set(task, m, o) & mask);
+        let from = index_of(weights, value(task, m) & named);
         let number = ((to % 65536) as u16).wrapping_sub((from % 65536) as u16);
         let mut step = Step {
             number,
             ..Step::NONE
         };
-        let mut free = variables(named & !task[20 * m]);
+        let mut free = variables(named & !need(task, m));
         if let Some(b) = free.next() {
             step.one_weight = weights[b / 4 % 16];
             step.one_bit = (b % 64) as u8;
@@ -80,20 +81,22 @@ impl Step {
 fn fill_steps(x: &Space<'_>, steps: &mut [[Step; 8]; 64]) {
     for m in 0..x.actions {
         if (x.live >> m) % 2 == 1 {
-            for o in 0..x.task[20 * m + 2] as usize {
+            for o in 0..outcome_count(x.task, m) {
                 steps[m][o] = Step::new(x.task, x.mask, x.weights, m, o);
             }
         }
     }
 }
 
-// A table that is tested, and the steps of the outcomes.
+// A table that is tested, the sets of the actions that a state's bytes permit, and the steps of the outcomes.
 #[derive(Clone, Copy)]
 struct Trial<'a> {
     space: &'a Space<'a>,
     entries: &'a [u16],
+    sets: &'a [u64; 2048],
     steps: &'a [[Step; 8]; 64],
     ghost long: { length entries.now ≡ space.now.count },
+    ghost looked_up: { SetsOf space.now.task.now space.now.mask space.now.actions (spread space.now.bytes) sets.now },
 }
 
 // The guesses for an action in state i of word s.
@@ -132,7 +135,7 @@ fn judge(t: &Trial<'_>, m: usize, i: usize, s: u64, e: u16) -> Verdict
     if v >= e {
         return Verdict::More;
     }
-    let said = raise(t.space.task[20 * m + 3], v);
+    let said = raise(weight(t.space.task, m), v);
     if said < e {
         return Verdict::Less;
     }
@@ -168,8 +171,8 @@ fn is_said(t: &Trial<'_>, set: u64, i: usize, s: u64, e: u16) -> bool
 }
 
 // Whether entry i is what the entries say of it.
-fn is_exact(t: &Trial<'_>, sets: &[u64; 2048], bytes: usize, i: usize) -> bool
-    requires { (SetsOf t.now.space.now.task.now t.now.space.now.mask t.now.space.now.actions (spread bytes) sets.now) × (Lookable t.now.space.now.task.now t.now.space.now.mask t.now.space.now.actions bytes) × (i < t.now.space.now.count) }
+fn is_exact(t: &Trial<'_>, i: usize) -> bool
+    requires { i < t.now.space.now.count }
     ensures { result ≡ true → Exact (space_of t.now.space.now) t.now.entries.now (slice_index t.now.space.now.states.now i) (slice_index t.now.entries.now i) }
 {
     let s = t.space.states[i];
@@ -177,28 +180,31 @@ fn is_exact(t: &Trial<'_>, sets: &[u64; 2048], bytes: usize, i: usize) -> bool
     if at_goal(t.space.task, t.space.mask, s) {
         return e == 0;
     }
-    let set = applying(sets, s, bytes) & t.space.live;
+    let set = applying(t.sets, s, t.space.bytes) & t.space.live;
     is_said(t, set, i, s, e)
 }
 
+// Whether every entry is.
+fn all_exact(t: &Trial<'_>) -> bool
+    ensures { result ≡ true → Certified (space_of t.now.space.now) t.now.entries.now }
+{
+    (0..t.entries.len()).all(|i| is_exact(t, i))
+}
+
 // Whether every entry is what the entries say of it.
-pub(crate) fn is_certified(x: &Space<'_>, bytes: usize, entries: &[u16]) -> bool
-    requires { (Lookable x.now.task.now x.now.mask x.now.actions bytes) × (length entries.now ≡ x.now.count) }
+pub(crate) fn is_certified(x: &Space<'_>, entries: &[u16]) -> bool
+    requires { length entries.now ≡ x.now.count }
     ensures { result ≡ true → Certified (space_of x.now) entries.now }
 {
     let mut steps = [[Step::NONE; 8]; 64];
     fill_steps(x, &mut steps);
     let mut sets = [0u64; 2048];
-    fill_sets(x.task, x.mask, x.actions, bytes, &mut sets);
+    fill_sets(x.task, x.mask, x.actions, x.bytes, &mut sets);
     let trial = Trial {
         space: x,
         entries,
+        sets: &sets,
         steps: &steps,
     };
-    for i in 0..entries.len() {
-        if !is_exact(&trial, &sets, bytes, i) {
-            return false;
-        }
-    }
-    true
+    all_exact(&trial)
 }

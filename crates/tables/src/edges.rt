@@ -1,6 +1,7 @@
 // Edges of a pattern's abstraction: an outcome of an action, seen from the states that it leads to.
 ghost use Rattle.std.specs.Prelude.{◌<◌, ◌≤◌};
 
+use crate::compiled_task::{kept, need, outcome_count, set, value};
 use crate::incoming::Graph;
 use crate::offsets::{Numbers, Offsets, Span};
 use crate::places::{Columns, DIGITS};
@@ -79,9 +80,9 @@ fn spread(x: u64) -> u64 {
 fn moved_by(task: &[u64; 1282], mask: u64, m: usize, o: usize) -> u64
     requires { (m < 64) × (o < 8) }
 {
-    let named = mask ^ (mask & task[20 * m + 4 + 2 * o]);
-    let other = spread(task[20 * m + 5 + 2 * o] ^ task[20 * m + 1]);
-    named & (other | (mask ^ (mask & task[20 * m])))
+    let named = mask & !kept(task, m, o);
+    let other = spread(set(task, m, o) ^ value(task, m));
+    named & (other | (mask & !need(task, m)))
 }
 
 impl Changes {
@@ -107,15 +108,12 @@ impl Changes {
             all: [none; 8],
             count: 0,
         };
-        for o in 0..8usize {
-            if o as u64 >= task[20 * m + 2] {
-                break;
-            }
+        for o in 0..outcome_count(task, m).min(8) {
             let moved = moved_by(task, mask, m, o);
             if moved == 0 {
                 return None;
             }
-            let value = task[20 * m + 5 + 2 * o] & moved;
+            let value = set(task, m, o) & moved;
             changes.add(Change { moved, value });
         }
         Some(changes)
@@ -236,8 +234,8 @@ pub(crate) fn make_edges(
     for m in 0..actions {
         if let Some(changes) = Changes::of(task, mask, m) {
             let test = Test {
-                need: task[20 * m] & mask,
-                value: task[20 * m + 1] & mask,
+                need: need(task, m) & mask,
+                value: value(task, m) & mask,
             };
             add_action(graph, offsets, columns, &test, &changes);
         }

@@ -12,6 +12,7 @@ mod builder;
 mod certify;
 mod compile;
 mod compile_record;
+mod compiled_task;
 mod edges;
 mod incoming;
 mod offsets;

@@ -5,16 +5,14 @@ ghost use Rattle.tables.specs.Sets.{set_from};
 ghost use Rattle.tables.specs.Spaces.{space_of};
 ghost use Rattle.tables.specs.Steps.{weigh, is_goal, permitted, after, idles, worst, raised, outcome_entry, Below, offer, lowers, relaxed, started, Readable, RowSwept, Swept, Settled};
 
+use crate::compiled_task::{goal_need, goal_value, kept, need, outcome_count, set, value, weight};
 use crate::space::Space;
 
 // Entry j, and infinite past the end.
 pub(crate) fn entry_at(entries: &[u16], j: usize) -> u16
     ensures { result ≡ slice_index_or entries.now j 65535 }
 {
-    if j < entries.len() {
-        return entries[j];
-    }
-    65535
+    entries.get(j).copied().unwrap_or(u16::MAX)
 }
 
 // A digit times a weight.
@@ -54,21 +52,21 @@ pub(crate) fn index_of(weights: &[u16; 16], s: u64) -> usize
 pub(crate) fn at_goal(task: &[u64; 1282], mask: u64, s: u64) -> bool
     ensures { result ≡ is_goal task.now mask s }
 {
-    s & (task[1280] & mask) == task[1281] & mask
+    s & (goal_need(task) & mask) == goal_value(task) & mask
 }
 
 pub(crate) fn permits(task: &[u64; 1282], mask: u64, m: usize, s: u64) -> bool
     requires { m < 64 }
     ensures { result ≡ permitted task.now mask m s }
 {
-    s & (task[20 * m] & mask) == task[20 * m + 1] & mask
+    s & (need(task, m) & mask) == value(task, m) & mask
 }
 
 fn state_after(x: &Space<'_>, m: usize, o: usize, s: u64) -> u64
     requires { (m < x.now.actions) × (o < 8) }
     ensures { result ≡ after x.now.task.now x.now.mask m o s }
 {
-    ((s & x.task[20 * m + 4 + 2 * o]) | x.task[20 * m + 5 + 2 * o]) & x.mask
+    ((s & kept(x.task, m, o)) | set(x.task, m, o)) & x.mask
 }
 
 // The entry of the state after outcome o. Its index is guessed, and the guess is right if the state's word stands there.
@@ -115,7 +113,7 @@ pub(crate) fn worst_entry<G: Guess>(
     requires { (m < x.now.actions) × (length entries.now ≡ x.now.count) }
     ensures { Below limit (worst (outcome_entry x.now.task.now x.now.mask x.now.weights.now entries.now m s) 0 (outcome_count x.now.task.now m)) result }
 {
-    let n = x.task[20 * m + 2] as usize;
+    let n = outcome_count(x.task, m);
     let mut most = 0u16;
     for o in 0..n {
         let e = entry_after(x, entries, m, o, s, guess.index_after(o));
@@ -147,7 +145,7 @@ fn offer_of(x: &Space<'_>, entries: &[u16], m: usize, s: u64, limit: u16) -> u16
     ensures { Below limit (offer x.now.task.now x.now.mask x.now.weights.now entries.now m s) result }
 {
     raise(
-        x.task[20 * m + 3],
+        weight(x.task, m),
         worst_entry(x, entries, m, s, limit, &NoGuess),
     )
 }
@@ -192,13 +190,7 @@ fn may_idle(task: &[u64; 1282], mask: u64, m: usize) -> bool
     requires { (m < 64) × (outcome_count task.now m ≤ 8) }
     ensures { result ≡ idles task.now mask m }
 {
-    let n = task[20 * m + 2] as usize;
-    for o in 0..n {
-        if task[20 * m + 4 + 2 * o] & mask == mask {
-            return true;
-        }
-    }
-    false
+    (0..outcome_count(task, m)).any(|o| kept(task, m, o) & mask == mask)
 }
 
 pub(crate) fn joined(set: u64, bit: u64, wanted: bool) -> u64

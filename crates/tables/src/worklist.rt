@@ -2,6 +2,7 @@
 // arrays are of three sizes, since clearing them is most of what a small table costs.
 ghost use Rattle.std.specs.Prelude.{◌≤◌};
 
+use crate::compiled_task::{goal_need, goal_value};
 use crate::edges::make_edges;
 use crate::incoming::{Graph, Row};
 use crate::offsets::{Numbers, Offsets};
@@ -76,8 +77,8 @@ fn candidate_within<
     let mut offsets = Offsets::new(&mut places);
     make_edges(task, mask, actions, &mut graph, &mut offsets, columns);
     let goals = Goals {
-        place: columns.place_of(task[1281], task[1280] & mask),
-        lists: offsets.lists_of(columns, mask & !task[1280]),
+        place: columns.place_of(goal_value(task), goal_need(task) & mask),
+        lists: offsets.lists_of(columns, mask & !goal_need(task)),
     };
     if !graph.fits() || !offsets.fit() {
         return false;
@@ -118,7 +119,7 @@ pub(crate) fn candidate(
 )
     requires { actions ≤ 64 }
 {
-    if task[1280] & mask == 0 {
+    if goal_need(task) & mask == 0 {
         entries.fill(0);
         return;
     }

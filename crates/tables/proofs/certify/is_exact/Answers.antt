@@ -7,8 +7,8 @@ pub returns-then-at_goal : goal.returns-then-at_goal
 returns-then-at_goal c = λ q. exact_goal _ _ _ _ (sym c.if-at_goal.true ∙ c.at_goal.ensures) (eqb-true _ _ q)
 
 pub is_said-requires : goal.is_said-requires
-is_said-requires c = let x = c.args.t.now.space.now in let p = c.requires in
-    counted x.task.now x.mask _ x.actions c.applying.result x.live (c.applying.ensures ∙ p.1.found c.args.sets.now p.0 _) x.live_is
+is_said-requires c = let t = c.args.t.now in let x = t.space.now in
+    counted x.task.now x.mask _ x.actions c.applying.result x.live (c.applying.ensures ∙ x.lookable.found t.sets.now t.looked_up _) x.live_is
 
 pub returns : goal.returns
 returns c = λ q. exact_said _ _ _ _ (sym c.if-at_goal.false ∙ c.at_goal.ensures) (c.is_said.ensures q)

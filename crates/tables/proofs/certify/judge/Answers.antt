@@ -13,8 +13,8 @@ returns-then-said-e c = judged_less _ _
 
 pub returns-then-said-e-2 : goal.returns-then-said-e-2
 unfolding offer
-returns-then-said-e-2 c = judged_equal _ _ _ _ _ c.worst_entry-v.ensures c.if-v-e.false c.raise-said.ensures c.if-said-e-2.true
+returns-then-said-e-2 c = judged_equal _ _ _ _ _ c.worst_entry-v.ensures c.if-v-e.false (rw c.weight.ensures at c.raise-said.ensures) c.if-said-e-2.true
 
 pub returns : goal.returns
 unfolding offer
-returns c = judged_more _ _ _ _ _ c.worst_entry-v.ensures c.if-v-e.false c.raise-said.ensures c.if-said-e.false
+returns c = judged_more _ _ _ _ _ c.worst_entry-v.ensures c.if-v-e.false (rw c.weight.ensures at c.raise-said.ensures) c.if-said-e.false

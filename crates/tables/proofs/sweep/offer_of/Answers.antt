@@ -6,4 +6,4 @@ use Rattle.tables.proofs.sweep.offer_of.Goals as goal
 
 pub returns : goal.returns
 unfolding offer
-returns c = rw c.raise.ensures (below_raised _ _ _ _ (omega arith) c.worst_entry.ensures)
+returns c = rw (c.raise.ensures, c.weight.ensures) (below_raised _ _ _ _ (omega arith) c.worst_entry.ensures)
