@@ -1,10 +1,9 @@
 -- Laws for the loops of a sweep: one turn and the end of each. Assumes nothing.
-use Rattle.std.proofs.Common.{◌≡◌, ℕ, zero, suc, ◌+◌, ◌-◌, ◌*◌, ◌/◌, ◌%◌, ◌^◌, ◌<◌, ◌≤◌, max, Bool, true, false, cond, not, ◌||◌, eqb, ltb, List, [], ◌∷◌, length, get_or, drop, set, sym, refl, ap, ◌∙◌, pow-suc, add-one, arith, length-set, drop_of_length-le, drop-cons, get_or-set_other, get_or-set_same, ext_get_or, ltb-false, ltb-true, eq-eqb, ne_eqb}
+use Rattle.std.proofs.Common.{◌≡◌, ℕ, zero, suc, ◌+◌, ◌-◌, ◌*◌, ◌/◌, ◌%◌, ◌^◌, ◌<◌, ◌≤◌, max, Bool, true, false, cond, not, eqb, ltb, List, [], ◌∷◌, length, get_or, drop, set, sym, refl, ap, ◌∙◌, pow-suc, add-one, arith, length-set, drop_of_length-le, drop-cons, get_or-set_other, get_or-set_same, ext_get_or, ltb-false, ltb-true, eq-eqb, ne_eqb}
 use native.Mathlib.Decide.{dec_lt}
 use lib.Bits.{bit_and}
 use lib.Count.{count_trailing_zeros}
 use lib.ListN.{get_or-eq_default}
-use Rattle.std.specs.List.{list_any, range_with_len}
 use Rattle.planning.specs.Finite.{any_from}
 use Rattle.planning.proofs.Test.{T_true, and_l, and_r, by_test}
 use Rattle.planning.proofs.Finite.{length-tabulate, get_or_tabulate}
@@ -50,14 +49,22 @@ digits_left g rest l h = let e : 4 - g ≡ suc (4 - (g + 1)) = omega arith in le
 pub digits-over : (g rest : ℕ) → 4 ≤ g → rest < 65536 ^ (4 - g) → rest ≡ 0
 digits-over g rest l h = let e : 4 - g ≡ 0 = omega arith in let k : rest < 1 = rw e at h in omega arith
 
--- A test of the outcomes of an action: is there one that keeps the pattern's digits?
-any_range : (p : ℕ → Bool) (k n : ℕ) → list_any p (range_with_len k n) ≡ any_from k n p
-any_range p k zero = refl
-any_range p k (suc n) = ap (λ b. p k || b) (rw (add-one k) (any_range p (suc k) n))
+-- The outcomes of an action, one by one: is there one that keeps the pattern's digits?
+abbrev pub Idling : List ℕ → ℕ → ℕ → ℕ → ℕ → Type 0
+Idling a k m n o = idles a k m ≡ any_from o (n - o) (λ j. eqb (bit_and (keep_mask a m j) k) k)
 
-pub idling : (a : List ℕ) (k m n : ℕ) (b : Bool) → n ≡ outcome_count a m → b ≡ list_any (λ o. eqb (bit_and (keep_mask a m o) k) k) (range_with_len 0 n) → b ≡ idles a k m
+pub idling_start : (a : List ℕ) (k m : ℕ) → Idling a k m (outcome_count a m) 0
 unfolding idles
-idling a k m n b e h = rw e at (h ∙ any_range _ 0 n)
+idling_start a k m = let e : outcome_count a m - 0 ≡ outcome_count a m = omega arith in rw e
+
+pub idling_hit : (a : List ℕ) (k m n o : ℕ) → o < n → bit_and (keep_mask a m o) k ≡ k → Idling a k m n o → true ≡ idles a k m
+idling_hit a k m n o l h v = let e : n - o ≡ suc (n - (o + 1)) = omega arith in sym (v ∙ rw (e, eq-eqb (bit_and (keep_mask a m o) k) k h))
+
+pub idling_miss : (a : List ℕ) (k m n o : ℕ) → o < n → (bit_and (keep_mask a m o) k ≡ k → ⊥) → Idling a k m n o → Idling a k m n (o + 1)
+idling_miss a k m n o l h v = let e : n - o ≡ suc (n - (o + 1)) = omega arith in let f : o + 1 ≡ suc o = add-one o in v ∙ rw (e, ne_eqb (bit_and (keep_mask a m o) k) k h, f)
+
+pub idling_end : (a : List ℕ) (k m n o : ℕ) → n ≤ o → Idling a k m n o → false ≡ idles a k m
+idling_end a k m n o l v = let e : n - o ≡ 0 = omega arith in sym (v ∙ rw e)
 
 -- The largest of some numbers, one by one.
 worst_step : (f : ℕ → ℕ) (o n : ℕ) → o < n → worst f o (n - o) ≡ max (f o) (worst f (o + 1) (n - (o + 1)))

@@ -2,7 +2,7 @@
 ghost use Rattle.std.specs.Prelude.{◌≡◌};
 ghost use Rattle.tables.specs.Patterned.{Chosen, PatternOf, states_of};
 
-use crate::packed::mask_of;
+use crate::packed::{DigitRule, pack};
 use crate::ranking::state_count;
 use crate::sweep::lively;
 use std::marker::Model;
@@ -34,6 +34,8 @@ impl<'a> Model for Pattern<'a> {
 
 impl<'a> Pattern<'a> {
     // Pattern p of a record.
+    // Stays: the mask from the sixteen cells at hand, and not by `mask_of`, whose loop over cells of any number is not unrolled: 34 instructions more for a
+    // table of 8 states.
     pub(crate) fn of(
         record: &SoundRecord,
         task: &'a [u64; 1282],
@@ -45,7 +47,7 @@ impl<'a> Pattern<'a> {
     {
         let actions = usize::from(action_count(record.cells));
         let picked = state_of(pattern_cells(record.cells, p));
-        let mask = mask_of(record.cells, p);
+        let mask = pack(DigitRule::Picking, &picked);
         Pattern {
             task,
             actions,
