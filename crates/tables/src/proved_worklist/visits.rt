@@ -2,9 +2,10 @@
 ghost use Rattle.std.specs.Prelude.{◌≡◌, ℕ, ◌+◌, ◌-◌, ◌*◌, ◌<◌, ◌≤◌, true, length, drop, slice_index};
 ghost use Rattle.tables.specs.Steps.{weigh, permitted_at};
 ghost use Rattle.tables.specs.Waiting.{Told};
-ghost use Rattle.tables.specs.Edges.{edge_action, edge_lanes, edge_free, edge_first, edge_end, lane_sum, way_back, Choices};
+ghost use Rattle.tables.specs.Edges.{edge_action, edge_lanes, edge_free, edge_first, edge_end, lane_weight, lane_after, way_back, Choices};
 ghost use Rattle.tables.specs.Visits.{above, way_forward, Offered, Asked, Laned, Freed, Passed};
 
+use crate::proved_worklist::edge::Edge;
 use crate::proved_worklist::edges::Graph;
 use crate::proved_worklist::queue::Ring;
 use crate::sweep::{entry_at, permits, raise, times};
@@ -19,8 +20,13 @@ pub(crate) struct Worklist<'a, const N: usize> {
     ghost places: { ring.now.states ≡ length entries.now },
 }
 
-// Two lanes of one value each that add nothing: no digit is free, and one state is before another.
-const PLAIN: u64 = 72057594054705152;
+// Edge e into state j, whose entry is `entry`, or was so when it was taken.
+#[derive(Clone, Copy)]
+pub(crate) struct Arrival {
+    pub(crate) e: usize,
+    pub(crate) j: usize,
+    pub(crate) entry: u16,
+}
 
 // The index of the digits of a word from v on. It calls itself, since a loop is unrolled and takes the registers of the loops around it.
 fn weigh_from(weights: &[u16; 16], v: usize, s: u64) -> usize
@@ -36,25 +42,17 @@ fn weigh_from(weights: &[u16; 16], v: usize, s: u64) -> usize
     times(s % 16, weights[v]) + weigh_from(weights, v + 1, s / 16)
 }
 
-// What a lane adds to the index of a word.
-fn lane_sum(lane: u64, s: u64) -> usize
-    ensures { (result ≡ lane_sum lane s) × (result ≤ 983025) }
-{
-    ((s >> (lane / 65536 % 64)) % 16 * (lane % 65536)) as usize
-}
-
 // The index of the state after edge e from state i.
 fn index_after(edges: &[u64], weights: &[u16; 16], e: usize, i: usize, s: u64) -> usize
     requires { (4 * e + 4 ≤ length edges.now) × (i ≤ 4096) × (length weights.now ≤ 16) }
     ensures { result ≡ way_forward edges.now weights.now e i s }
 {
-    let lanes = edges[4 * e + 1];
-    let rest = edges[4 * e + 2];
-    let mut free = lane_sum(lanes, s) + lane_sum(lanes / 4294967296, s);
-    if rest != 0 {
-        free = free + weigh_from(weights, 0, s & rest);
+    let edge = Edge::read(edges, e);
+    let mut free = edge.one.sum(s) + edge.two.sum(s);
+    if edge.free != 0 {
+        free = free + weigh_from(weights, 0, s & edge.free);
     }
-    (i + 65536 - free % 65536 + 65536 - (edges[4 * e] % 65536) as usize) % 65536
+    (i + 65536 - free % 65536 + 65536 - usize::from(edge.back)) % 65536
 }
 
 // What the action of edge e says of state i, by its own edges, and infinite if one of them leads to a state that waits.
@@ -65,21 +63,22 @@ fn offer_along(graph: &Graph, entries: &[u16], marks: &[u8], e: usize, i: usize)
     let edges = graph.edges;
     let states = graph.states;
     let s = states[i];
-    let end = (edges[4 * e + 3] / 1024) as usize;
+    let edge = Edge::read(edges, e);
+    let first = edge.first;
+    let end = edge.end;
     let mut most = 0u16;
-    let first = (edges[4 * e + 3] % 1024) as usize;
     for f in first..end {
         let j = index_after(edges, graph.weights, f, i, s);
         let v = entry_at(entries, j);
-        if v == 65535 {
-            return 65535;
+        if v == u16::MAX {
+            return u16::MAX;
         }
         if marks[j] == 1 {
-            return 65535;
+            return u16::MAX;
         }
         most = most.max(v);
     }
-    raise(edges[4 * e] / 65536 % 65536, most)
+    raise(u64::from(edge.weight), most)
 }
 
 // How many values of a digit are gone through: one where it is not free.
@@ -103,10 +102,9 @@ impl<'a, const N: usize> Worklist<'a, N> {
         let graph = self.graph;
         let entries = &mut *self.entries;
         let ring = &mut *self.ring;
-        let edges = graph.edges;
         let states = graph.states;
-        let m = (edges[4 * e] / 4294967296) as usize;
-        if !permits(graph.task, graph.mask, m, states[i]) {
+        let edge = Edge::read(graph.edges, e);
+        if !permits(graph.task, graph.mask, edge.action, states[i]) {
             return;
         }
         let v = offer_along(graph, entries, &ring.marks, e, i);
@@ -120,17 +118,16 @@ impl<'a, const N: usize> Worklist<'a, N> {
     // The action of edge e, which has no other edge and no free digit, is asked about the state i before j: it says its weight and the entry
     // of j.
     fn ask_only(&mut self, e: usize, j: usize, i: usize)
-        requires { (e < self.old.graph.now.edge_number) × (i < length self.old.entries.now) × (j < length self.old.entries.now) × (edge_lanes self.old.graph.now.edges e ≡ 72057594054705152) × (edge_free self.old.graph.now.edges e ≡ 0) × (i ≡ way_back self.old.graph.now.edges e j) × (edge_end self.old.graph.now.edges e ≡ edge_first self.old.graph.now.edges e + 1) }
+        requires { (e < self.old.graph.now.edge_number) × (i < length self.old.entries.now) × (j < length self.old.entries.now) × (lane_weight (edge_lanes self.old.graph.now.edges e) ≡ 0) × (lane_weight (lane_after (edge_lanes self.old.graph.now.edges e)) ≡ 0) × (edge_free self.old.graph.now.edges e ≡ 0) × (i ≡ way_back self.old.graph.now.edges e j) × (edge_end self.old.graph.now.edges e ≡ edge_first self.old.graph.now.edges e + 1) }
         ensures { Goes (λ g. Asked g.space (edge_action g.edges e) i) self.old self.new }
     {
         let graph = self.graph;
-        let edges = graph.edges;
         let states = graph.states;
-        let m = (edges[4 * e] / 4294967296) as usize;
-        if !permits(graph.task, graph.mask, m, states[i]) {
+        let edge = Edge::read(graph.edges, e);
+        if !permits(graph.task, graph.mask, edge.action, states[i]) {
             return;
         }
-        let said = raise(edges[4 * e] / 65536 % 65536, self.entries[j]);
+        let said = raise(u64::from(edge.weight), self.entries[j]);
         if said >= self.entries[i] {
             return;
         }
@@ -148,76 +145,72 @@ impl<'a, const N: usize> Worklist<'a, N> {
         false
     }
 
-    // The action of edge e is asked about the states whose index is `at` and any values of its two lanes.
-    fn visit_lanes(&mut self, e: usize, j: usize, entry: usize, at: usize)
-        requires { (e < self.old.graph.now.edge_number) × (j < length self.old.entries.now) × (Told self.old.entries.now self.old.ring.now.marks j entry) × (entry ≤ 65535) × (at ≤ 17000000) }
-        ensures { Goes (λ g. Laned g.space g.edges e j at) self.old self.new }
+    // The action of an edge is asked about the states whose index is `at` and any values of its two lanes.
+    fn visit_lanes(&mut self, by: Arrival, at: usize)
+        requires { (by.e < self.old.graph.now.edge_number) × (by.j < length self.old.entries.now) × (Told self.old.entries.now self.old.ring.now.marks by.j by.entry) × (at ≤ 17000000) }
+        ensures { Goes (λ g. Laned g.space g.edges by.e by.j at) self.old self.new }
     {
         let graph = self.graph;
-        let edges = graph.edges;
-        let said = entry + (edges[4 * e] / 65536 % 65536) as usize;
-        let lanes = edges[4 * e + 1];
-        let one = (lanes % 65536) as usize;
-        let two = (lanes / 4294967296 % 65536) as usize;
-        let ones = (lanes / 16777216 % 256) as usize;
-        let twos = (lanes / 4294967296 / 16777216 % 256) as usize;
-        let mut row = at;
+        let edge = Edge::read(graph.edges, by.e);
+        let said = usize::from(by.entry) + usize::from(edge.weight);
+        let one = usize::from(edge.one.weight());
+        let two = usize::from(edge.two.weight());
+        let ones = usize::from(edge.one.values());
+        let twos = usize::from(edge.two.values());
         for y in 0..twos {
-            let mut i = row;
+            let row = at + y * two;
             for x in 0..ones {
+                let i = row + x * one;
                 if self.is_above(i, said) {
-                    self.ask(e, i);
+                    self.ask(by.e, i);
                 }
-                i += one;
             }
-            row += two;
         }
     }
 
-    // The action of edge e is asked about the states whose index is `at`, any values of its two lanes and of the free digits from v on.
-    fn visit_free(&mut self, e: usize, j: usize, entry: usize, v: usize, free: u64, at: usize)
-        requires { (e < self.old.graph.now.edge_number) × (j < length self.old.entries.now) × (Told self.old.entries.now self.old.ring.now.marks j entry) × (entry ≤ 65535) × (Choices self.old.graph.now.space.states self.old.graph.now.sizes (length self.old.entries.now) v free) × (v ≤ 16) × (at ≤ 65536 + 983025 * v) }
-        ensures { Goes (λ g. Freed g.space g.edges e j v free at) self.old self.new }
+    // The action of an edge is asked about the states whose index is `at`, any values of its two lanes and of the free digits from v on.
+    fn visit_free(&mut self, by: Arrival, v: usize, free: u64, at: usize)
+        requires { (by.e < self.old.graph.now.edge_number) × (by.j < length self.old.entries.now) × (Told self.old.entries.now self.old.ring.now.marks by.j by.entry) × (Choices self.old.graph.now.space.states self.old.graph.now.sizes (length self.old.entries.now) v free) × (v ≤ 16) × (at ≤ 65536 + 983025 * v) }
+        ensures { Goes (λ g. Freed g.space g.edges by.e by.j v free at) self.old self.new }
     {
         let graph = self.graph;
         let weights = graph.weights;
         if free == 0 || v >= 16 {
-            self.visit_lanes(e, j, entry, at);
+            self.visit_lanes(by, at);
             return;
         }
         let end = values_of(free % 16, graph.sizes[v]);
         for d in 0..end {
             let next = at + times(d, weights[v]);
-            self.visit_free(e, j, entry, v + 1, free / 16, next);
+            self.visit_free(by, v + 1, free / 16, next);
         }
     }
 
-    // The action of edge e is asked about every state from which the edge leads to j.
-    pub(crate) fn visit_edge(&mut self, e: usize, j: usize, entry: usize)
-        requires { (e < self.old.graph.now.edge_number) × (j < length self.old.entries.now) × (Told self.old.entries.now self.old.ring.now.marks j entry) × (entry ≤ 65535) }
-        ensures { Goes (λ g. Passed g.space g.tests g.edges e j) self.old self.new }
+    // The action of an edge is asked about every state from which the edge leads to its end.
+    pub(crate) fn visit_edge(&mut self, by: Arrival)
+        requires { (by.e < self.old.graph.now.edge_number) × (by.j < length self.old.entries.now) × (Told self.old.entries.now self.old.ring.now.marks by.j by.entry) }
+        ensures { Goes (λ g. Passed g.space g.tests g.edges by.e by.j) self.old self.new }
     {
         let graph = self.graph;
-        let edges = graph.edges;
-        let at = (j + (edges[4 * e] % 65536) as usize) % 65536;
-        let free = edges[4 * e + 2];
+        let edge = Edge::read(graph.edges, by.e);
+        let at = (by.j + usize::from(edge.back)) % 65536;
+        let free = edge.free;
         if free == 0 {
-            if edges[4 * e + 1] == PLAIN {
-                let said = entry + (edges[4 * e] / 65536 % 65536) as usize;
+            if edge.plain {
+                let said = usize::from(by.entry) + usize::from(edge.weight);
                 if !self.is_above(at, said) {
                     return;
                 }
-                let span = edges[4 * e + 3];
-                if span / 1024 == span % 1024 + 1 {
-                    self.ask_only(e, j, at);
+                if edge.end == edge.first + 1 {
+                    self.ask_only(by.e, by.j, at);
                     return;
                 }
-                self.ask(e, at);
+                self.ask(by.e, at);
                 return;
             }
-            self.visit_lanes(e, j, entry, at);
+            self.visit_lanes(by, at);
             return;
         }
-        self.visit_free(e, j, entry, 0, free, at);
+        self.visit_free(by, 0, free, at);
     }
 }

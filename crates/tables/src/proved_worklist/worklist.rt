@@ -13,7 +13,7 @@ use crate::proved_worklist::incoming::{Halves, edges_into, fill_sets, upper_part
 use crate::proved_worklist::parts::Parts;
 use crate::proved_worklist::queue::Ring;
 use crate::proved_worklist::states::States;
-use crate::proved_worklist::visits::Worklist;
+use crate::proved_worklist::visits::{Arrival, Worklist};
 use crate::sweep::start;
 
 // Whether no state that waits can lower an entry: none is more than 1 above the least that waits.
@@ -22,7 +22,7 @@ fn is_level(entries: &[u16], marks: &[u8]) -> bool
     ensures { result ≡ true → Level entries.now marks.now }
 {
     let mut most = 0usize;
-    let mut least = 65535usize;
+    let mut least = usize::from(u16::MAX);
     for (i, entry) in entries.iter().enumerate() {
         let e = usize::from(*entry);
         most = most.max(e);
@@ -49,8 +49,8 @@ impl<'a, const N: usize> Worklist<'a, N> {
     ghost use Rattle.tables.specs.Worklist.{Goes};
 
     // The edges of a set: of the 64 from 64 * c on.
-    fn visit_row(&mut self, j: usize, entry: usize, c: usize, set: u64)
-        requires { (j < length self.old.entries.now) × (Told self.old.entries.now self.old.ring.now.marks j entry) × (entry ≤ 65535) × (Row self.old.graph.now.tests (slice_index self.old.graph.now.space.states j) self.old.graph.now.edge_number c set) × (c ≤ 8) }
+    fn visit_row(&mut self, j: usize, entry: u16, c: usize, set: u64)
+        requires { (j < length self.old.entries.now) × (Told self.old.entries.now self.old.ring.now.marks j entry) × (Row self.old.graph.now.tests (slice_index self.old.graph.now.space.states j) self.old.graph.now.edge_number c set) × (c ≤ 8) }
         ensures { Goes (λ g. RowDone g.space g.tests g.edges g.edge_number j c) self.old self.new }
     {
         let mut rest = set;
@@ -58,7 +58,11 @@ impl<'a, const N: usize> Worklist<'a, N> {
         // numbers of a set.
         while rest != 0 {
             let q = u64::trailing_zeros(rest) as usize;
-            self.visit_edge(64 * c + q, j, entry);
+            self.visit_edge(Arrival {
+                e: 64 * c + q,
+                j,
+                entry,
+            });
             rest &= rest - 1;
         }
     }
@@ -69,7 +73,7 @@ impl<'a, const N: usize> Worklist<'a, N> {
         ensures { Goes (λ g. Visited g.space j) self.old self.new }
     {
         let graph = self.graph;
-        let entry = usize::from(self.entries[j]);
+        let entry = self.entries[j];
         let h = upper_part(j, graph.lower, graph.inverse);
         for c in 0..graph.k.div_ceil(64) {
             let set = edges_into(graph, j, h, c);

@@ -6,24 +6,24 @@ use Rattle.tables.proofs.Graphs.{edges_here, few_here}
 use Rattle.tables.proofs.proved_worklist.visits.offer_along.Goals as goal
 
 pub loop-f-init : goal.loop-f-init
-loop-f-init c = let g = c.graph.inside in offering_start (space g.task.now g.mask g.weights.now g.states.now g.actions) g.edges.now c.args.entries.now c.args.e c.args.i
+loop-f-init c = let g = c.graph.inside in rw c.read-edge.ensures.first (offering_start (space g.task.now g.mask g.weights.now g.states.now g.actions) g.edges.now c.args.entries.now c.args.e c.args.i)
 
 pub returns-then-v : goal.returns-then-v
 returns-then-v c = let p = rw (← c.graph.view_is) at c.requires in let w = c.graph.invariant in let k = c.type_inv.entries c.args.i in
-    rw (← c.graph.view_is) (offered_infinite (edges_here w p.2) p.0 p.1 (few_here w p.2) p.4 c.loop-f.invariant c.index_after-j.result c.entry_at-v.result c.index_after-j.ensures c.entry_at-v.ensures c.loop-f-test.true refl (omega (arith, k)) c.if-v.true)
+    rw (← c.graph.view_is) (offered_infinite (edges_here w p.2) p.0 p.1 (few_here w p.2) p.4 c.loop-f.invariant c.index_after-j.result c.entry_at-v.result c.index_after-j.ensures c.entry_at-v.ensures (omega (arith, c.loop-f-test.true, c.read-edge.ensures.end)) refl (omega (arith, k)) c.if-v.true)
 
 pub bounds-marks-j : goal.bounds-marks-j
 bounds-marks-j c = let p = rw (← c.graph.view_is) at c.requires in let w = c.graph.invariant in
-    let h = offering_inside (edges_here w p.2) p.0 p.1 (few_here w p.2) p.4 c.loop-f.invariant c.index_after-j.result c.entry_at-v.result c.index_after-j.ensures c.entry_at-v.ensures c.loop-f-test.true (omega arith) c.if-v.false in omega (arith, h, p.3)
+    let h = offering_inside (edges_here w p.2) p.0 p.1 (few_here w p.2) p.4 c.loop-f.invariant c.index_after-j.result c.entry_at-v.result c.index_after-j.ensures c.entry_at-v.ensures (omega (arith, c.loop-f-test.true, c.read-edge.ensures.end)) (omega arith) c.if-v.false in omega (arith, h, p.3)
 
 pub returns-then-marks-j-eq1 : goal.returns-then-marks-j-eq1
 returns-then-marks-j-eq1 c = let p = rw (← c.graph.view_is) at c.requires in let w = c.graph.invariant in
-    rw (← c.graph.view_is) (offered_waits (edges_here w p.2) p.0 p.1 (few_here w p.2) p.4 c.loop-f.invariant c.index_after-j.result c.entry_at-v.result c.index_after-j.ensures c.entry_at-v.ensures c.loop-f-test.true refl c.if-marks-j-eq1.true)
+    rw (← c.graph.view_is) (offered_waits (edges_here w p.2) p.0 p.1 (few_here w p.2) p.4 c.loop-f.invariant c.index_after-j.result c.entry_at-v.result c.index_after-j.ensures c.entry_at-v.ensures (omega (arith, c.loop-f-test.true, c.read-edge.ensures.end)) refl c.if-marks-j-eq1.true)
 
 pub loop-f-preserved : goal.loop-f-preserved
 loop-f-preserved c = let p = rw (← c.graph.view_is) at c.requires in let w = c.graph.invariant in
-    offering_next (edges_here w p.2) p.0 p.1 (few_here w p.2) p.4 c.loop-f.invariant c.index_after-j.result c.entry_at-v.result c.index_after-j.ensures c.entry_at-v.ensures c.loop-f-test.true _ (omega arith) (omega arith) c.if-v.false
+    offering_next (edges_here w p.2) p.0 p.1 (few_here w p.2) p.4 c.loop-f.invariant c.index_after-j.result c.entry_at-v.result c.index_after-j.ensures c.entry_at-v.ensures (omega (arith, c.loop-f-test.true, c.read-edge.ensures.end)) _ (omega arith) (omega arith) c.if-v.false
 
 pub returns : goal.returns
 returns c = let p = rw (← c.graph.view_is) at c.requires in let w = c.graph.invariant in let k = c.type_inv.entries c.args.i in
-    rw (← c.graph.view_is) (offered_end (edges_here w p.2) p.0 p.1 (few_here w p.2) p.4 c.loop-f.invariant c.loop-f-test.false (omega (arith, k)) c.raise.ensures)
+    rw (← c.graph.view_is) (offered_end (edges_here w p.2) p.0 p.1 (few_here w p.2) p.4 c.loop-f.invariant (omega (arith, c.loop-f-test.false, c.read-edge.ensures.end)) (omega (arith, k)) (rw (c.from.ensures, c.read-edge.ensures.weight) at c.raise.ensures))

@@ -5,7 +5,7 @@ use Rattle.tables.proofs.proved_worklist.worklist.is_level.Goals as goal
 use Rattle.tables.proofs.proved_worklist.worklist.is_level.Goals.{then-marks-i-eq1, else-marks-i-eq1}
 
 pub loop-i-init : goal.loop-i-init
-loop-i-init c = seen_none _ _
+loop-i-init c = rw c.from-least.ensures (seen_none _ _)
 
 pub loop-i-preserved : goal.loop-i-preserved
 loop-i-preserved c = let v = c.loop-i.invariant in let e : c.from-e.result ≡ get_or c.args.entries.now c.loop-i.i 0 = search rules in

@@ -11,8 +11,8 @@ abbrev pub decreases-visit_free : goal.decreases-visit_free
 decreases-visit_free g l = l.free
 
 abbrev pub invariant-loop-d : goal.invariant-loop-d
-invariant-loop-d g l = Goes (λ w. Choosing w.space w.edges l.e l.j l.v l.free l.at l.d) l.fn.self l.self × (l.d ≤ l.end) × (l.e < l.self.graph.now.edge_number)
-    × (l.j < length l.self.entries.now) × Told l.self.entries.now l.self.ring.now.marks l.j l.entry × Choices l.self.graph.now.space.states l.self.graph.now.sizes (length l.self.entries.now) (l.v + 1) (l.free / 16)
+invariant-loop-d g l = Goes (λ w. Choosing w.space w.edges l.by.e l.by.j l.v l.free l.at l.d) l.fn.self l.self × (l.d ≤ l.end) × (l.by.e < l.self.graph.now.edge_number)
+    × (l.by.j < length l.self.entries.now) × Told l.self.entries.now l.self.ring.now.marks l.by.j l.by.entry × Choices l.self.graph.now.space.states l.self.graph.now.sizes (length l.self.entries.now) (l.v + 1) (l.free / 16)
 
 abbrev pub decreases-loop-d : goal.decreases-loop-d
 decreases-loop-d g l = l.end - l.d

@@ -13,13 +13,13 @@ returns-then-not-permits g c = let w = c.args.self.now in let p = rw (← c.grap
       same_ring = refl;
       same_graph = refl;
       same_head = refl;
-      done = rw (← c.graph.view_is) (asked_never p.1 (queue_of w) (sym c.permits.ensures ∙ c.if-not-permits.true));
+      done = rw (← c.graph.view_is) (asked_never p.1 (queue_of w) (sym (rw c.read-edge.ensures.action at c.permits.ensures) ∙ c.if-not-permits.true));
     }
 
 pub offer_along-v-requires : goal.offer_along-v-requires
 unfolding permitted_at
 offer_along-v-requires g c = let w = c.args.self.now in let p = rw (← c.graph.view_is) at c.requires in
-    rw (← c.graph.view_is) (p.0, p.1, rw (← c.graph.view_is) at w.all, (queue_of w).room, sym c.permits.ensures ∙ c.if-not-permits.false)
+    rw (← c.graph.view_is) (p.0, p.1, rw (← c.graph.view_is) at w.all, (queue_of w).room, sym (rw c.read-edge.ensures.action at c.permits.ensures) ∙ c.if-not-permits.false)
 
 pub returns-then-v-entries : goal.returns-then-v-entries
 returns-then-v-entries g c = record {
@@ -38,5 +38,5 @@ returns g c = let w = c.args.self.now in let p = rw (← c.graph.view_is) at c.r
       same_ring = refl;
       same_graph = refl;
       same_head = u.2;
-      done = rw (← c.graph.view_is) (asked_hit p.1 (queue_of w) c.offer_along-v.result (c.graph.invariant.edges_of.known _ p.0) (sym c.permits.ensures ∙ c.if-not-permits.false) (omega arith) o c.if-v-entries.false refl w.places u.0);
+      done = rw (← c.graph.view_is) (asked_hit p.1 (queue_of w) c.offer_along-v.result (c.graph.invariant.edges_of.known _ p.0) (sym (rw c.read-edge.ensures.action at c.permits.ensures) ∙ c.if-not-permits.false) (omega arith) o c.if-v-entries.false refl w.places u.0);
     }

@@ -1,5 +1,5 @@
 -- `visit`: the rows of the edges that may lead into a state, one by one. Assumes nothing.
-use Rattle.std.proofs.Common.{◌≤◌, sym, arith}
+use Rattle.std.proofs.Common.{◌≤◌, sym, refl, arith}
 use Rattle.tables.specs.Waiting.{is}
 use Rattle.tables.proofs.Law.{told_moved}
 use Rattle.tables.proofs.Rounds.{rows_start, rows_next, rows_end}
@@ -18,7 +18,7 @@ edges_into-set-requires g c = rw (← c.graph.view_is) (rw (sym (rw (← c.graph
 
 pub visit_row-requires : goal.visit_row-requires
 visit_row-requires g c = let v = c.loop-c.invariant in let m = v.0.done.going.moved in
-    (omega (arith, c.args.self.now.ring.now.small), (omega (arith, c.requires, m.long), told_moved m (is (sym c.from-entry.ensures)), omega arith, rw v.0.same_graph c.edges_into-set.ensures, omega (arith, v.1)))
+    (omega (arith, c.args.self.now.ring.now.small), (omega (arith, c.requires, m.long), told_moved m (is refl), rw v.0.same_graph c.edges_into-set.ensures, omega (arith, v.1)))
 
 pub loop-c-preserved : goal.loop-c-preserved
 loop-c-preserved g c = let f : c.graph.inside.k ≤ 512 = c.graph.invariant.edges_of.few in let v = c.loop-c.invariant in

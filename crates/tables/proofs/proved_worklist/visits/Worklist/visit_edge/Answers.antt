@@ -1,5 +1,5 @@
 -- `tables::proved_worklist::visits::Worklist::visit_edge` meets its contract. Assumes nothing.
-use Rattle.std.proofs.Common.{sym, refl, ◌∙◌, arith}
+use Rattle.std.proofs.Common.{sym, ◌∙◌, arith}
 use Rattle.tables.specs.Edges.{way_back}
 use Rattle.tables.proofs.Visiting.{going_none}
 use Rattle.tables.proofs.Graphs.{edges_here}
@@ -9,37 +9,41 @@ use Rattle.tables.proofs.proved_worklist.visits.Worklist.visit_edge.Goals as goa
 
 pub returns-then-not-is_above : goal.returns-then-not-is_above
 unfolding way_back
-returns-then-not-is_above g c = let w = c.args.self.now in let p = rw (← c.graph.view_is) at c.requires in
-    goes_nowhere w (rw (← c.graph.view_is) (passed_plain refl c.if-free-eq0.true (omega (arith, c.if-edges-e-eq-PLAIN.true)) (omega (arith, c.if-edges-e-eq-PLAIN.true)) (going_none (queue_of w))
-    (λ b f z. heard_told _ _ _ _ _ _ _ _ _ (c.graph.invariant.edges_of.weight _ p.0) refl p.1 b p.2 (sym c.is_above.ensures.0 ∙ c.if-not-is_above.true) c.is_above.ensures.1 z)))
+returns-then-not-is_above g c = let w = c.args.self.now in let p = rw (← c.graph.view_is) at c.requires in let r = c.read-edge.ensures in let n = r.plain c.if-edge.true in
+    goes_nowhere w (rw (← c.graph.view_is) (passed_plain (omega (arith, c.from.ensures, r.back)) (sym r.free ∙ c.if-free-eq0.true) n.0 n.1 (going_none (queue_of w))
+    (λ b f z. heard_told _ _ _ _ _ _ _ _ _ (c.graph.invariant.edges_of.weight _ p.0) (omega (arith, c.from-then-edge.ensures, c.from-then-edge-2.ensures, r.weight)) p.1 b p.2 (sym c.is_above.ensures.0 ∙ c.if-not-is_above.true) c.is_above.ensures.1 z)))
 
 pub ask_only-requires : goal.ask_only-requires
 unfolding way_back
-ask_only-requires g c = let p = rw (← c.graph.view_is) at c.requires in
-    rw (← c.graph.view_is) (omega (arith, c.args.self.now.ring.now.small), (p.0, above_inside _ _ _ (sym c.is_above.ensures.0 ∙ c.if-not-is_above.false), p.1, c.if-edges-e-eq-PLAIN.true, c.if-free-eq0.true, refl, c.if-span.true))
+ask_only-requires g c = let p = rw (← c.graph.view_is) at c.requires in let r = c.read-edge.ensures in let n = r.plain c.if-edge.true in
+    rw (← c.graph.view_is) (omega (arith, c.args.self.now.ring.now.small), (p.0, above_inside _ _ _ (sym c.is_above.ensures.0 ∙ c.if-not-is_above.false), p.1, n.0, n.1, sym r.free ∙ c.if-free-eq0.true, omega (arith, c.from.ensures, r.back), omega (arith, c.if-edge-2.true, r.first, r.end)))
 
-pub returns-then-span : goal.returns-then-span
+pub returns-then-edge-2 : goal.returns-then-edge-2
 unfolding way_back
-returns-then-span g c = goes_as c.ask_only.ensures (λ a. rw (← c.graph.view_is) (passed_plain refl c.if-free-eq0.true (omega (arith, c.if-edges-e-eq-PLAIN.true)) (omega (arith, c.if-edges-e-eq-PLAIN.true)) (rw (← c.graph.view_is) at a).going (λ b f z. (rw (← c.graph.view_is) at a).heard f)))
+returns-then-edge-2 g c = let r = c.read-edge.ensures in let n = r.plain c.if-edge.true in
+    goes_as c.ask_only.ensures (λ a. rw (← c.graph.view_is) (passed_plain (omega (arith, c.from.ensures, r.back)) (sym r.free ∙ c.if-free-eq0.true) n.0 n.1 (rw (← c.graph.view_is) at a).going (λ b f z. (rw (← c.graph.view_is) at a).heard f)))
 
 pub ask-requires : goal.ask-requires
 ask-requires g c = (omega (arith, c.args.self.now.ring.now.small), (c.requires.0, above_inside _ _ _ (sym c.is_above.ensures.0 ∙ c.if-not-is_above.false)))
 
-pub returns-then-edges-e-eq-PLAIN : goal.returns-then-edges-e-eq-PLAIN
+pub returns-then-edge : goal.returns-then-edge
 unfolding way_back
-returns-then-edges-e-eq-PLAIN g c = goes_as c.ask.ensures (λ a. rw (← c.graph.view_is) (passed_plain refl c.if-free-eq0.true (omega (arith, c.if-edges-e-eq-PLAIN.true)) (omega (arith, c.if-edges-e-eq-PLAIN.true)) (rw (← c.graph.view_is) at a).going (λ b f z. (rw (← c.graph.view_is) at a).heard f)))
+returns-then-edge g c = let r = c.read-edge.ensures in let n = r.plain c.if-edge.true in
+    goes_as c.ask.ensures (λ a. rw (← c.graph.view_is) (passed_plain (omega (arith, c.from.ensures, r.back)) (sym r.free ∙ c.if-free-eq0.true) n.0 n.1 (rw (← c.graph.view_is) at a).going (λ b f z. (rw (← c.graph.view_is) at a).heard f)))
 
 pub visit_lanes-requires : goal.visit_lanes-requires
-visit_lanes-requires g c = let p = c.requires in (omega (arith, c.args.self.now.ring.now.small), (p.0, p.1, p.2, p.3, omega arith))
+visit_lanes-requires g c = let p = c.requires in (omega (arith, c.args.self.now.ring.now.small), (p.0, p.1, p.2, omega arith))
 
 pub returns-then-free-eq0 : goal.returns-then-free-eq0
 unfolding way_back
-returns-then-free-eq0 g c = goes_as c.visit_lanes.ensures (λ a. rw (← c.graph.view_is) (passed_laned refl c.if-free-eq0.true (rw (← c.graph.view_is) at a)))
+returns-then-free-eq0 g c = let r = c.read-edge.ensures in
+    goes_as c.visit_lanes.ensures (λ a. rw (← c.graph.view_is) (passed_laned (omega (arith, c.from.ensures, r.back)) (sym r.free ∙ c.if-free-eq0.true) (rw (← c.graph.view_is) at a)))
 
 pub visit_free-requires : goal.visit_free-requires
 visit_free-requires g c = let p = rw (← c.graph.view_is) at c.requires in
-    rw (← c.graph.view_is) (omega (arith, c.args.self.now.ring.now.small), (p.0, p.1, p.2, p.3, (edges_here c.graph.invariant (rw (← c.graph.view_is) at c.args.self.now.all)).free _ p.0, omega arith, omega arith))
+    rw (← c.graph.view_is) (omega (arith, c.args.self.now.ring.now.small), (p.0, p.1, p.2, rw c.read-edge.ensures.free ((edges_here c.graph.invariant (rw (← c.graph.view_is) at c.args.self.now.all)).free _ p.0), omega arith, omega arith))
 
 pub returns : goal.returns
 unfolding way_back
-returns g c = goes_as c.visit_free.ensures (λ a. rw (← c.graph.view_is) (passed-freed refl (rw (← c.graph.view_is) at a)))
+returns g c = let r = c.read-edge.ensures in
+    goes_as c.visit_free.ensures (λ a. rw (← c.graph.view_is) (passed-freed (omega (arith, c.from.ensures, r.back)) (rw (← c.graph.view_is, r.free) at a)))
