@@ -22,10 +22,10 @@ pub(crate) struct Worklist<'a, const N: usize> {
 
 // Edge e into state j, whose entry is `entry`, or was so when it was taken.
 #[derive(Clone, Copy)]
-pub(crate) struct Arrival {
-    pub(crate) e: usize,
-    pub(crate) j: usize,
-    pub(crate) entry: u16,
+struct Arrival {
+    e: usize,
+    j: usize,
+    entry: u16,
 }
 
 // The index of the digits of a word from v on. It calls itself, since a loop is unrolled and takes the registers of the loops around it.
@@ -157,14 +157,17 @@ impl<'a, const N: usize> Worklist<'a, N> {
         let two = usize::from(edge.two.weight());
         let ones = usize::from(edge.one.values());
         let twos = usize::from(edge.two.values());
+        // Stays: with the index as `at + y * two + x * one` tables take 1.03 times the instructions, and up to 1.17.
+        let mut row = at;
         for y in 0..twos {
-            let row = at + y * two;
+            let mut i = row;
             for x in 0..ones {
-                let i = row + x * one;
                 if self.is_above(i, said) {
                     self.ask(by.e, i);
                 }
+                i += one;
             }
+            row += two;
         }
     }
 
@@ -186,31 +189,31 @@ impl<'a, const N: usize> Worklist<'a, N> {
         }
     }
 
-    // The action of an edge is asked about every state from which the edge leads to its end.
-    pub(crate) fn visit_edge(&mut self, by: Arrival)
-        requires { (by.e < self.old.graph.now.edge_number) × (by.j < length self.old.entries.now) × (Told self.old.entries.now self.old.ring.now.marks by.j by.entry) }
-        ensures { Goes (λ g. Passed g.space g.tests g.edges by.e by.j) self.old self.new }
+    // The action of edge e is asked about every state from which the edge leads to j.
+    pub(crate) fn visit_edge(&mut self, e: usize, j: usize, entry: u16)
+        requires { (e < self.old.graph.now.edge_number) × (j < length self.old.entries.now) × (Told self.old.entries.now self.old.ring.now.marks j entry) }
+        ensures { Goes (λ g. Passed g.space g.tests g.edges e j) self.old self.new }
     {
         let graph = self.graph;
-        let edge = Edge::read(graph.edges, by.e);
-        let at = (by.j + usize::from(edge.back)) % 65536;
+        let edge = Edge::read(graph.edges, e);
+        let at = (j + usize::from(edge.back)) % 65536;
         let free = edge.free;
         if free == 0 {
             if edge.plain {
-                let said = usize::from(by.entry) + usize::from(edge.weight);
+                let said = usize::from(entry) + usize::from(edge.weight);
                 if !self.is_above(at, said) {
                     return;
                 }
                 if edge.end == edge.first + 1 {
-                    self.ask_only(by.e, by.j, at);
+                    self.ask_only(e, j, at);
                     return;
                 }
-                self.ask(by.e, at);
+                self.ask(e, at);
                 return;
             }
-            self.visit_lanes(by, at);
+            self.visit_lanes(Arrival { e, j, entry }, at);
             return;
         }
-        self.visit_free(by, 0, free, at);
+        self.visit_free(Arrival { e, j, entry }, 0, free, at);
     }
 }

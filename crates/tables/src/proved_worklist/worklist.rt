@@ -13,7 +13,7 @@ use crate::proved_worklist::incoming::{Halves, edges_into, fill_sets, upper_part
 use crate::proved_worklist::parts::Parts;
 use crate::proved_worklist::queue::Ring;
 use crate::proved_worklist::states::States;
-use crate::proved_worklist::visits::{Arrival, Worklist};
+use crate::proved_worklist::visits::Worklist;
 use crate::sweep::start;
 
 // Whether no state that waits can lower an entry: none is more than 1 above the least that waits.
@@ -58,11 +58,7 @@ impl<'a, const N: usize> Worklist<'a, N> {
         // numbers of a set.
         while rest != 0 {
             let q = u64::trailing_zeros(rest) as usize;
-            self.visit_edge(Arrival {
-                e: 64 * c + q,
-                j,
-                entry,
-            });
+            self.visit_edge(64 * c + q, j, entry);
             rest &= rest - 1;
         }
     }

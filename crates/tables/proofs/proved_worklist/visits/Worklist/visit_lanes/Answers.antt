@@ -1,5 +1,5 @@
 -- `tables::proved_worklist::visits::Worklist::visit_lanes` meets its contract. Assumes nothing.
-use Rattle.std.proofs.Common.{◌≡◌, sym, refl, ◌∙◌, arith}
+use Rattle.std.proofs.Common.{◌≡◌, sym, ◌∙◌, arith}
 use Rattle.tables.specs.Edges.{edge_lanes, lane_weight, lane_after}
 use Rattle.tables.proofs.Law.{told_moved}
 use Rattle.tables.proofs.Visiting.{going_none}
@@ -9,29 +9,40 @@ use Rattle.tables.proofs.proved_worklist.visits.Worklist.visit_lanes.Goals as go
 use Rattle.tables.proofs.proved_worklist.visits.Worklist.visit_lanes.Goals.{then-is_above, else-is_above}
 
 pub loop-y-init : goal.loop-y-init
-loop-y-init g c = goes_nowhere _ (rows_start (queue_of c.args.self.now))
+loop-y-init g c = (goes_nowhere _ (rows_start (queue_of c.args.self.now)), omega arith, omega arith, omega arith)
 
 pub loop-x-init : goal.loop-x-init
-loop-x-init g c = goes_nowhere _ (cells_start (queue_of c.loop-y.self))
+loop-x-init g c = (goes_nowhere _ (cells_start (queue_of c.loop-y.self)), omega arith, omega arith, omega arith)
 
 pub ask-requires : goal.ask-requires
-ask-requires g c = let p = c.requires in let o = c.loop-y.invariant in let v = c.loop-x.invariant in
+ask-requires g c = let p = c.requires in let o = c.loop-y.invariant.0 in let v = c.loop-x.invariant.0 in
     (omega (arith, c.args.self.now.ring.now.small), (rw (v.same_graph, o.same_graph) p.0, above_inside _ _ _ (sym c.is_above.ensures.0 ∙ c.if-is_above.true)))
 
+pub overflow_add-i : goal.overflow_add-i
+overflow_add-i g c = let p = c.requires in let v = c.loop-x.invariant in let o = c.loop-y.invariant in record { fits = omega (arith, p.3, v.2, o.2, o.3, v.3, c.from-ones.ensures, c.from-twos.ensures) }
+
 pub loop-x-preserved : goal.loop-x-preserved
-loop-x-preserved g c = let p = c.requires in let r = c.read-edge.ensures in let v = c.loop-x.invariant in let o = c.loop-y.invariant in let l = v.done.going.moved.long ∙ o.done.going.moved.long in
+loop-x-preserved g c = let p = c.requires in let r = c.read-edge.ensures in let v = c.loop-x.invariant in let o = c.loop-y.invariant in let l = v.0.done.going.moved.long ∙ o.0.done.going.moved.long in
     let a₁ : c.from-one.result ≡ lane_weight (edge_lanes c.graph.inside.edges.now c.args.by.e) = rw r.one at (c.from-one.ensures ∙ c.weight.ensures) in
     let a₂ : c.from-two.result ≡ lane_weight (lane_after (edge_lanes c.graph.inside.edges.now c.args.by.e)) = rw r.two at (c.from-two.ensures ∙ c.weight-2.ensures) in
-    elim c.if-is_above.branch [
-      | then-is_above w ↦ rw w.self-is (goes_then v w.ask.ensures (λ a. rw (o.same_graph, ← c.graph.view_is) (cells_next (rw (o.same_graph, ← c.graph.view_is) at v.done) _ (rw (a₁, a₂) refl) (rw (o.same_graph, ← c.graph.view_is) at a).going (λ b f z. (rw (o.same_graph, ← c.graph.view_is) at a).heard f))))
-      | else-is_above w ↦ rw w.self-is (goes_as v (λ a. rw (o.same_graph, ← c.graph.view_is) (cells_next (rw (o.same_graph, ← c.graph.view_is) at a) _ (rw (a₁, a₂) refl) (going_none a.going.queue)
-          (λ b f z. heard_told _ _ _ _ _ _ _ _ _ (c.graph.invariant.edges_of.weight _ (rw (← c.graph.view_is) at p.0)) (omega (arith, c.from.ensures, c.from-2.ensures, r.weight)) (omega (arith, l, p.1)) b (told_moved a.going.moved (told_moved o.done.going.moved p.2)) (sym c.is_above.ensures.0 ∙ w.if-is_above.false) c.is_above.ensures.1 z))))
-    ]
+    let q = rw (a₁, o.1, a₂) at v.1 in (
+      elim c.if-is_above.branch [
+        | then-is_above w ↦ rw w.self-is (goes_then v.0 w.ask.ensures (λ a. rw (o.0.same_graph, ← c.graph.view_is) (cells_next (rw (o.0.same_graph, ← c.graph.view_is) at v.0.done) _ q (rw (o.0.same_graph, ← c.graph.view_is) at a).going (λ b f z. (rw (o.0.same_graph, ← c.graph.view_is) at a).heard f))))
+        | else-is_above w ↦ rw w.self-is (goes_as v.0 (λ a. rw (o.0.same_graph, ← c.graph.view_is) (cells_next (rw (o.0.same_graph, ← c.graph.view_is) at a) _ q (going_none a.going.queue)
+            (λ b f z. heard_told _ _ _ _ _ _ _ _ _ (c.graph.invariant.edges_of.weight _ (rw (← c.graph.view_is) at p.0)) (omega (arith, c.from.ensures, c.from-2.ensures, r.weight)) (omega (arith, l, p.1)) b (told_moved a.going.moved (told_moved o.0.done.going.moved p.2)) (sym c.is_above.ensures.0 ∙ w.if-is_above.false) c.is_above.ensures.1 z))))
+      ],
+      omega (arith, v.1),
+      omega (arith, v.2, c.from-one.ensures),
+      omega (arith, c.loop-x-test.true),
+    )
+
+pub overflow_add-row : goal.overflow_add-row
+overflow_add-row g c = let p = c.requires in let o = c.loop-y.invariant in record { fits = omega (arith, p.3, o.2, o.3, c.from-twos.ensures) }
 
 pub loop-y-preserved : goal.loop-y-preserved
-loop-y-preserved g c = let v = c.loop-x.invariant in let e = c.loop-x-test.false in let n = rw (c.from-ones.ensures ∙ c.values.ensures, c.read-edge.ensures.one) at e in
-    goes_then c.loop-y.invariant v (λ a. rw (← c.graph.view_is) (rows_next (rw (← c.graph.view_is) at c.loop-y.invariant.done) (rw (← c.graph.view_is) at a) n))
+loop-y-preserved g c = let o = c.loop-y.invariant in let v = c.loop-x.invariant in let e = c.loop-x-test.false in let n = rw (c.from-ones.ensures ∙ c.values.ensures, c.read-edge.ensures.one) at e in
+    (goes_then o.0 v.0 (λ a. rw (← c.graph.view_is) (rows_next (rw (← c.graph.view_is) at o.0.done) (rw (← c.graph.view_is) at a) n)), omega (arith, o.1), omega (arith, o.2, c.from-two.ensures), omega (arith, c.loop-y-test.true))
 
 pub returns : goal.returns
 returns g c = let e = c.loop-y-test.false in let n = rw (c.from-twos.ensures ∙ c.values-2.ensures, c.read-edge.ensures.two) at e in
-    goes_as c.loop-y.invariant (λ a. rw (← c.graph.view_is) (rows_end (rw (← c.graph.view_is) at a) n))
+    goes_as c.loop-y.invariant.0 (λ a. rw (← c.graph.view_is) (rows_end (rw (← c.graph.view_is) at a) n))
