@@ -1,6 +1,6 @@
 -- Laws of owners: an outcome that names no variable of a pattern leaves every word's index in it, and with additive patterns the pattern
 -- that an action touches is its only one. Assumes nothing.
-use Rattle.std.proofs.Common.{◌≡◌, ℕ, zero, suc, ◌+◌, ◌-◌, ◌*◌, ◌/◌, ◌%◌, ◌<◌, ◌≤◌, Bool, true, false, cond, not, ◌&&◌, ◌||◌, T, eqb, List, [], ◌∷◌, length, get_or, drop, set, sym, refl, ap, ◌∙◌, subst, ap₂, inl, inr, add-zero, mod-eq_of_lt, zero-add, add-one, arith, length-set, get_or-set_other, get_or-set_same, eq-eqb, ne_eqb}
+use Rattle.std.proofs.Common.{◌≡◌, ℕ, zero, suc, ◌+◌, ◌*◌, ◌/◌, ◌%◌, ◌<◌, ◌≤◌, Bool, true, false, cond, not, ◌&&◌, ◌||◌, T, eqb, List, [], ◌∷◌, length, get_or, drop, set, sym, refl, ap, ◌∙◌, subst, ap₂, inl, inr, add-zero, mod-eq_of_lt, zero-add, add-one, arith, length-set, get_or-set_other, get_or-set_same}
 use Rattle.std.specs.List.{list_any, range_with_len}
 use native.Mathlib.Decide.{ℕ_discrete}
 use lib.Arith.{digits_div, digits_mod}
@@ -28,7 +28,6 @@ use Rattle.patterns.proofs.Reading.{patterns_length, pattern_at, actions_length,
 use Rattle.search.specs.Value.{packed_index}
 use Rattle.search.specs.Rows.{RowsOf}
 use Rattle.search.specs.Owned.{Owned, Marked, touches}
-use Rattle.search.proofs.RowSums.{one_more}
 use Rattle.search.proofs.RowsFilled.{earlier, sizes_number}
 use Rattle.search.proofs.RowValues.{index_weight}
 

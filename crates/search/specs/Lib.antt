@@ -10,6 +10,7 @@ pub mod Memory
 pub mod Packed
 pub mod Cycle
 pub mod Written
+pub mod Writer
 pub mod Answer
 pub mod Entry
 pub mod Optimal

@@ -8,7 +8,7 @@ ghost use Rattle.planning.specs.Search.{succeeded};
 ghost use Rattle.search.specs.Buffer.{Holds};
 ghost use Rattle.search.specs.Examination.{plan_size};
 ghost use Rattle.search.specs.Packed.{guided_examination};
-ghost use Rattle.search.specs.Written.{Names, Succeeding, Starts, Writable, Writes};
+ghost use Rattle.search.specs.Written.{Names, Succeeding, Starts, Writable};
 
 use crate::buffer::{ARRIVED, put};
 use crate::compiled::{is_goal, left_after, outcome_count, successor};
@@ -65,38 +65,47 @@ fn start_of(instance: &Instance, memory: &mut [Slot], s: u64, d: u32) -> Start
     }
 }
 
-// Writes the plan of a state that succeeds, at `at`, and answers the place after it.
-fn write_plan(
-    instance: &Instance,
-    memory: &mut [Slot],
-    written: &mut [Slot],
-    plan: &mut [u8],
-    s: u64,
-    d: u32,
-    at: usize,
-) -> usize
-    requires { Writable instance.now memory.old written.old plan.old s d at }
-    ensures { Writes instance.now d s at memory.new written.new plan.old plan.new result }
-{
-    if let Some(known) = find_passage(written, s, d) {
-        known.copy_to(plan, at);
-        return at + known.size;
-    }
-    let start = start_of(instance, memory, s, d);
-    put(plan, at, start.first);
-    let mut end = at + 1;
-    match action_of(start.first) {
-        None => {
-            return end;
+// A plan that is being written: the buffer, the memory of results, and the slots that say which plans stand in the buffer.
+#[derive(Drop)]
+pub(crate) struct Writer<'a> {
+    pub(crate) instance: &'a Instance<'a>,
+    pub(crate) memory: &'a mut [Slot],
+    pub(crate) written: &'a mut [Slot],
+    pub(crate) plan: &'a mut [u8],
+}
+
+impl<'a> Writer<'a> {
+    ghost use Rattle.search.specs.Writer.{Goes};
+
+    // Writes the plan of a state that succeeds, at `at`, and answers the place after it.
+    fn write_plan(&mut self, s: u64, d: u32, at: usize) -> usize
+        requires { Writable self.old.instance.now self.old.memory.now self.old.written.now self.old.plan.now s d at }
+        ensures { Goes s d at self.old self.new result }
+    {
+        let instance = self.instance;
+        let memory = &mut *self.memory;
+        let written = &mut *self.written;
+        let plan = &mut *self.plan;
+        if let Some(known) = find_passage(written, s, d) {
+            known.copy_to(plan, at);
+            return at + known.size;
         }
-        Some(m) => {
-            let left = left_after(instance.task, m, d);
-            for k in 0..outcome_count(instance.task, m) {
-                let x = successor(instance.task, s, m, k);
-                end = write_plan(instance, memory, written, plan, x, left, end);
+        let start = start_of(instance, memory, s, d);
+        put(plan, at, start.first);
+        let mut end = at + 1;
+        match action_of(start.first) {
+            None => {
+                return end;
             }
-            note_passage(written, s, d, at, start.size);
-            end
+            Some(m) => {
+                let left = left_after(instance.task, m, d);
+                for k in 0..outcome_count(instance.task, m) {
+                    let x = successor(instance.task, s, m, k);
+                    end = self.write_plan(x, left, end);
+                }
+                note_passage(self.written, s, d, at, start.size);
+                end
+            }
         }
     }
 }
@@ -107,5 +116,11 @@ pub(crate) fn write_found(instance: &Instance, memory: &mut [Slot], plan: &mut [
     ensures { (p : Plan) (k : ℕ) → guided_examination instance.now d s 0 ≡ succeeded p k → Holds (encode p) 0 plan.new }
 {
     let mut written = [EMPTY; 128];
-    let _ = write_plan(instance, memory, &mut written, plan, s, d, 0);
+    let mut writer = Writer {
+        instance,
+        memory,
+        written: &mut written,
+        plan,
+    };
+    let _ = writer.write_plan(s, d, 0);
 }

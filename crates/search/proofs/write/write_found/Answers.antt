@@ -1,5 +1,5 @@
 -- `search::write::write_found` meets its contract: no plan stands in the buffer at first. Assumes nothing.
-use Rattle.std.proofs.Common.{arith}
+use Rattle.std.proofs.Common.{arith, rules}
 use Rattle.search.proofs.Standing.{nothing_stands}
 use Rattle.search.proofs.write.write_found.Goals as goal
 
@@ -8,4 +8,4 @@ write_plan-requires c = let p = c.requires in
     record { succeeding = p.0; fits = omega (arith, p.1); near = omega (arith, p.2); stands = nothing_stands _ 128 _ (omega arith) }
 
 pub returns : goal.returns
-returns c = λ p k f. (c.write_plan.ensures p k f).holds
+returns c = λ p k f. let h = (c.write_plan.ensures.writes p k f).holds in let g = c.write_plan.ensures.same_plan in search rules
