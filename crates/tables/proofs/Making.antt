@@ -1,5 +1,5 @@
 -- Edges that were made are those of the space: the words are stored, edge by edge and action by action. Assumes nothing.
-use Rattle.std.proofs.Common.{◌≡◌, ℕ, ◌+◌, ◌-◌, ◌*◌, ◌/◌, ◌%◌, ◌<◌, ◌≤◌, min, false, not, List, length, get_or, set, sym, refl, ap, ◌∙◌, arith, length-set, get_or-set_other, get_or-set_same}
+use Rattle.std.proofs.Common.{◌≡◌, ℕ, ◌+◌, ◌-◌, ◌*◌, ◌/◌, ◌%◌, ◌<◌, ◌≤◌, min, false, not, List, length, get_or, set, sym, refl, ◌∙◌, subst, arith, length-set, get_or-set_other, get_or-set_same}
 use native.Mathlib.Decide.{dec_lt}
 use lib.Bits.{bit_and, bit_or}
 use lib.Count.{count_trailing_zeros}
@@ -8,94 +8,42 @@ use Rattle.tables.specs.Sets.{set_from}
 use Rattle.tables.specs.Steps.{weigh, Space, idles}
 use Rattle.tables.specs.Edges.{edge_action, edge_end, Edge, Beside, EdgesOf, outcomes_from, named, freed, test_mask, test_value, Regular}
 use Rattle.tables.specs.Incoming.{Tests}
-use Rattle.tables.specs.Made.{LaneOf, back_of, EdgeIs, Untouched, EdgePut, new, twin, Served, Group, Spanned, ActionPut}
+use Rattle.tables.specs.Made.{LaneOf, Same, back_of, WordsOf, words_at, EdgeIs, Untouched, Served, Group, Spanned, ActionPut}
+use Rattle.tables.specs.declared.proved_worklist.edges.EdgeWords.{EdgeWords}
 use Rattle.tables.proofs.SetWords.{Left, left_all, Next, none_left}
 use Rattle.tables.proofs.Sweeping.{false_true}
 use Rattle.tables.proofs.Counting.{next_of, outcomes_next}
 use Rattle.tables.proofs.WaysBack.{edge_plain, edge_free_lem, served_edge}
 
--- Words put one after the other: two of a test, three of a way back.
-abbrev pub two_put : List ℕ → ℕ → ℕ → ℕ → List ℕ
-two_put l e a b = set (set l (2 * e) a) (2 * e + 1) b
-
-abbrev pub three_put : List ℕ → ℕ → ℕ → ℕ → ℕ → List ℕ
-three_put l e a b c = set (set (set l (4 * e) a) (4 * e + 1) b) (4 * e + 2) c
-
-module _ (l : List ℕ) (e a b : ℕ) (r : 2 * e + 2 ≤ length l) where
-  two_length : length (two_put l e a b) ≡ length l
-  two_length = length-set (set l (2 * e) a) (2 * e + 1) b ∙ length-set l (2 * e) a
-
-  two_before : (j : ℕ) → j < 2 * e → get_or (two_put l e a b) j 0 ≡ get_or l j 0
-  two_before j h = get_or-set_other (set l (2 * e) a) (2 * e + 1) j b 0 (λ z. omega arith) ∙ get_or-set_other l (2 * e) j a 0 (λ z. omega arith)
-
-  two_words : (get_or (two_put l e a b) (2 * e) 0 ≡ a) × (get_or (two_put l e a b) (2 * e + 1) 0 ≡ b)
-  two_words = let n₁ = length-set l (2 * e) a in (
-    get_or-set_other (set l (2 * e) a) (2 * e + 1) (2 * e) b 0 (λ z. omega arith) ∙ get_or-set_same l (2 * e) a 0 (omega arith),
-    get_or-set_same (set l (2 * e) a) (2 * e + 1) b 0 (omega (arith, n₁)),
-  )
-
-module _ (l : List ℕ) (e a b c : ℕ) (r : 4 * e + 4 ≤ length l) where
-  abbrev l₁ : List ℕ
-  l₁ = set l (4 * e) a
-
-  abbrev l₂ : List ℕ
-  l₂ = set l₁ (4 * e + 1) b
-
-  three_length : length (three_put l e a b c) ≡ length l
-  three_length = length-set l₂ (4 * e + 2) c ∙ length-set l₁ (4 * e + 1) b ∙ length-set l (4 * e) a
-
-  past₂ : (j : ℕ) → j < 4 * e + 2 → get_or (three_put l e a b c) j 0 ≡ get_or l₂ j 0
-  past₂ j h = get_or-set_other l₂ (4 * e + 2) j c 0 (λ z. omega arith)
-
-  past₁ : (j : ℕ) → j < 4 * e + 1 → get_or (three_put l e a b c) j 0 ≡ get_or l₁ j 0
-  past₁ j h = past₂ j (omega arith) ∙ get_or-set_other l₁ (4 * e + 1) j b 0 (λ z. omega arith)
-
-  three_before : (j : ℕ) → j < 4 * e → get_or (three_put l e a b c) j 0 ≡ get_or l j 0
-  three_before j h = past₁ j (omega arith) ∙ get_or-set_other l (4 * e) j a 0 (λ z. omega arith)
-
-  three_words : (get_or (three_put l e a b c) (4 * e) 0 ≡ a) × (get_or (three_put l e a b c) (4 * e + 1) 0 ≡ b) × (get_or (three_put l e a b c) (4 * e + 2) 0 ≡ c)
-  three_words = let n₁ = length-set l (4 * e) a in let n₂ = length-set l₁ (4 * e + 1) b in (
-    past₁ (4 * e) (omega arith) ∙ get_or-set_same l (4 * e) a 0 (omega arith),
-    past₂ (4 * e + 1) (omega arith) ∙ get_or-set_same l₁ (4 * e + 1) b 0 (omega (arith, n₁)),
-    get_or-set_same l₂ (4 * e + 2) c 0 (omega (arith, n₁, n₂)),
-  )
-
 word_parts : (word back weight m : ℕ) → word ≡ back + 65536 * weight + 4294967296 * m → back < 65536 → weight < 65536 → (word % 65536 ≡ back) × (word / 65536 % 65536 ≡ weight) × (word / 4294967296 ≡ m)
 word_parts word back weight m e a b = (omega arith, omega arith, omega arith)
 
--- The words that put_edge stores are those of the outcome.
-pub edge_put : (a : List ℕ) (k : ℕ) (ws sizes ts es : List ℕ) (e m o gain loss back weight lane₁ rest₁ lane₂ rest₂ : ℕ) → 2 * e + 2 ≤ length ts → 4 * e + 4 ≤ length es →
+-- The words that edge_of answers are those of the outcome.
+pub words_made : (a : List ℕ) (k : ℕ) (ws sizes : List ℕ) (m o gain loss back weight lane₁ rest₁ lane₂ rest₂ : ℕ) →
     gain ≡ weigh ws (bit_and (pre_value a m) (k - bit_and (keep_mask a m o) k)) → loss ≡ weigh ws (bit_and (set_value a m o) k) → back ≡ back_of gain loss → back < 65536 → weight ≡ min (action_weight a m) 65535 →
     LaneOf ws sizes (k - bit_and (keep_mask a m o) k - bit_and (pre_mask a m) (k - bit_and (keep_mask a m o) k)) lane₁ rest₁ → LaneOf ws sizes rest₁ lane₂ rest₂ →
-    (Untouched ts es (two_put ts e (bit_or (k - bit_and (keep_mask a m o) k) (bit_and (pre_mask a m) (bit_and (keep_mask a m o) k))) (bit_or (bit_and (set_value a m o) k) (bit_and (pre_value a m) (bit_and (keep_mask a m o) k))))
-    (three_put es e (back + 65536 * weight + 4294967296 * m) (lane₁ + 4294967296 * lane₂) rest₂) e) ×
-    EdgePut a k ws sizes (two_put ts e (bit_or (k - bit_and (keep_mask a m o) k) (bit_and (pre_mask a m) (bit_and (keep_mask a m o) k))) (bit_or (bit_and (set_value a m o) k) (bit_and (pre_value a m) (bit_and (keep_mask a m o) k))))
-    (three_put es e (back + 65536 * weight + 4294967296 * m) (lane₁ + 4294967296 * lane₂) rest₂) e m o (e + 1)
+    WordsOf a k ws sizes m o (record {
+      mask = bit_or (k - bit_and (keep_mask a m o) k) (bit_and (pre_mask a m) (bit_and (keep_mask a m o) k));
+      value = bit_or (bit_and (set_value a m o) k) (bit_and (pre_value a m) (bit_and (keep_mask a m o) k));
+      back = back + 65536 * weight + 4294967296 * m;
+      lanes = lane₁ + 4294967296 * lane₂;
+      free = rest₂;
+    })
 unfolding named freed test_mask test_value
-edge_put a k ws sizes ts es e m o gain loss back weight lane₁ rest₁ lane₂ rest₂ r q g f b small w x y =
-    let t = two_words ts e (bit_or (k - bit_and (keep_mask a m o) k) (bit_and (pre_mask a m) (bit_and (keep_mask a m o) k))) (bit_or (bit_and (set_value a m o) k) (bit_and (pre_value a m) (bit_and (keep_mask a m o) k))) r in
-    let u = three_words es e (back + 65536 * weight + 4294967296 * m) (lane₁ + 4294967296 * lane₂) rest₂ q in
-    let p = word_parts _ back weight m u.0 small (omega (arith, w)) in (
-      record {
-        long_tests = two_length ts e _ _ r;
-        long_edges = three_length es e _ _ _ q;
-        tests = two_before ts e _ _ r;
-        edges = three_before es e _ _ _ q;
-      },
-      new refl (record {
-        mask = t.0;
-        value = t.1;
-        back = p.0 ∙ b ∙ rw (g, f);
-        weight = p.1 ∙ w;
-        action = p.2;
-        lane₁ = lane₁;
-        lane₂ = lane₂;
-        rest = rest₁;
-        lanes = u.1;
-        first = x;
-        second = rw u.2 y;
-      }),
-    )
+words_made a k ws sizes m o gain loss back weight lane₁ rest₁ lane₂ rest₂ g f b small w x y =
+    let p = word_parts _ back weight m refl small (omega (arith, w)) in record {
+      mask = refl;
+      value = refl;
+      back = p.0 ∙ b ∙ rw (g, f);
+      weight = p.1 ∙ w;
+      action = p.2;
+      lane₁ = lane₁;
+      lane₂ = lane₂;
+      rest = rest₁;
+      lanes = refl;
+      first = x;
+      second = y;
+    }
 
 pub untouched_none : {ts es : List ℕ} {e : ℕ} → Untouched ts es ts es e
 untouched_none = record { long_tests = refl; long_edges = refl; tests = λ i b. refl; edges = λ i b. refl }
@@ -110,33 +58,17 @@ untouched_then l p q = record {
 
 -- The words of edge e that matter for what it stands for are the same.
 record Alike (ts es ts₁ es₁ : List ℕ) (e : ℕ) : Type 0 where
-  mask : get_or ts₁ (2 * e) 0 ≡ get_or ts (2 * e) 0
-  value : get_or ts₁ (2 * e + 1) 0 ≡ get_or ts (2 * e + 1) 0
-  back : get_or es₁ (4 * e) 0 ≡ get_or es (4 * e) 0
-  lanes : get_or es₁ (4 * e + 1) 0 ≡ get_or es (4 * e + 1) 0
-  free : get_or es₁ (4 * e + 2) 0 ≡ get_or es (4 * e + 2) 0
+  words : words_at ts₁ es₁ e ≡ words_at ts es e
 
 alike_untouched : {ts es ts₁ es₁ : List ℕ} {c : ℕ} (e : ℕ) → e < c → Untouched ts es ts₁ es₁ c → Alike ts es ts₁ es₁ e
-alike_untouched e l u = record { mask = u.tests (2 * e) (omega arith); value = u.tests (2 * e + 1) (omega arith); back = u.edges (4 * e) (omega arith); lanes = u.edges (4 * e + 1) (omega arith); free = u.edges (4 * e + 2) (omega arith) }
+alike_untouched e l u = record { words = rw (u.tests (2 * e) (omega arith), u.tests (2 * e + 1) (omega arith), u.edges (4 * e) (omega arith), u.edges (4 * e + 1) (omega arith), u.edges (4 * e + 2) (omega arith)) refl }
 
 alike_spanned : {ts es es₁ : List ℕ} {first end word : ℕ} (e : ℕ) → Spanned es es₁ first end word → Alike ts es ts es₁ e
-alike_spanned e s = record { mask = refl; value = refl; back = s.others (4 * e) (omega arith); lanes = s.others (4 * e + 1) (omega arith); free = s.others (4 * e + 2) (omega arith) }
+alike_spanned e s = record { words = rw (s.others (4 * e) (omega arith), s.others (4 * e + 1) (omega arith), s.others (4 * e + 2) (omega arith)) refl }
 
 module _ {a : List ℕ} {k : ℕ} {ws sizes ts es ts₁ es₁ : List ℕ} where
   edge_kept : {e m o : ℕ} → Alike ts es ts₁ es₁ e → EdgeIs a k ws sizes ts es e m o → EdgeIs a k ws sizes ts₁ es₁ e m o
-  edge_kept h g = record {
-    mask = h.mask ∙ g.mask;
-    value = h.value ∙ g.value;
-    back = ap (λ y. y % 65536) h.back ∙ g.back;
-    weight = ap (λ y. y / 65536 % 65536) h.back ∙ g.weight;
-    action = ap (λ y. y / 4294967296) h.back ∙ g.action;
-    lane₁ = g.lane₁;
-    lane₂ = g.lane₂;
-    rest = g.rest;
-    lanes = h.lanes ∙ g.lanes;
-    first = g.first;
-    second = rw h.free g.second;
-  }
+  edge_kept {e} {m} {o} h g = subst (WordsOf a k ws sizes m o) (sym h.words) g
 
   served_kept : {e m n o : ℕ} → Alike ts es ts₁ es₁ e → Served a k ws sizes ts es e m n o → Served a k ws sizes ts₁ es₁ e m n o
   served_kept h g = record { outcome = g.outcome; known = g.known; same = g.same; is = edge_kept h g.is }
@@ -160,38 +92,42 @@ pub record Acting (a : List ℕ) (k : ℕ) (ws sizes ts es ts₁ es₁ : List �
 pub acting_none : {a : List ℕ} {k : ℕ} {ws sizes ts es : List ℕ} {first m : ℕ} → Acting a k ws sizes ts es ts es first m 0 first
 acting_none = record { untouched = untouched_none; grows = omega arith; most = omega arith; group = record { each = λ f l b. absurd (omega arith); all = λ o b. absurd (omega arith) } }
 
-pub acting_next : {a : List ℕ} {k : ℕ} {ws sizes ts es ts₁ es₁ ts₂ es₂ : List ℕ} {first m o e r : ℕ} → Acting a k ws sizes ts es ts₁ es₁ first m o e → Untouched ts₁ es₁ ts₂ es₂ e → EdgePut a k ws sizes ts₂ es₂ e m o r → Acting a k ws sizes ts es ts₂ es₂ first m (o + 1) r
-acting_next {a} {k} {ws} {sizes} {ts} {es} {ts₁} {es₁} {ts₂} {es₂} {first} {m} {o} {e} {r} v u (new q h) = record {
-  untouched = untouched_then v.grows v.untouched u;
-  grows = omega (arith, v.grows, q);
-  most = omega (arith, v.most, q);
+-- One outcome more has an edge, or does the same as an earlier one.
+pub acting_new : {a : List ℕ} {k : ℕ} {ws sizes ts es ts₁ es₁ ts₂ es₂ : List ℕ} {first m o e : ℕ} {w : EdgeWords} → Acting a k ws sizes ts es ts₁ es₁ first m o e →
+    Untouched ts₁ es₁ ts₂ es₂ e × (words_at ts₂ es₂ e ≡ w) → WordsOf a k ws sizes m o w → Acting a k ws sizes ts es ts₂ es₂ first m (o + 1) (e + 1)
+acting_new {a} {k} {ws} {sizes} {ts} {es} {ts₁} {es₁} {ts₂} {es₂} {first} {m} {o} {e} v u h = record {
+  untouched = untouched_then v.grows v.untouched u.0;
+  grows = omega (arith, v.grows);
+  most = omega (arith, v.most);
   group = record { each = λ f l b. each_of f l b (dec_lt f e); all = λ p b. all_of p b (dec_lt p o) };
 }
   where
     old : Group a k ws sizes ts₂ es₂ first e m o
-    old = group_kept (λ f l. alike_untouched f l u) v.group
+    old = group_kept (λ f l. alike_untouched f l u.0) v.group
 
-    each_of : (f : ℕ) → first ≤ f → f < r → Dec (f < e) → (p : ℕ) × (p < o + 1) × EdgeIs a k ws sizes ts₂ es₂ f m p
+    here : EdgeIs a k ws sizes ts₂ es₂ e m o
+    here = subst (WordsOf a k ws sizes m o) (sym u.1) h
+
+    each_of : (f : ℕ) → first ≤ f → f < e + 1 → Dec (f < e) → (p : ℕ) × (p < o + 1) × EdgeIs a k ws sizes ts₂ es₂ f m p
     each_of f l b (yes d) = let g = old.each f l d in (g.0, omega (arith, g.1), g.2)
-    each_of f l b (no d) = let z : f ≡ e = omega (arith, q) in (o, omega arith, rw z h)
+    each_of f l b (no d) = let z : f ≡ e = omega arith in (o, omega arith, rw z here)
 
-    all_of : (p : ℕ) → p < o + 1 → Dec (p < o) → (f : ℕ) × (first ≤ f) × (f < r) × Served a k ws sizes ts₂ es₂ f m (o + 1) p
-    all_of p b (yes d) = let g = old.all p d in (g.0, g.1, omega (arith, g.2, q), served_more g.3)
-    all_of p b (no d) = let z : p ≡ o = omega arith in (e, v.grows, omega (arith, q), rw z (record { outcome = o; known = omega arith; same = record { keeps = refl; sets = refl }; is = h }))
-acting_next {a} {k} {ws} {sizes} {ts} {es} {ts₁} {es₁} {ts₂} {es₂} {first} {m} {o} {e} {r} v u (twin t l s q) = record {
-  untouched = untouched_then v.grows v.untouched u;
-  grows = omega (arith, v.grows, q);
-  most = omega (arith, v.most, q);
-  group = record { each = λ f l b. let g = old.each f l (omega (arith, q)) in (g.0, omega (arith, g.1), g.2); all = λ p b. all_of p b (dec_lt p o) };
+    all_of : (p : ℕ) → p < o + 1 → Dec (p < o) → (f : ℕ) × (first ≤ f) × (f < e + 1) × Served a k ws sizes ts₂ es₂ f m (o + 1) p
+    all_of p b (yes d) = let g = old.all p d in (g.0, g.1, omega (arith, g.2), served_more g.3)
+    all_of p b (no d) = let z : p ≡ o = omega arith in (e, v.grows, omega arith, rw z (record { outcome = o; known = omega arith; same = record { keeps = refl; sets = refl }; is = here }))
+
+pub acting_twin : {a : List ℕ} {k : ℕ} {ws sizes ts es ts₁ es₁ : List ℕ} {first m o e : ℕ} → Acting a k ws sizes ts es ts₁ es₁ first m o e → (t : ℕ) × (t < o) × Same a k m t o → Acting a k ws sizes ts es ts₁ es₁ first m (o + 1) e
+acting_twin {a} {k} {ws} {sizes} {ts} {es} {ts₁} {es₁} {first} {m} {o} {e} v t = record {
+  untouched = v.untouched;
+  grows = v.grows;
+  most = omega (arith, v.most);
+  group = record { each = λ f l b. let g = v.group.each f l b in (g.0, omega (arith, g.1), g.2); all = λ p b. all_of p b (dec_lt p o) };
 }
   where
-    old : Group a k ws sizes ts₂ es₂ first e m o
-    old = group_kept (λ f l. alike_untouched f l u) v.group
-
-    all_of : (p : ℕ) → p < o + 1 → Dec (p < o) → (f : ℕ) × (first ≤ f) × (f < r) × Served a k ws sizes ts₂ es₂ f m (o + 1) p
-    all_of p b (yes d) = let g = old.all p d in (g.0, g.1, omega (arith, g.2, q), served_more g.3)
-    all_of p b (no d) = let z : p ≡ o = omega arith in let g = old.all t l in
-        (g.0, g.1, omega (arith, g.2, q), rw z (record { outcome = g.3.outcome; known = omega (arith, g.3.known); same = record { keeps = g.3.same.keeps ∙ s.keeps; sets = g.3.same.sets ∙ s.sets }; is = g.3.is }))
+    all_of : (p : ℕ) → p < o + 1 → Dec (p < o) → (f : ℕ) × (first ≤ f) × (f < e) × Served a k ws sizes ts₁ es₁ f m (o + 1) p
+    all_of p b (yes d) = let g = v.group.all p d in (g.0, g.1, g.2, served_more g.3)
+    all_of p b (no d) = let z : p ≡ o = omega arith in let g = v.group.all t.0 t.1 in
+        (g.0, g.1, g.2, rw z (record { outcome = g.3.outcome; known = omega (arith, g.3.known); same = record { keeps = g.3.same.keeps ∙ t.2.keeps; sets = g.3.same.sets ∙ t.2.sets }; is = g.3.is }))
 
 pub acting_end : {a : List ℕ} {k : ℕ} {ws sizes ts es ts₁ es₁ es₂ : List ℕ} {first m e : ℕ} → Acting a k ws sizes ts es ts₁ es₁ first m (outcome_count a m) e → Spanned es₁ es₂ first e (first + 1024 * e) → ActionPut a k ws sizes ts es ts₁ es₂ first m e
 acting_end v s = record {

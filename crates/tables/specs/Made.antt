@@ -1,8 +1,9 @@
 -- What making the edges of a pattern leaves behind: the words of an edge, of the edges of one action, and of all. Assumes nothing.
-use Rattle.std.specs.Prelude.{◌≡◌, ℕ, ◌+◌, ◌-◌, ◌*◌, ◌%◌, ◌^◌, ◌<◌, ◌≤◌, min, List, length, bit_and, slice_index, slice_index_or}
+use Rattle.std.specs.Prelude.{◌≡◌, ℕ, ◌+◌, ◌-◌, ◌*◌, ◌/◌, ◌%◌, ◌^◌, ◌<◌, ◌≤◌, min, List, length, bit_and, slice_index, slice_index_or}
 use Rattle.tables.specs.Packed.{pre_mask, pre_value, outcome_count, action_weight, keep_mask, set_value}
 use Rattle.tables.specs.Steps.{weigh}
-use Rattle.tables.specs.Edges.{edge_mask, edge_value, edge_back, edge_weight, edge_action, edge_lanes, edge_free, named, freed, test_mask, test_value, digit}
+use Rattle.tables.specs.Edges.{edge_mask, edge_value, edge_lanes, edge_free, named, freed, test_mask, test_value, digit}
+use Rattle.tables.specs.declared.proved_worklist.edges.EdgeWords.{EdgeWords}
 
 -- Digit u of the free ones is the lane.
 pub record LaneAt (ws sizes : List ℕ) (free lane rest u : ℕ) : Type 0 where
@@ -27,19 +28,26 @@ pub record Same (a : List ℕ) (k m p o : ℕ) : Type 0 where
 unfoldable pub back_of : ℕ → ℕ → ℕ
 back_of gain loss = (gain % 65536 + 65536 - loss % 65536) % 65536
 
--- The words of edge e are those of outcome o of action m.
-pub record EdgeIs (a : List ℕ) (k : ℕ) (ws sizes ts es : List ℕ) (e m o : ℕ) : Type 0 where
-  pub mask : edge_mask ts e ≡ test_mask k (keep_mask a m o) (pre_mask a m)
-  pub value : edge_value ts e ≡ test_value k (keep_mask a m o) (pre_value a m) (set_value a m o)
-  pub back : edge_back es e ≡ back_of (weigh ws (bit_and (pre_value a m) (named k (keep_mask a m o)))) (weigh ws (bit_and (set_value a m o) k))
-  pub weight : edge_weight es e ≡ min (action_weight a m) 65535
-  pub action : edge_action es e ≡ m
+-- Words are those of an edge of outcome o of action m.
+pub record WordsOf (a : List ℕ) (k : ℕ) (ws sizes : List ℕ) (m o : ℕ) (w : EdgeWords) : Type 0 where
+  pub mask : w.mask ≡ test_mask k (keep_mask a m o) (pre_mask a m)
+  pub value : w.value ≡ test_value k (keep_mask a m o) (pre_value a m) (set_value a m o)
+  pub back : w.back % 65536 ≡ back_of (weigh ws (bit_and (pre_value a m) (named k (keep_mask a m o)))) (weigh ws (bit_and (set_value a m o) k))
+  pub weight : w.back / 65536 % 65536 ≡ min (action_weight a m) 65535
+  pub action : w.back / 4294967296 ≡ m
   pub lane₁ : ℕ
   pub lane₂ : ℕ
   pub rest : ℕ
-  pub lanes : edge_lanes es e ≡ lane₁ + 4294967296 * lane₂
+  pub lanes : w.lanes ≡ lane₁ + 4294967296 * lane₂
   pub first : LaneOf ws sizes (freed k (keep_mask a m o) (pre_mask a m)) lane₁ rest
-  pub second : LaneOf ws sizes rest lane₂ (edge_free es e)
+  pub second : LaneOf ws sizes rest lane₂ w.free
+
+-- The words of edge e, without the edges of its action.
+abbrev pub words_at : List ℕ → List ℕ → ℕ → EdgeWords
+words_at ts es e = record { mask = edge_mask ts e; value = edge_value ts e; back = slice_index es (4 * e); lanes = edge_lanes es e; free = edge_free es e }
+
+abbrev pub EdgeIs : List ℕ → ℕ → List ℕ → List ℕ → List ℕ → List ℕ → ℕ → ℕ → ℕ → Type 0
+EdgeIs a k ws sizes ts es e m o = WordsOf a k ws sizes m o (words_at ts es e)
 
 -- The words of the first e edges are as they were.
 pub record Untouched (ts es ts₁ es₁ : List ℕ) (e : ℕ) : Type 0 where
@@ -47,11 +55,6 @@ pub record Untouched (ts es ts₁ es₁ : List ℕ) (e : ℕ) : Type 0 where
   pub long_edges : length es₁ ≡ length es
   pub tests : (i : ℕ) → i < 2 * e → slice_index ts₁ i ≡ slice_index ts i
   pub edges : (i : ℕ) → i < 4 * e → slice_index es₁ i ≡ slice_index es i
-
--- Outcome o of action m has edge e, and the edges end behind it; or it does the same as an earlier outcome.
-pub data EdgePut (a : List ℕ) (k : ℕ) (ws sizes ts₁ es₁ : List ℕ) (e m o r : ℕ) : Type 0 where
-  new : r ≡ e + 1 → EdgeIs a k ws sizes ts₁ es₁ e m o → EdgePut a k ws sizes ts₁ es₁ e m o r
-  twin : (p : ℕ) → p < o → Same a k m p o → r ≡ e → EdgePut a k ws sizes ts₁ es₁ e m o r
 
 -- Edge f is that of an outcome, one of n of action m, that does the same as outcome o.
 pub record Served (a : List ℕ) (k : ℕ) (ws sizes ts es : List ℕ) (f m n o : ℕ) : Type 0 where

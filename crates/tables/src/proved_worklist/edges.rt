@@ -1,14 +1,14 @@
 // The edges of a pattern's abstraction: for each outcome of an action the test of a state after it, two words, and the way back to the states
 // before it, four words (specs/Edges has their layout). Outcomes of one action that do the same within the pattern share an edge.
-ghost use Rattle.std.specs.Prelude.{◌≡◌, ℕ, ◌+◌, ◌*◌, ◌<◌, ◌≤◌, true, not, length, bit_and};
-ghost use Rattle.tables.specs.Packed.{outcome_count, keep_mask, set_value};
+ghost use Rattle.std.specs.Prelude.{◌≡◌, ℕ, ◌+◌, ◌*◌, ◌<◌, ◌≤◌, true, not, length, IfSome, IfNone};
+ghost use Rattle.tables.specs.Packed.{outcome_count};
 ghost use Rattle.tables.specs.Sets.{set_from};
 ghost use Rattle.tables.specs.Steps.{idles, Readable};
 ghost use Rattle.tables.specs.Edges.{outcomes_from, EdgesOf};
 ghost use Rattle.tables.specs.Incoming.{Tests};
 ghost use Rattle.tables.specs.Patterned.{states_of};
 ghost use Rattle.tables.specs.Listed.{space_in, edges_most};
-ghost use Rattle.tables.specs.Made.{LaneOf, back_of, Untouched, EdgePut, Spanned, ActionPut};
+ghost use Rattle.tables.specs.Made.{LaneOf, back_of, Same, WordsOf, words_at, Untouched, Spanned, ActionPut};
 
 use crate::proved_worklist::states::States;
 use crate::sweep::index_of;
@@ -72,16 +72,14 @@ fn lane_of(weights: &[u16; 16], sizes: [u8; 16], free: u64) -> Lane
 }
 
 // Whether an outcome of action m before outcome o keeps and sets the same within the mask.
-fn is_twin(task: &[u64; 1282], mask: u64, m: usize, o: usize, kept: u64, sets: u64) -> bool
-    requires { (m < 64) × (o ≤ 8) }
-    ensures { result ≡ true → (p : ℕ) × (p < o) × (bit_and (keep_mask task.now m p) mask ≡ kept) × (bit_and (set_value task.now m p) mask ≡ sets) }
+fn is_twin(task: &[u64; 1282], mask: u64, m: usize, o: usize) -> bool
+    requires { (m < 64) × (o < 8) }
+    ensures { result ≡ true → (p : ℕ) × (p < o) × Same task.now mask m p o }
 {
-    for p in 0..o {
-        if task[20 * m + 4 + 2 * p] & mask == kept && task[20 * m + 5 + 2 * p] & mask == sets {
-            return true;
-        }
-    }
-    false
+    let kept = task[20 * m + 4 + 2 * o] & mask;
+    let sets = task[20 * m + 5 + 2 * o] & mask;
+    (0..o).any(|p| task[20 * m + 4 + 2 * p] & mask == kept
+        && task[20 * m + 5 + 2 * p] & mask == sets)
 }
 
 // How the index changes on the way back, modulo 65,536.
@@ -91,39 +89,58 @@ fn way_back(gain: usize, loss: usize) -> u64
     ((gain % 65536 + 65536 - loss % 65536) % 65536) as u64
 }
 
-// The edge of outcome o of action m as edge e, unless an earlier outcome does the same. Answers where the edges end.
-fn put_edge(
-    task: &[u64; 1282],
+// The words of an edge: those of its test, and three of its way back.
+#[derive(Clone, Copy)]
+struct EdgeWords {
     mask: u64,
-    weights: &[u16; 16],
-    sizes: [u8; 16],
-    tests: &mut [u64],
-    edges: &mut [u64],
-    m: usize,
-    o: usize,
-    e: usize,
-) -> usize
-    requires { (m < 64) × (o < 8) × (e < 512) × (2 * e + 2 ≤ length tests.old) × (4 * e + 4 ≤ length edges.old) }
-    ensures { (Untouched tests.old edges.old tests.new edges.new e) × (EdgePut task.now mask weights.now sizes tests.new edges.new e m o result) }
+    value: u64,
+    back: u64,
+    lanes: u64,
+    free: u64,
+}
+
+// The words of the edge of outcome o of action m, unless an earlier outcome does the same.
+fn edge_of(states: &States, m: usize, o: usize) -> Option<EdgeWords>
+    requires { (m < 64) × (o < 8) }
+    ensures some { IfSome result (WordsOf states.now.pattern.now.task states.now.pattern.now.mask states.now.weights.now states.now.pattern.now.sizes m o) }
+    ensures none { IfNone result ((p : ℕ) × (p < o) × Same states.now.pattern.now.task states.now.pattern.now.mask m p o) }
 {
-    let kept = task[20 * m + 4 + 2 * o] & mask;
-    let sets = task[20 * m + 5 + 2 * o] & mask;
-    if is_twin(task, mask, m, o, kept, sets) {
-        return e;
+    let pattern = states.pattern;
+    let task = pattern.task;
+    let mask = pattern.mask;
+    let weights = states.weights;
+    let sizes = pattern.sizes;
+    if is_twin(task, mask, m, o) {
+        return None;
     }
     let need = task[20 * m];
     let value = task[20 * m + 1];
+    let kept = task[20 * m + 4 + 2 * o] & mask;
+    let sets = task[20 * m + 5 + 2 * o] & mask;
     let names = mask - kept;
-    let back = way_back(index_of(weights, value & names), index_of(weights, sets));
+    let way = way_back(index_of(weights, value & names), index_of(weights, sets));
+    let weight = task[20 * m + 3].min(u64::from(u16::MAX));
     let one = lane_of(weights, sizes, names - (need & names));
     let two = lane_of(weights, sizes, one.rest);
-    let weight = task[20 * m + 3].min(65535);
-    tests[2 * e] = names | (need & kept);
-    tests[2 * e + 1] = sets | (value & kept);
-    edges[4 * e] = back + 65536 * weight + 4294967296 * m as u64;
-    edges[4 * e + 1] = one.lane + 4294967296 * two.lane;
-    edges[4 * e + 2] = two.rest;
-    e + 1
+    Some(EdgeWords {
+        mask: names | (need & kept),
+        value: sets | (value & kept),
+        back: way + 65536 * weight + 4294967296 * m as u64,
+        lanes: one.lane + 4294967296 * two.lane,
+        free: two.rest,
+    })
+}
+
+// Stores the words of edge e.
+fn put_edge(tests: &mut [u64], edges: &mut [u64], e: usize, words: EdgeWords)
+    requires { (e < 512) × (2 * e + 2 ≤ length tests.old) × (4 * e + 4 ≤ length edges.old) }
+    ensures { (Untouched tests.old edges.old tests.new edges.new e) × (words_at tests.new edges.new e ≡ words) }
+{
+    tests[2 * e] = words.mask;
+    tests[2 * e + 1] = words.value;
+    edges[4 * e] = words.back;
+    edges[4 * e + 1] = words.lanes;
+    edges[4 * e + 2] = words.free;
 }
 
 // The edges of an action are those from `first` to `end`, and each knows it.
@@ -139,22 +156,24 @@ fn put_span(edges: &mut [u64], first: usize, end: usize)
 
 // The edges of action m, from number `first` on. Answers where they end.
 fn put_action(
-    task: &[u64; 1282],
-    mask: u64,
-    weights: &[u16; 16],
-    sizes: [u8; 16],
+    states: &States,
     tests: &mut [u64],
     edges: &mut [u64],
     first: usize,
     m: usize,
 ) -> usize
-    requires { (m < 64) × (outcome_count task.now m ≤ 8) × (first + outcome_count task.now m ≤ 512) × (2 * (first + outcome_count task.now m) ≤ length tests.old) × (4 * (first + outcome_count task.now m) ≤ length edges.old) }
-    ensures { ActionPut task.now mask weights.now sizes tests.old edges.old tests.new edges.new first m result }
+    requires { (m < states.now.pattern.now.actions) × (first + outcome_count states.now.pattern.now.task m ≤ 512) × (2 * (first + outcome_count states.now.pattern.now.task m) ≤ length tests.old) × (4 * (first + outcome_count states.now.pattern.now.task m) ≤ length edges.old) }
+    ensures { ActionPut states.now.pattern.now.task states.now.pattern.now.mask states.now.weights.now states.now.pattern.now.sizes tests.old edges.old tests.new edges.new first m result }
 {
+    let pattern = states.pattern;
+    let task = pattern.task;
     let n = task[20 * m + 2] as usize;
     let mut e = first;
     for o in 0..n {
-        e = put_edge(task, mask, weights, sizes, tests, edges, m, o, e);
+        if let Some(words) = edge_of(states, m, o) {
+            put_edge(tests, edges, e, words);
+            e += 1;
+        }
     }
     put_span(edges, first, e);
     e
@@ -172,16 +191,7 @@ pub(crate) fn make_edges(states: &States, tests: &mut [u64], edges: &mut [u64]) 
     // numbers of a set.
     while rest != 0 {
         let m = u64::trailing_zeros(rest) as usize;
-        c = put_action(
-            pattern.task,
-            pattern.mask,
-            states.weights,
-            pattern.sizes,
-            tests,
-            edges,
-            c,
-            m,
-        );
+        c = put_action(states, tests, edges, c, m);
         rest &= rest - 1;
     }
     c

@@ -1,27 +1,28 @@
 -- `put_action`: an edge for each outcome that needs one. Assumes nothing.
-use Rattle.std.proofs.Common.{◌≡◌, refl, ◌∙◌, arith}
+use Rattle.std.proofs.Common.{◌≡◌, refl, arith}
 use Rattle.tables.specs.Packed.{outcome_count}
-use Rattle.tables.proofs.Making.{acting_none, acting_next, acting_end}
+use Rattle.tables.proofs.Making.{acting_none, acting_new, acting_twin, acting_end}
 use Rattle.tables.proofs.proved_worklist.edges.put_action.Goals as goal
+use Rattle.tables.proofs.proved_worklist.edges.put_action.Goals.{in-Some, in_default}
 
 pub loop-o-init : goal.loop-o-init
-loop-o-init c = (refl, omega arith, acting_none)
+loop-o-init c = (rw (← c.pattern.view_is) refl, omega arith, acting_none)
 
-pub put_edge-e-requires : goal.put_edge-e-requires
-put_edge-e-requires c = let p = c.requires in let v = c.loop-o.invariant in let t = c.loop-o-test.true in let u = v.2.untouched in
-    (p.0, omega (arith, t, v.0, p.1), omega (arith, t, v.0, v.2.most, p.2), omega (arith, t, v.0, v.2.most, p.3, u.long_tests), omega (arith, t, v.0, v.2.most, p.4, u.long_edges))
+pub edge_of-requires : goal.edge_of-requires
+edge_of-requires c = let p = rw (← c.pattern.view_is) at c.requires in let r = c.pattern.invariant.readable in (omega (arith, p.0, r.actions_few), omega (arith, c.loop-o-test.true, r.outcomes_few _ p.0))
+
+pub put_edge-requires : goal.put_edge-requires
+put_edge-requires c = let p = c.requires in let v = c.loop-o.invariant in let t = c.loop-o-test.true in let u = v.2.untouched in
+    (omega (arith, t, v.0, v.2.most, p.1), omega (arith, t, v.0, v.2.most, p.2, u.long_tests), omega (arith, t, v.0, v.2.most, p.3, u.long_edges))
 
 pub loop-o-preserved : goal.loop-o-preserved
-loop-o-preserved c = let v = c.loop-o.invariant in let e = c.put_edge-e.ensures in (v.0, omega (arith, c.loop-o-test.true), acting_next v.2 e.0 e.1)
+loop-o-preserved c = let v = c.loop-o.invariant in elim c.match-edge_of.branch [
+  | in-Some w ↦ rw (w.tests-is, w.edges-is, w.e-is) (v.0, omega (arith, v.0, c.loop-o-test.true), acting_new v.2 w.put_edge.ensures w.in-Some.ensures.some)
+  | in_default w ↦ rw (w.tests-is, w.edges-is, w.e-is) (v.0, omega (arith, v.0, c.loop-o-test.true), acting_twin v.2 w.in_default.ensures.none)
+]
 
 pub put_span-requires : goal.put_span-requires
-put_span-requires c = let p = c.requires in let v = c.loop-o.invariant in (v.2.grows, omega (arith, v.0, v.1, v.2.most, p.2), omega (arith, v.0, v.1, v.2.most, p.4, v.2.untouched.long_edges))
-
-pub shape_of-tests : goal.shape_of-tests
-shape_of-tests c = c.loop-o.invariant.2.untouched.long_tests
-
-pub shape_of-edges : goal.shape_of-edges
-shape_of-edges c = c.put_span.ensures.long ∙ c.loop-o.invariant.2.untouched.long_edges
+put_span-requires c = let p = c.requires in let v = c.loop-o.invariant in (v.2.grows, omega (arith, v.0, v.1, v.2.most, p.1), omega (arith, v.0, v.1, v.2.most, p.3, v.2.untouched.long_edges))
 
 pub returns : goal.returns
-returns c = let l = c.loop-o in let v = l.invariant in let a = c.args in let z : l.o ≡ outcome_count a.task.now a.m = omega (arith, v.0, v.1, c.loop-o-test.false) in acting_end (rw z at v.2) c.put_span.ensures
+returns c = let l = c.loop-o in let v = l.invariant in let a = c.args in let z : l.o ≡ outcome_count a.states.now.pattern.now.task a.m = omega (arith, v.0, v.1, c.loop-o-test.false) in acting_end (rw z at v.2) c.put_span.ensures
