@@ -1,6 +1,8 @@
 -- Sets of small numbers as words, and the sets of the actions that the bytes of a packed state permit. A byte holds the digits of two
 -- variables, so a state's actions are the meet of one set for each byte. Assumes nothing.
-use Rattle.std.specs.Prelude.{◌≡◌, ℕ, zero, suc, ◌+◌, ◌*◌, ◌/◌, ◌%◌, ◌<◌, ◌≤◌, Bool, cond, ◌&&◌, ◌||◌, List, length, ◌==◌, bit_and, bit_or, nat_eq, nat_le, nat_lt, slice_index}
+use Rattle.std.specs.Prelude.{◌≡◌, ℕ, zero, suc, ◌+◌, ◌-◌, ◌*◌, ◌/◌, ◌%◌, ◌<◌, ◌≤◌, Bool, cond, MatchOption, ◌≢◌, ◌&&◌, ◌||◌, List, length, ◌==◌, bit_and, bit_or, nat_eq, nat_le, nat_lt, slice_index}
+use Rattle.std.specs.declared.option.Option.{Option}
+use Rattle.std.specs.Int.Count.{count_trailing_zeros}
 use Rattle.planning.specs.Finite.{tabulate}
 use Rattle.tables.specs.Packed.{pre_mask, pre_value}
 
@@ -8,6 +10,10 @@ use Rattle.tables.specs.Packed.{pre_mask, pre_value}
 unfoldable pub set_from : (ℕ → Bool) → ℕ → ℕ → ℕ
 set_from f m zero = 0
 set_from f m (suc n) = set_from f (m + 1) n * 2 + cond (f m) 1 0
+
+-- The lowest number is taken out of a set; of an empty one there is none.
+abbrev pub TakesLowest : ℕ → Option ℕ → ℕ → Type 0
+TakesLowest set next left = MatchOption next (set ≡ 0) (λ m. (set ≢ 0) × (m ≡ count_trailing_zeros 64 set) × (left ≡ bit_and set (set - 1)))
 
 -- What is needed of the lowest digit: its value, and 16 for none. Then the same of digit v.
 unfoldable pub lowest_need : ℕ → ℕ → ℕ

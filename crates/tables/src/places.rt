@@ -3,6 +3,7 @@
 // (its upper part). Each of the three is a sum of digits times weights, so a place is one too, and an outcome adds the same number to the places of
 // all states that it changes in the same way, modulo 2^32. A pattern of at most 4,096 states has at most six variables in either part.
 ghost use Rattle.std.specs.Iterator.{at_most};
+ghost use Rattle.tables.specs.Sets.{TakesLowest};
 
 // The lowest bit of every variable's digit.
 pub(crate) const DIGITS: u64 = 1229782938247303441;
@@ -13,6 +14,8 @@ pub(crate) struct Members(pub(crate) u64);
 
 impl Iterator for Members {
     type Item = usize;
+
+    ghost next_gives = { λ s r t. TakesLowest s.0 r t.0 };
 
     ghost remaining = { λ s. at_most s.0 };
 

@@ -10,6 +10,7 @@ ghost use Rattle.tables.specs.Patterned.{states_of};
 ghost use Rattle.tables.specs.Listed.{space_in, edges_most};
 ghost use Rattle.tables.specs.Made.{LaneOf, back_of, Same, WordsOf, words_at, Untouched, Spanned, ActionPut};
 
+use crate::places::Members;
 use crate::proved_worklist::states::States;
 use crate::sweep::index_of;
 use std::marker::Model;
@@ -186,13 +187,8 @@ pub(crate) fn make_edges(states: &States, tests: &mut [u64], edges: &mut [u64]) 
 {
     let pattern = states.pattern;
     let mut c = 0usize;
-    let mut rest = pattern.live;
-    // Stays: the step takes the lowest number out of the set, and what is known is of the set that is left; the library has no iterator over the
-    // numbers of a set.
-    while rest != 0 {
-        let m = u64::trailing_zeros(rest) as usize;
+    for m in Members(pattern.live) {
         c = put_action(states, tests, edges, c, m);
-        rest &= rest - 1;
     }
     c
 }
@@ -203,12 +199,8 @@ pub(crate) fn edge_count(task: &[u64; 1282], mask: u64, actions: usize, live: u6
     ensures { (result ≡ outcomes_from task.now mask 0 actions) × (result ≤ 512) }
 {
     let mut c = 0usize;
-    let mut rest = live;
-    // Stays: as in `make_edges`.
-    while rest != 0 {
-        let m = u64::trailing_zeros(rest) as usize;
+    for m in Members(live) {
         c += task[20 * m + 2] as usize;
-        rest &= rest - 1;
     }
     c
 }

@@ -2,8 +2,5 @@
 use Rattle.tables.proofs.Counting.{Counting}
 use Rattle.tables.proofs.proved_worklist.edges.edge_count.Given as goal
 
-abbrev pub invariant-loop-rest : goal.invariant-loop-rest
-invariant-loop-rest l = Counting l.task l.mask l.actions l.rest l.c
-
-abbrev pub decreases-loop-rest : goal.decreases-loop-rest
-decreases-loop-rest l = l.rest
+abbrev pub invariant-loop-m : goal.invariant-loop-m
+invariant-loop-m l = Counting l.task l.mask l.actions (l.m-iterator.0) l.c
