@@ -118,12 +118,6 @@ scan_none_left ok k n e = rw e
 
 -- The same with n numbers in all, i of them passed.
 module _ (ok : ℕ → Bool) (a i n : ℕ) (l : i < n) where
-  pub scan_next : ok (a + i) ≡ true → scan ok (a + i) (n - i) ≡ scan ok (a + (i + 1)) (n - (i + 1))
-  scan_next o =
-      let e : n - i ≡ suc (n - (i + 1)) = omega arith in
-      let f : a + (i + 1) ≡ a + i + 1 = omega arith in
-      rw (e, f) (scan_suc ok (a + i) (n - (i + 1)) o)
-
   pub scan_here : ok (a + i) ≡ false → scan ok (a + i) (n - i) ≡ Err (a + i)
   scan_here o = let e : n - i ≡ suc (n - (i + 1)) = omega arith in rw e (scan_stops ok (a + i) (n - (i + 1)) o)
 

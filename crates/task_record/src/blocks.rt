@@ -37,12 +37,10 @@ impl Windows {
         requires { a + 16 ≤ length c.now }
         ensures { result ≡ scan (row_fits c.now self.now.shift self.now.top a) a 16 }
     {
-        for i in 0..16usize {
-            if misfit(c[a + i], self.shift[i], self.top[i]) != 0 {
-                return Err(a + i);
-            }
+        match (0..16usize).find(|&i| misfit(c[a + i], self.shift[i], self.top[i]) != 0) {
+            Some(i) => Err(a + i),
+            None => Ok(()),
         }
-        Ok(())
     }
 
     // Whether the cells of `blocks` blocks from offset `a` on fit, or the offset of the first that does not.

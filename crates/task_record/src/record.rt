@@ -23,10 +23,7 @@ fn scan_head(rec: &[u8]) -> Result<(), usize>
     ensures { result ≡ scan (cell_ok rec.now) 0 at_sizes }
 {
     let n = variable_count(rec);
-    if n < 1 {
-        return Err(AT_VARIABLES);
-    }
-    if n > 16 {
+    if n < 1 || n > 16 {
         return Err(AT_VARIABLES);
     }
     if action_count(rec) > 64 {
@@ -108,20 +105,12 @@ fn used_blocks(rec: &[u8], m: usize) -> Option<usize>
     requires { m < 64 }
     ensures { result ≡ used_blocks rec.now m }
 {
-    let count = usize::from(cell(rec, AT_ACTIONS + ACTION_SIZE * m));
-    if m < usize::from(action_count(rec)) {
-        if count < 1 {
-            return None;
-        }
-        if count > 8 {
-            return None;
-        }
-        return Some(1 + count);
+    let is_used = m < usize::from(action_count(rec));
+    match cell(rec, AT_ACTIONS + ACTION_SIZE * m) {
+        0 if !is_used => Some(0),
+        count @ 1..=8 if is_used => Some(1 + usize::from(count)),
+        _ => None,
     }
-    if count != 0 {
-        return None;
-    }
-    Some(0)
 }
 
 fn scan_action(record: &Measured, m: usize) -> Result<(), usize>
@@ -138,6 +127,7 @@ fn scan_action(record: &Measured, m: usize) -> Result<(), usize>
     }
 }
 
+// Stays: tried as `try_for_each`: the library has no law that leads from its runs to the scan that the contract names, and `search` finds none.
 fn scan_actions(record: &Measured) -> Result<(), usize>
     ensures { result ≡ scan (cell_ok record.now.rec.now) (at_action 0) (record_size - at_action 0) }
 {

@@ -3,22 +3,17 @@ use Rattle.std.proofs.Common.{le-leb}
 use borrow.Author.Tests.{lt-leb}
 use Rattle.task_record.specs.Scan.{scan}
 use Rattle.task_record.specs.Record.{cell_ok, head_ok}
+use Rattle.task_record.proofs.record.scan_head.Goals.{then-n-lt1-via-then-n-lt1, then-n-lt1-via-else-n-lt1+then-n-gt16}
 use Rattle.task_record.proofs.record.scan_head.Goals as goal
 
 pub returns-then-n-lt1 : goal.returns-then-n-lt1
 unfolding scan cell_ok head_ok
 returns-then-n-lt1 c =
     let variable-count = c.variable_count-n in
-    let if1 = c.if-n-lt1 in
-    simp (← variable-count.ensures, lt-leb _ _ if1.true)
-
-pub returns-then-n-gt16 : goal.returns-then-n-gt16
-unfolding scan cell_ok head_ok
-returns-then-n-gt16 c =
-    let variable-count = c.variable_count-n in
-    let if1 = c.if-n-lt1 in
-    let if2 = c.if-n-gt16 in
-    simp (← variable-count.ensures, le-leb _ _ if1.false, lt-leb _ _ if2.true)
+    elim c.then-n-lt1.branch [
+      | then-n-lt1-via-then-n-lt1 w ↦ simp (← variable-count.ensures, lt-leb _ _ w.if-n-lt1.true)
+      | then-n-lt1-via-else-n-lt1+then-n-gt16 w ↦ simp (← variable-count.ensures, le-leb _ _ w.if-n-lt1.false, lt-leb _ _ w.if-n-gt16.true)
+    ]
 
 pub returns-then-action_count-gt64 : goal.returns-then-action_count-gt64
 unfolding scan cell_ok head_ok

@@ -1,52 +1,44 @@
 -- `used_blocks` by its tests. Assumes nothing.
-use Rattle.std.proofs.Common.{arith, le-ltb, lt-ltb, eq-eqb, ne_eqb, le-leb}
+use Rattle.std.proofs.Common.{◌≤◌, arith, ltb, le-ltb, lt-ltb, eq-eqb, ne_eqb, le-leb}
 use borrow.Author.Tests.{lt-leb}
+use Rattle.planning.proofs.Test.{by_test}
 use Rattle.task_record.specs.Window.{used_blocks}
 use Rattle.task_record.proofs.record.used_blocks.Goals as goal
 
-pub returns-then-count-lt1 : goal.returns-then-count-lt1
+pub returns-in-0 : goal.returns-in-0
 unfolding used_blocks
-returns-then-count-lt1 c =
-    let cell = c.cell in
-    let action-count = c.action_count in let h = c.from-count.ensures in let g = c.from.ensures in
-    let if1 = c.if-m-from in
-    let if2 = c.if-count-lt1 in
-    simp (← cell.ensures, ← action-count.ensures, lt-ltb c.args.m c.action_count.result (omega arith), lt-leb 1 c.cell.result (omega arith))
+returns-in-0 c =
+    let h = c.from.ensures in
+    let unused = c.if-not-is_used.true in
+    simp (← c.cell.ensures, ← c.action_count.ensures, le-ltb c.args.m c.action_count.result (omega arith), eq-eqb c.cell.result 0 c.in-0.is)
 
-pub returns-then-count-gt8 : goal.returns-then-count-gt8
+pub returns-in-1-to-8 : goal.returns-in-1-to-8
 unfolding used_blocks
-returns-then-count-gt8 c =
-    let cell = c.cell in
-    let action-count = c.action_count in let h = c.from-count.ensures in let g = c.from.ensures in
-    let if1 = c.if-m-from in
-    let if2 = c.if-count-lt1 in
-    let if3 = c.if-count-gt8 in
-    simp (← cell.ensures, ← action-count.ensures, lt-ltb c.args.m c.action_count.result (omega arith), le-leb 1 c.cell.result (omega arith), lt-leb c.cell.result 8 (omega arith))
+returns-in-1-to-8 c =
+    let h = c.from.ensures in
+    let used = c.if-is_used.true in
+    simp (c.from-in-1-to-8.ensures, ← c.cell.ensures, ← c.action_count.ensures, lt-ltb c.args.m c.action_count.result (omega arith), le-leb 1 c.cell.result (omega arith), le-leb c.cell.result 8 (omega arith))
 
-pub returns-then-m-from : goal.returns-then-m-from
+pub returns-in_default : goal.returns-in_default
 unfolding used_blocks
-returns-then-m-from c =
-    let cell = c.cell in
-    let action-count = c.action_count in let h = c.from-count.ensures in let g = c.from.ensures in
-    let if1 = c.if-m-from in
-    let if2 = c.if-count-lt1 in
-    let if3 = c.if-count-gt8 in
-    simp (c.from-count.ensures, ← cell.ensures, ← action-count.ensures, lt-ltb c.args.m c.action_count.result (omega arith), le-leb 1 c.cell.result (omega arith), le-leb c.cell.result 8 (omega arith))
+returns-in_default c =
+    let h = c.from.ensures in
+    let used = c.if-not-is_used.false in
+    simp (← c.cell.ensures, ← c.action_count.ensures, lt-ltb c.args.m c.action_count.result (omega arith), c.in-0.is)
 
-pub returns-then-count-ne0 : goal.returns-then-count-ne0
+pub returns-in_default-2 : goal.returns-in_default-2
 unfolding used_blocks
-returns-then-count-ne0 c =
-    let cell = c.cell in
-    let action-count = c.action_count in let h = c.from-count.ensures in let g = c.from.ensures in
-    let if1 = c.if-m-from in
-    let if4 = c.if-count-ne0 in
-    simp (← cell.ensures, ← action-count.ensures, le-ltb c.args.m c.action_count.result (omega arith), ne_eqb c.cell.result 0 (λ e. omega arith))
+returns-in_default-2 c =
+    let h = c.from.ensures in
+    let unused = c.if-is_used.false in
+    simp (← c.cell.ensures, ← c.action_count.ensures, le-ltb c.args.m c.action_count.result (omega arith), ne_eqb c.cell.result 0 (λ e. omega arith))
 
-pub returns : goal.returns
+pub returns-in_default-3 : goal.returns-in_default-3
 unfolding used_blocks
-returns c =
-    let cell = c.cell in
-    let action-count = c.action_count in let h = c.from-count.ensures in let g = c.from.ensures in
-    let if1 = c.if-m-from in
-    let if4 = c.if-count-ne0 in
-    simp (← cell.ensures, ← action-count.ensures, le-ltb c.args.m c.action_count.result (omega arith), eq-eqb c.cell.result 0 (omega arith))
+returns-in_default-3 c =
+    let h = c.from.ensures in
+    let d = c.in_default in
+    let many : 9 ≤ c.cell.result = omega arith in
+    by_test (ltb c.args.m c.action_count.result)
+    (λ e. simp (← c.cell.ensures, ← c.action_count.ensures, e, le-leb 1 c.cell.result (omega arith), lt-leb c.cell.result 8 (omega arith)))
+    (λ e. simp (← c.cell.ensures, ← c.action_count.ensures, e, ne_eqb c.cell.result 0 (λ z. omega arith)))
