@@ -2,6 +2,7 @@
 pub mod Props
 pub mod RowSums
 pub mod ByteSums
+pub mod Backward
 pub mod PlacesFilled
 pub mod RowsFilled
 pub mod RowValues

@@ -1,9 +1,11 @@
 -- Filling the blocks: sixteen sums, a block, the blocks of a pattern, and those of every pattern. Assumes nothing.
 use Rattle.std.proofs.Common.{◌≡◌, ℕ, ◌+◌, ◌-◌, ◌*◌, ◌/◌, ◌%◌, ◌<◌, ◌≤◌, true, false, ltb, ◌⊎◌, List, Option, Some, None, length, get_or, set, sym, refl, ap, ◌∙◌, inl, inr, ⊎_elim, true≢false, mul-le-mul_right, mod-eq_of_lt, arith, ltb→lt, lt-ltb, length-set, get_or-set_other, get_or-set_same}
+use Rattle.std.specs.List.{AllWithin, HoldsAt}
 use Rattle.std.specs.Option.{SomeIff, MatchOption, is_some, unwrap_or}
 use native.Mathlib.Decide.{ℕ_discrete}
 use Rattle.planning.proofs.Test.{by_test}
 use Rattle.search.specs.Value.{row_entry}
+use Rattle.search.proofs.Backward.{numbers_below, length-numbers_below, number_below}
 use Rattle.search.specs.Rows.{RowsOf}
 use Rattle.search.specs.declared.byte_rows.Places.{Places}
 use Rattle.search.specs.declared.byte_rows.Span.{Span}
@@ -68,13 +70,18 @@ unfolding digit_adds
 unused_first rows p n None h = (omega arith, λ v l. rw (lt-ltb v n l) at (h v (omega arith) l))
 unused_first rows p n (Some i) h = (omega (arith, h.1), λ v l. rw (lt-ltb v n (omega (arith, l, h.1))) at (h.3 v (omega arith) l))
 
--- One variable more that adds nothing, downward.
-unused_below : (rows : List ℕ) (p n v : ℕ) → 0 < v → ((u : ℕ) → v ≤ u → u < n → row_entry rows u 1 p ≡ 0) → row_entry rows (v - 1) 1 p ≡ 0 → (u : ℕ) → Dec (u ≡ v - 1) → v - 1 ≤ u → u < n → row_entry rows u 1 p ≡ 0
-unused_below rows p n v o h e u (yes q) l m = rw q e
-unused_below rows p n v o h e u (no q) l m = h u (omega arith) m
-
-pub unused_before : (rows : List ℕ) (p n v : ℕ) → 0 < v → ((u : ℕ) → v ≤ u → u < n → row_entry rows u 1 p ≡ 0) → row_entry rows (v - 1) 1 p ≡ 0 → (u : ℕ) → v - 1 ≤ u → u < n → row_entry rows u 1 p ≡ 0
-unused_before rows p n v o h e u = unused_below rows p n v o h e u (ℕ_discrete u (v - 1))
+-- The variables after the last that adds something, if one does.
+pub unused_last : (rows : List ℕ) (p n : ℕ) (r : Option ℕ) →
+    MatchOption r (AllWithin (λ v. digit_adds rows n p v 1 ≡ 0) (numbers_below n) 0 (length (numbers_below n))) (λ x. Unit {0} × (i : ℕ) × (i < length (numbers_below n)) × HoldsAt (λ y. y ≡ x) (numbers_below n) i × AllWithin (λ v. digit_adds rows n p v 1 ≡ 0) (numbers_below n) 0 i) →
+    MatchOption r ((v : ℕ) → v < n → row_entry rows v 1 p ≡ 0) (λ x. (x < n) × ((v : ℕ) → x < v → v < n → row_entry rows v 1 p ≡ 0))
+unfolding digit_adds
+unused_last rows p n None h = λ v l. let e : n - 1 - (n - 1 - v) ≡ v = omega arith in
+    rw (number_below n (n - 1 - v) 0 (omega arith), e, lt-ltb v n l) at (h (n - 1 - v) 0 (omega arith) (omega (arith, length-numbers_below n)))
+unused_last rows p n (Some x) h = let l : h.1 < n = omega (arith, h.2, length-numbers_below n) in let f : x ≡ n - 1 - h.1 = sym (h.3 0) ∙ number_below n h.1 0 l in (
+  omega arith,
+  λ v k m. let e : n - 1 - (n - 1 - v) ≡ v = omega arith in
+      rw (number_below n (n - 1 - v) 0 (omega arith), e, lt-ltb v n m) at (h.4 (n - 1 - v) 0 (omega arith) (omega arith)),
+)
 
 -- Rows of weights: the largest digit adds most.
 pub rows_linear : (zs : List ℕ) (ps : List (List ℕ)) (rows offsets : List ℕ) → RowsOf zs ps rows offsets → Linear rows (length ps) (length zs)

@@ -47,11 +47,9 @@ impl<'a> Column<'a> {
     pub(crate) fn end_used(&self) -> usize
         ensures { (result ≤ self.now.variables) × ((v : ℕ) → result ≤ v → v < self.now.variables → row_entry self.now.rows.now v 1 self.now.p ≡ 0) }
     {
-        for v in (0..self.variables).rev() {
-            if self.rows[(16 * v + 1) * 8 + self.p] > 0 {
-                return v + 1;
-            }
-        }
-        0
+        (0..self.variables)
+            .rev()
+            .find(|&v| self.digit_adds(v, 1) > 0)
+            .map_or(0, |v| v + 1)
     }
 }
