@@ -36,7 +36,7 @@ impl Lane {
 #[derive(Clone, Copy)]
 pub(crate) struct Edge {
     pub(crate) back: u16,
-    pub(crate) weight: u16,
+    pub(crate) weight: u64,
     pub(crate) action: usize,
     pub(crate) one: Lane,
     pub(crate) two: Lane,
@@ -64,7 +64,7 @@ impl Edge {
         let span = edges[4 * e + 3];
         Edge {
             back: (way % 65536) as u16,
-            weight: (way / 65536 % 65536) as u16,
+            weight: way / 65536 % 65536,
             action: (way / 4294967296) as usize,
             one: Lane(lanes),
             two: Lane(lanes / 4294967296),

@@ -23,8 +23,8 @@ pub(crate) struct Worklist<'a, const N: usize> {
 // Edge e into state j, whose entry is `entry`, or was so when it was taken.
 #[derive(Clone, Copy)]
 struct Arrival {
-    e: usize,
-    j: usize,
+    e: u32,
+    j: u16,
     entry: u16,
 }
 
@@ -78,7 +78,7 @@ fn offer_along(graph: &Graph, entries: &[u16], marks: &[u8], e: usize, i: usize)
         }
         most = most.max(v);
     }
-    raise(u64::from(edge.weight), most)
+    raise(edge.weight, most)
 }
 
 // How many values of a digit are gone through: one where it is not free.
@@ -127,7 +127,7 @@ impl<'a, const N: usize> Worklist<'a, N> {
         if !permits(graph.task, graph.mask, edge.action, states[i]) {
             return;
         }
-        let said = raise(u64::from(edge.weight), self.entries[j]);
+        let said = raise(edge.weight, self.entries[j]);
         if said >= self.entries[i] {
             return;
         }
@@ -151,8 +151,9 @@ impl<'a, const N: usize> Worklist<'a, N> {
         ensures { Goes (λ g. Laned g.space g.edges by.e by.j at) self.old self.new }
     {
         let graph = self.graph;
-        let edge = Edge::read(graph.edges, by.e);
-        let said = usize::from(by.entry) + usize::from(edge.weight);
+        let e = by.e as usize;
+        let edge = Edge::read(graph.edges, e);
+        let said = usize::from(by.entry) + edge.weight as usize;
         let one = usize::from(edge.one.weight());
         let two = usize::from(edge.two.weight());
         let ones = usize::from(edge.one.values());
@@ -163,7 +164,7 @@ impl<'a, const N: usize> Worklist<'a, N> {
             let mut i = row;
             for x in 0..ones {
                 if self.is_above(i, said) {
-                    self.ask(by.e, i);
+                    self.ask(e, i);
                 }
                 i += one;
             }
@@ -200,7 +201,7 @@ impl<'a, const N: usize> Worklist<'a, N> {
         let free = edge.free;
         if free == 0 {
             if edge.plain {
-                let said = usize::from(entry) + usize::from(edge.weight);
+                let said = usize::from(entry) + edge.weight as usize;
                 if !self.is_above(at, said) {
                     return;
                 }
@@ -211,9 +212,19 @@ impl<'a, const N: usize> Worklist<'a, N> {
                 self.ask(e, at);
                 return;
             }
-            self.visit_lanes(Arrival { e, j, entry }, at);
+            let by = Arrival {
+                e: e as u32,
+                j: j as u16,
+                entry,
+            };
+            self.visit_lanes(by, at);
             return;
         }
-        self.visit_free(Arrival { e, j, entry }, 0, free, at);
+        let by = Arrival {
+            e: e as u32,
+            j: j as u16,
+            entry,
+        };
+        self.visit_free(by, 0, free, at);
     }
 }

@@ -26,4 +26,4 @@ loop-f-preserved c = let p = rw (← c.graph.view_is) at c.requires in let w = c
 
 pub returns : goal.returns
 returns c = let p = rw (← c.graph.view_is) at c.requires in let w = c.graph.invariant in let k = c.type_inv.entries c.args.i in
-    rw (← c.graph.view_is) (offered_end (edges_here w p.2) p.0 p.1 (few_here w p.2) p.4 c.loop-f.invariant (omega (arith, c.loop-f-test.false, c.read-edge.ensures.end)) (omega (arith, k)) (rw (c.from.ensures, c.read-edge.ensures.weight) at c.raise.ensures))
+    rw (← c.graph.view_is) (offered_end (edges_here w p.2) p.0 p.1 (few_here w p.2) p.4 c.loop-f.invariant (omega (arith, c.loop-f-test.false, c.read-edge.ensures.end)) (omega (arith, k)) (rw c.read-edge.ensures.weight at c.raise.ensures))

@@ -15,7 +15,7 @@ pub returns-then-said-self : goal.returns-then-said-self
 unfolding permitted_at
 returns-then-said-self g c = let a = c.args in let w = a.self.now in let p = rw (← c.graph.view_is) at c.requires in let o = c.graph.invariant in let f = sym (rw c.read-edge.ensures.action at c.permits.ensures) ∙ c.if-not-permits.false in
     let s = rw (← c.graph.view_is) at w.all in
-    goes_nowhere w (rw (← c.graph.view_is) (asked_miss p.1 (queue_of w) _ (offered_only (edges_here o s) p.0 p.1 (few_here o s) f p.2 p.3 p.4 p.5 p.6 p.7 (omega arith) (omega arith) (rw (c.from.ensures, c.read-edge.ensures.weight) at c.raise-said.ensures)) c.if-said-self.true))
+    goes_nowhere w (rw (← c.graph.view_is) (asked_miss p.1 (queue_of w) _ (offered_only (edges_here o s) p.0 p.1 (few_here o s) f p.2 p.3 p.4 p.5 p.6 p.7 (omega arith) (omega arith) (rw c.read-edge.ensures.weight at c.raise-said.ensures)) c.if-said-self.true))
 
 pub returns : goal.returns
 unfolding permitted_at
@@ -28,6 +28,6 @@ returns g c = let a = c.args in let w = a.self.now in let p = rw (← c.graph.vi
       same_head = u.2;
       done = rw (← c.graph.view_is) (
           asked_hit p.1 (queue_of w) c.raise-said.result (o.edges_of.known _ p.0) f (omega arith)
-          (offered_only (edges_here o s) p.0 p.1 (few_here o s) f p.2 p.3 p.4 p.5 p.6 p.7 (omega arith) (omega arith) (rw (c.from.ensures, c.read-edge.ensures.weight) at c.raise-said.ensures)) c.if-said-self.false refl w.places u.0
+          (offered_only (edges_here o s) p.0 p.1 (few_here o s) f p.2 p.3 p.4 p.5 p.6 p.7 (omega arith) (omega arith) (rw c.read-edge.ensures.weight at c.raise-said.ensures)) c.if-said-self.false refl w.places u.0
           );
     }

@@ -11,7 +11,7 @@ pub returns-then-not-is_above : goal.returns-then-not-is_above
 unfolding way_back
 returns-then-not-is_above g c = let w = c.args.self.now in let p = rw (← c.graph.view_is) at c.requires in let r = c.read-edge.ensures in let n = r.plain c.if-edge.true in
     goes_nowhere w (rw (← c.graph.view_is) (passed_plain (omega (arith, c.from.ensures, r.back)) (sym r.free ∙ c.if-free-eq0.true) n.0 n.1 (going_none (queue_of w))
-    (λ b f z. heard_told _ _ _ _ _ _ _ _ _ (c.graph.invariant.edges_of.weight _ p.0) (omega (arith, c.from-then-edge.ensures, c.from-then-edge-2.ensures, r.weight)) p.1 b p.2 (sym c.is_above.ensures.0 ∙ c.if-not-is_above.true) c.is_above.ensures.1 z)))
+    (λ b f z. heard_told _ _ _ _ _ _ _ _ _ (c.graph.invariant.edges_of.weight _ p.0) (omega (arith, c.from-then-edge.ensures, r.weight)) p.1 b p.2 (sym c.is_above.ensures.0 ∙ c.if-not-is_above.true) c.is_above.ensures.1 z)))
 
 pub ask_only-requires : goal.ask_only-requires
 unfolding way_back

@@ -29,7 +29,7 @@ loop-x-preserved g c = let p = c.requires in let r = c.read-edge.ensures in let 
       elim c.if-is_above.branch [
         | then-is_above w ↦ rw w.self-is (goes_then v.0 w.ask.ensures (λ a. rw (o.0.same_graph, ← c.graph.view_is) (cells_next (rw (o.0.same_graph, ← c.graph.view_is) at v.0.done) _ q (rw (o.0.same_graph, ← c.graph.view_is) at a).going (λ b f z. (rw (o.0.same_graph, ← c.graph.view_is) at a).heard f))))
         | else-is_above w ↦ rw w.self-is (goes_as v.0 (λ a. rw (o.0.same_graph, ← c.graph.view_is) (cells_next (rw (o.0.same_graph, ← c.graph.view_is) at a) _ q (going_none a.going.queue)
-            (λ b f z. heard_told _ _ _ _ _ _ _ _ _ (c.graph.invariant.edges_of.weight _ (rw (← c.graph.view_is) at p.0)) (omega (arith, c.from.ensures, c.from-2.ensures, r.weight)) (omega (arith, l, p.1)) b (told_moved a.going.moved (told_moved o.0.done.going.moved p.2)) (sym c.is_above.ensures.0 ∙ w.if-is_above.false) c.is_above.ensures.1 z))))
+            (λ b f z. heard_told _ _ _ _ _ _ _ _ _ (c.graph.invariant.edges_of.weight _ (rw (← c.graph.view_is) at p.0)) (omega (arith, c.from.ensures, r.weight)) (omega (arith, l, p.1)) b (told_moved a.going.moved (told_moved o.0.done.going.moved p.2)) (sym c.is_above.ensures.0 ∙ w.if-is_above.false) c.is_above.ensures.1 z))))
       ],
       omega (arith, v.1),
       omega (arith, v.2, c.from-one.ensures),
