@@ -1,5 +1,5 @@
 -- Laws of what an action says along its edges, and of asking it about one state. Assumes nothing.
-use Rattle.std.proofs.Common.{◌≡◌, ℕ, zero, suc, ◌+◌, ◌*◌, ◌<◌, ◌≤◌, min, max, true, false, ◌⊎◌, List, length, get_or, drop, set, sym, refl, ap, ◌∙◌, inl, inr, mul-le-mul, zero-add, arith, length-set, drop_of_length-le, get_or-set_other, le-ltb}
+use Rattle.std.proofs.Common.{◌≡◌, ℕ, zero, suc, ◌+◌, ◌*◌, ◌<◌, ◌≤◌, min, max, true, false, ◌⊎◌, Bool, List, length, get_or, drop, set, sym, refl, ap, ◌∙◌, inl, inr, mul-le-mul, zero-add, arith, length-set, drop_of_length-le, get_or-set_other, le-ltb}
 use native.Mathlib.Decide.{ℕ_discrete, dec_lt}
 use lib.Bits.{bit_and, and_zero_r}
 use lib.ListN.{get_or-eq_default}
@@ -107,11 +107,11 @@ module _ {x : Space} {sizes ts es t : List ℕ} {k e i f most : ℕ} (o : EdgesO
     }
 
     -- An entry is infinite, or its state waits.
-    pub offered_infinite : {marks : List ℕ} {r : ℕ} → r ≡ 65535 → get_or t i 0 ≤ 65535 → v ≡ 65535 → Offered x t marks (edge_action es e) i r
+    pub offered_infinite : {marks : List Bool} {r : ℕ} → r ≡ 65535 → get_or t i 0 ≤ 65535 → v ≡ 65535 → Offered x t marks (edge_action es e) i r
     offered_infinite q c z = let a = here d in let y : get_or t (index_after x (edge_action es e) i a.0) 65535 ≡ 65535 = rw (a.2, sym at) (sym is ∙ z) in
         record { said = λ h. absurd (omega (arith, h, q)); nothing = λ h. low (outcome_bound x t (edge_action es e) i a.0 (get_or t i 0) a.1 c (omega (arith, y, c))) }
 
-    pub offered_waits : {marks : List ℕ} {r : ℕ} → r ≡ 65535 → Waits marks j → Offered x t marks (edge_action es e) i r
+    pub offered_waits : {marks : List Bool} {r : ℕ} → r ≡ 65535 → Waits marks j → Offered x t marks (edge_action es e) i r
     offered_waits q z = let a = here d in record { said = λ h. absurd (omega (arith, h, q)); nothing = λ h. later a.0 a.1 (rw (a.2, sym at) z) }
 
   -- Every outcome has an edge, so the largest entry of the edges is that of the outcomes.
@@ -121,7 +121,7 @@ module _ {x : Space} {sizes ts es t : List ℕ} {k e i f most : ℕ} (o : EdgesO
       let s = way_on x ts es a.0 i (index_after x (edge_action es e) i n) (omega (arith, b, few)) (a.2.back i b p) in
       let h = rw s at (w.over a.0 a.1.after (omega (arith, a.1.before, d))) in rw z h)
 
-  pub offered_end : {marks : List ℕ} {r : ℕ} → edge_end es e ≤ f → get_or t i 0 ≤ 65535 → r ≡ raised (edge_weight es e) most → Offered x t marks (edge_action es e) i r
+  pub offered_end : {marks : List Bool} {r : ℕ} → edge_end es e ≤ f → get_or t i 0 ≤ 65535 → r ≡ raised (edge_weight es e) most → Offered x t marks (edge_action es e) i r
   unfolding offer_at offer
   offered_end d c q = let z : most ≡ worst (outcome_entry x.task x.mask x.weights t (edge_action es e) (get_or x.states i 0)) 0 (outcome_count x.task (edge_action es e)) = omega (arith, w.met, all_over d) in
       let y = q ∙ rw (o.weight e l) (raised_cut (action_weight x.task (edge_action es e)) most) ∙ ap (raised (action_weight x.task (edge_action es e))) z in
@@ -134,7 +134,7 @@ only_on x es e i j d m n f a = let s = get_or x.states i 0 in
     rw (lane_none (edge_lanes es e) s m, lane_none (lane_after (edge_lanes es e)) s n, weigh_apart x.weights s (edge_free es e) f) (omega (arith, a, d))
 
 -- Where it is the only edge of its action, that says its weight and the entry of j.
-pub offered_only : {x : Space} {sizes ts es t marks : List ℕ} {k e i j r : ℕ} → EdgesOf x sizes (length t) ts es k → e < k → i < length t → length t ≤ 4096 → permitted_at x (edge_action es e) i ≡ true →
+pub offered_only : {x : Space} {sizes ts es t : List ℕ} {marks : List Bool} {k e i j r : ℕ} → EdgesOf x sizes (length t) ts es k → e < k → i < length t → length t ≤ 4096 → permitted_at x (edge_action es e) i ≡ true →
     j < length t → lane_weight (edge_lanes es e) ≡ 0 → lane_weight (lane_after (edge_lanes es e)) ≡ 0 → edge_free es e ≡ 0 → i ≡ way_back es e j → edge_end es e ≡ edge_first es e + 1 →
     get_or t i 0 ≤ 65535 → get_or t j 0 ≤ 65535 → r ≡ raised (edge_weight es e) (get_or t j 0) → Offered x t marks (edge_action es e) i r
 offered_only {x} {sizes} {ts} {es} {t} {marks} {k} {e} {i} {j} {r} o l b few p d m n f a single c u q = either (ℕ_discrete (get_or t j 0) 65535)
@@ -156,7 +156,7 @@ offered_only {x} {sizes} {ts} {es} {t} {marks} {k} {e} {i} {j} {r} o l b few p d
     either (no z) = offered_end o l b few p (offering_next o l b few p start j (get_or t j 0) first is near (get_or t j 0) (omega arith) u z) (omega (arith, single)) c q
 
 -- The action is asked about one state.
-module _ {x : Space} {m i : ℕ} {t q marks : List ℕ} {h c : ℕ} (l : i < length t) (k : Queue (length t) q marks h c) where
+module _ {x : Space} {m i : ℕ} {t q : List ℕ} {marks : List Bool} {h c : ℕ} (l : i < length t) (k : Queue (length t) q marks h c) where
   pub asked_never : permitted_at x m i ≡ false → Asked x m i t marks c t q marks h c
   asked_never e = record { going = going_none k; heard = λ p. false_true (sym e ∙ p) }
 
@@ -167,7 +167,7 @@ module _ {x : Space} {m i : ℕ} {t q marks : List ℕ} {h c : ℕ} (l : i < len
       either (yes a) = low (omega (arith, o.said a, b))
       either (no a) = o.nothing (omega arith)
 
-  hit : {q₁ marks₁ : List ℕ} {d : ℕ} → m < x.actions → permitted_at x m i ≡ true → offer_at x t m i < get_or t i 0 → Put (length t) q marks h c i q₁ marks₁ d → Asked x m i t marks c (set t i (offer_at x t m i)) q₁ marks₁ h d
+  hit : {q₁ : List ℕ} {marks₁ : List Bool} {d : ℕ} → m < x.actions → permitted_at x m i ≡ true → offer_at x t m i < get_or t i 0 → Put (length t) q marks h c i q₁ marks₁ d → Asked x m i t marks c (set t i (offer_at x t m i)) q₁ marks₁ h d
   hit {q₁} {marks₁} {d} a e f p = let w = offer_at x t m i in let n = total-set t i w l in let b : w ≤ get_or t i 0 = omega (arith, f) in record {
     going = record {
       moved = record {
@@ -187,6 +187,6 @@ module _ {x : Space} {m i : ℕ} {t q marks : List ℕ} {h c : ℕ} (l : i < len
       changed w z j (yes g) = inr (rw g z)
       changed w z j (no g) = inl (get_or-set_other t i j w 0 g)
 
-  pub asked_hit : {u q₁ marks₁ : List ℕ} {n d : ℕ} (v : ℕ) → m < x.actions → permitted_at x m i ≡ true → get_or t i 0 ≤ 65535 → Offered x t marks m i v → v < get_or t i 0 → u ≡ set t i v → n ≡ length t →
+  pub asked_hit : {u q₁ : List ℕ} {marks₁ : List Bool} {n d : ℕ} (v : ℕ) → m < x.actions → permitted_at x m i ≡ true → get_or t i 0 ≤ 65535 → Offered x t marks m i v → v < get_or t i 0 → u ≡ set t i v → n ≡ length t →
       Put n q marks h c i q₁ marks₁ d → Asked x m i t marks c u q₁ marks₁ h d
   asked_hit v a e b o f g y p = let z = o.said (omega (arith, b, f)) in let g₁ = rw z at g in rw g₁ (hit a e (omega (arith, z, f)) (rw y at p))

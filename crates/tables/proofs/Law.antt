@@ -1,7 +1,7 @@
 -- The law of the worklist: what it keeps holds at the start with all goals waiting, when an entry is lowered and its state waits, and when
 -- a state is taken out once every action that leads to it was heard. When nothing waits, or nothing that waits can lower an entry, the
 -- entries are settled. Assumes nothing.
-use Rattle.std.proofs.Common.{◌≡◌, ℕ, zero, suc, ◌+◌, ◌<◌, ◌≤◌, true, cond, eqb, ltb, List, length, get_or, set, refl, ap, ◌∙◌, inl, inr, ⊎_elim, zero-add, arith, get_or-set_other, get_or-set_same}
+use Rattle.std.proofs.Common.{◌≡◌, ℕ, zero, suc, ◌+◌, ◌<◌, ◌≤◌, true, cond, eqb, ltb, Bool, List, length, get_or, set, refl, ap, ◌∙◌, inl, inr, ⊎_elim, zero-add, arith, get_or-set_other, get_or-set_same}
 use native.Mathlib.Decide.{ℕ_discrete, dec_lt}
 use lib.ListN.{get_or-eq_default}
 use Rattle.planning.specs.Finite.{any_from}
@@ -49,7 +49,7 @@ leads_or x m i j f g = by_test (any_from 0 (outcome_count x.task m) (λ o. eqb (
     f (record { outcome = a.0; known = omega (arith, a.1); there = lib.Dec.eqb→eq (index_after x m i a.0) j a.2 }))
     (λ e. g (λ o l q. rw e at (any_in 0 (outcome_count x.task m) (λ o. eqb (index_after x m i o) j) o (omega arith) (omega arith) (rw (borrow.Author.Tests.eq-eqb (index_after x m i o) j q) tt))))
 
-leads_later : (x : Space) (t marks : List ℕ) (m i j : ℕ) → Waits marks j → Leads x m i j → Heard x t marks m i
+leads_later : (x : Space) (t : List ℕ) (marks : List Bool) (m i j : ℕ) → Waits marks j → Leads x m i j → Heard x t marks m i
 leads_later x t marks m i j w a = later a.outcome a.known (rw a.there w)
 
 set_lower : (u : List ℕ) (i j v : ℕ) → i < length u → v ≤ get_or u i 0 → Dec (j ≡ i) → get_or (set u i v) j 0 ≤ get_or u j 0
@@ -57,7 +57,7 @@ set_lower u i j v l h (yes e) = rw (e, get_or-set_same u i v 0 l) (omega arith)
 set_lower u i j v l h (no n) = rw (get_or-set_other u i j v 0 n) (omega arith)
 
 -- An entry is lowered, and its state waits.
-module _ (x : Space) (t marks marks₁ : List ℕ) (m i v : ℕ) (l : i < length t) (less : v ≤ get_or t i 0) (still : (j : ℕ) → Waits marks j → Waits marks₁ j) (here : Waits marks₁ i) where
+module _ (x : Space) (t : List ℕ) (marks marks₁ : List Bool) (m i v : ℕ) (l : i < length t) (less : v ≤ get_or t i 0) (still : (j : ℕ) → Waits marks j → Waits marks₁ j) (here : Waits marks₁ i) where
   pub heard_lowered : (n j : ℕ) → Heard x t marks n j → Heard x (set t i v) marks₁ n j
   heard_lowered n j (later o b w) = later o b (still (index_after x n j o) w)
   heard_lowered n j (low h) = leads_or x n j i (leads_later x (set t i v) marks₁ n j i here)
@@ -68,7 +68,7 @@ module _ (x : Space) (t marks marks₁ : List ℕ) (m i v : ℕ) (l : i < length
       (λ f. low (omega (arith, offer_same x t m i i v f, get_or-set_same t i v 0 l)))
 
 -- The start, with every goal waiting.
-module _ (x : Space) (n : ℕ) (marks : List ℕ) (acting : (m : ℕ) → m < x.actions → 1 ≤ outcome_count x.task m) (goals : (j : ℕ) → j < n → is_goal x.task x.mask (get_or x.states j 0) ≡ true → Waits marks j) where
+module _ (x : Space) (n : ℕ) (marks : List Bool) (acting : (m : ℕ) → m < x.actions → 1 ≤ outcome_count x.task m) (goals : (j : ℕ) → j < n → is_goal x.task x.mask (get_or x.states j 0) ≡ true → Waits marks j) where
   abbrev first : List ℕ
   first = started x.task x.mask x.states n
 
@@ -93,7 +93,7 @@ module _ (x : Space) (n : ℕ) (marks : List ℕ) (acting : (m : ℕ) → m < x.
   kept_start = record { steps = none; heard = λ m i a l. first_heard m i a.known (let k : length first ≡ n = length-tabulate _ 0 n in omega (arith, k)) (index_after x m i 0) refl (dec_lt (index_after x m i 0) n) }
 
 -- When nothing waits, the entries are settled.
-pub kept_settled : (x : Space) (first t marks : List ℕ) → ((j : ℕ) → Waits marks j → ⊥) → Kept x first t marks → Settled x first t
+pub kept_settled : (x : Space) (first t : List ℕ) (marks : List Bool) → ((j : ℕ) → Waits marks j → ⊥) → Kept x first t marks → Settled x first t
 kept_settled x begun t marks quiet k = record { steps = k.steps; stable = record { low = λ m i l b q p. from m i (k.heard m i (record { known = l; moves = q; enabled = p }) b) } }
   where
     from : (m i : ℕ) → Heard x t marks m i → get_or t i 0 ≤ offer_at x t m i
@@ -105,7 +105,7 @@ pub raised-least : (e w v : ℕ) → e ≤ 65535 → e ≤ w + v → e ≤ raise
 unfolding raised
 raised-least e w v b l = by_test (ltb (w + v) 65535) (λ h. rw h l) (λ h. rw h b)
 
-pub kept_level : (x : Space) (first t marks : List ℕ) → ((m : ℕ) → m < x.actions → 1 ≤ action_weight x.task m) → ((j : ℕ) → Waits marks j → j < length t) →
+pub kept_level : (x : Space) (first t : List ℕ) (marks : List Bool) → ((m : ℕ) → m < x.actions → 1 ≤ action_weight x.task m) → ((j : ℕ) → Waits marks j → j < length t) →
     Level t marks → Kept x first t marks → Settled x first t
 unfolding offer_at offer outcome_entry index_after
 kept_level x first t marks light known v k =
@@ -121,10 +121,10 @@ kept_level x first t marks light known v k =
         raised-least (get_or t i 0) (action_weight x.task m) (worst f 0 (outcome_count x.task m)) (v.small i c) (omega (arith, v.near i j c w (known j w), light m l, z, a₁))
 
 -- Changes one after the other.
-pub moved_none : (x : Space) (t marks : List ℕ) (c : ℕ) → Moved x t marks c t marks c
+pub moved_none : (x : Space) (t : List ℕ) (marks : List Bool) (c : ℕ) → Moved x t marks c t marks c
 moved_none x t marks c = record { long = refl; steps = none; keeps = λ m i h. h; lowered = λ j. inl refl; still = λ j w. w; falls = omega arith }
 
-pub moved_then : {x : Space} {t u v a b d : List ℕ} {k l n : ℕ} → Moved x t a k u b l → Moved x u b l v d n → Moved x t a k v d n
+pub moved_then : {x : Space} {t u v : List ℕ} {a b d : List Bool} {k l n : ℕ} → Moved x t a k u b l → Moved x u b l v d n → Moved x t a k v d n
 moved_then p q = record {
   long = q.long ∙ p.long;
   steps = then p.steps q.steps;
@@ -135,12 +135,12 @@ moved_then p q = record {
 }
 
 -- What was told of an entry is still so, or its state waits again.
-pub told_moved : {x : Space} {t marks new marks₁ : List ℕ} {c d j e : ℕ} → Moved x t marks c new marks₁ d → Told t marks j e → Told new marks₁ j e
+pub told_moved : {x : Space} {t : List ℕ} {marks : List Bool} {new : List ℕ} {marks₁ : List Bool} {c d j e : ℕ} → Moved x t marks c new marks₁ d → Told t marks j e → Told new marks₁ j e
 told_moved {j = j} p (is h) = ⊎_elim (λ e. is (e ∙ h)) again (p.lowered j)
 told_moved {j = j} p (again w) = again (p.still j w)
 
 -- A state was taken out, and then every action that leads to it was heard: what the worklist keeps is kept.
-pub kept_visited : {x : Space} {first t marks marks₁ new marks₂ : List ℕ} {c d : ℕ} (j : ℕ) → ((k : ℕ) → (k ≡ j → ⊥) → Waits marks k → Waits marks₁ k) → Moved x t marks₁ c new marks₂ d →
+pub kept_visited : {x : Space} {first t : List ℕ} {marks marks₁ : List Bool} {new : List ℕ} {marks₂ : List Bool} {c d : ℕ} (j : ℕ) → ((k : ℕ) → (k ≡ j → ⊥) → Waits marks k → Waits marks₁ k) → Moved x t marks₁ c new marks₂ d →
     ((m i : ℕ) → Asks x m i → i < length new → Leads x m i j → Heard x new marks₂ m i) → Kept x first t marks → Kept x first new marks₂
 kept_visited {x} {first} {t} {marks} {marks₁} {new} {marks₂} j h p f k = record {
   steps = then k.steps p.steps;

@@ -13,7 +13,7 @@ use Rattle.tables.proofs.SetWords.{Left, left_all, Next, next_left, none_left}
 use Rattle.tables.proofs.Visiting.{going_none, going_then}
 
 -- The edges of a set, so far.
-pub record RowGoing (x : Space) (ts es : List ℕ) (w k j c rest : ℕ) (t marks : List ℕ) (a : ℕ) (new q₁ marks₁ : List ℕ) (h d : ℕ) : Type 0 where
+pub record RowGoing (x : Space) (ts es : List ℕ) (w k j c rest : ℕ) (t : List ℕ) (marks : List Bool) (a : ℕ) (new q₁ : List ℕ) (marks₁ : List Bool) (h d : ℕ) : Type 0 where
   pub chosen : ℕ → Bool
   pub count : ℕ
   pub few : count ≤ 64
@@ -25,17 +25,17 @@ pub record RowGoing (x : Space) (ts es : List ℕ) (w k j c rest : ℕ) (t marks
   pub going : Going x t marks a new q₁ marks₁ h d
   pub heard : (q i : ℕ) → q < from → q < count → i < length new → permitted_at x (edge_action es (64 * c + q)) i ≡ true → Leads x (edge_action es (64 * c + q)) i j → Before x ts es (64 * c + q) i j → Heard x new marks₁ (edge_action es (64 * c + q)) i
 
-pub row_start : {x : Space} {ts es : List ℕ} {w k j c set : ℕ} {t q marks : List ℕ} {h a : ℕ} → Row ts w k c set → Queue (length t) q marks h a → RowGoing x ts es w k j c set t marks a t q marks h a
+pub row_start : {x : Space} {ts es : List ℕ} {w k j c set : ℕ} {t q : List ℕ} {marks : List Bool} {h a : ℕ} → Row ts w k c set → Queue (length t) q marks h a → RowGoing x ts es w k j c set t marks a t q marks h a
 row_start {set = set} r v = record { chosen = r.chosen; count = r.count; few = r.few; inside = r.inside; whole = r.whole; missed = r.missed; from = 0; left = left_all r.chosen r.count set r.is; going = going_none v; heard = λ q i l. absurd (omega arith) }
 
-module _ {x : Space} {ts es : List ℕ} {w k j c rest : ℕ} {t marks u p b : List ℕ} {h a l : ℕ} (same : w ≡ get_or x.states j 0) (v : RowGoing x ts es w k j c rest t marks a u p b h l) where
+module _ {x : Space} {ts es : List ℕ} {w k j c rest : ℕ} {t : List ℕ} {marks : List Bool} {u p : List ℕ} {b : List Bool} {h a l : ℕ} (same : w ≡ get_or x.states j 0) (v : RowGoing x ts es w k j c rest t marks a u p b h l) where
   next_row : (rest ≡ 0 → ⊥) → Next v.chosen v.from v.count rest
   next_row some = next_left v.chosen v.from v.count rest v.few v.left some
 
   pub row_known : (rest ≡ 0 → ⊥) → (count_trailing_zeros 64 rest < 64) × (64 * c + count_trailing_zeros 64 rest < k)
   row_known some = let g = (next_row some).within in (omega (arith, g, v.few), omega (arith, g, v.inside))
 
-  pub row_next : {new q d : List ℕ} {n : ℕ} → (rest ≡ 0 → ⊥) → Passed x ts es (64 * c + count_trailing_zeros 64 rest) j u b l new q d h n → RowGoing x ts es w k j c (bit_and rest (rest - 1)) t marks a new q d h n
+  pub row_next : {new q : List ℕ} {d : List Bool} {n : ℕ} → (rest ≡ 0 → ⊥) → Passed x ts es (64 * c + count_trailing_zeros 64 rest) j u b l new q d h n → RowGoing x ts es w k j c (bit_and rest (rest - 1)) t marks a new q d h n
   row_next {new} {q} {d} some g = record {
     chosen = v.chosen;
     count = v.count;
@@ -62,15 +62,15 @@ module _ {x : Space} {ts es : List ℕ} {w k j c rest : ℕ} {t marks u p b : Li
       either q i y e f r s (no n) = absurd (v.missed q y (none_left v.chosen v.from v.count rest v.left z q (omega arith) y) (rw same s.passes))
 
 -- The rows below c.
-pub record RowsGoing (x : Space) (ts es : List ℕ) (k j c : ℕ) (t marks : List ℕ) (a : ℕ) (new q₁ marks₁ : List ℕ) (h d : ℕ) : Type 0 where
+pub record RowsGoing (x : Space) (ts es : List ℕ) (k j c : ℕ) (t : List ℕ) (marks : List Bool) (a : ℕ) (new q₁ : List ℕ) (marks₁ : List Bool) (h d : ℕ) : Type 0 where
   pub going : Going x t marks a new q₁ marks₁ h d
   pub heard : (f i : ℕ) → f < 64 * c → f < k → i < length new → permitted_at x (edge_action es f) i ≡ true → Leads x (edge_action es f) i j → Before x ts es f i j → Heard x new marks₁ (edge_action es f) i
 
-pub rows_start : {x : Space} {ts es : List ℕ} {k j : ℕ} {t q marks : List ℕ} {h a : ℕ} → Queue (length t) q marks h a → RowsGoing x ts es k j 0 t marks a t q marks h a
+pub rows_start : {x : Space} {ts es : List ℕ} {k j : ℕ} {t q : List ℕ} {marks : List Bool} {h a : ℕ} → Queue (length t) q marks h a → RowsGoing x ts es k j 0 t marks a t q marks h a
 rows_start v = record { going = going_none v; heard = λ f i l. absurd (omega arith) }
 
-module _ {x : Space} {ts es : List ℕ} {k j c : ℕ} {t marks u p b : List ℕ} {h a l : ℕ} (v : RowsGoing x ts es k j c t marks a u p b h l) where
-  pub rows_next : {new q d : List ℕ} {n : ℕ} → RowDone x ts es k j c u b l new q d h n → RowsGoing x ts es k j (c + 1) t marks a new q d h n
+module _ {x : Space} {ts es : List ℕ} {k j c : ℕ} {t : List ℕ} {marks : List Bool} {u p : List ℕ} {b : List Bool} {h a l : ℕ} (v : RowsGoing x ts es k j c t marks a u p b h l) where
+  pub rows_next : {new q : List ℕ} {d : List Bool} {n : ℕ} → RowDone x ts es k j c u b l new q d h n → RowsGoing x ts es k j (c + 1) t marks a new q d h n
   rows_next {new} {q} {d} g = record { going = going_then v.going g.going; heard = λ f i o y e r s z. either f i o y e r s z (dec_lt f (64 * c)) }
     where
       either : (f i : ℕ) → f < 64 * (c + 1) → f < k → i < length new → permitted_at x (edge_action es f) i ≡ true → Leads x (edge_action es f) i j → Before x ts es f i j → Dec (f < 64 * c) → Heard x new d (edge_action es f) i
@@ -89,7 +89,7 @@ module _ {x : Space} {ts es : List ℕ} {k j c : ℕ} {t marks u p b : List ℕ}
 pub rows_as : {states ts sets : List ℕ} {n l k lower upper : ℕ} → n ≡ l → Incoming states ts n k lower upper sets → Incoming states ts l k lower upper sets
 rows_as e g = rw e at g
 
-pub queue_as : {n l h c : ℕ} {q marks : List ℕ} → n ≡ l → Queue n q marks h c → Queue l q marks h c
+pub queue_as : {n l h c : ℕ} {q : List ℕ} {marks : List Bool} → n ≡ l → Queue n q marks h c → Queue l q marks h c
 queue_as e g = rw e at g
 
 -- Room for so many rows of sets of all parts.

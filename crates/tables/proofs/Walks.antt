@@ -1,5 +1,5 @@
 -- Laws of going back along an edge: over the values of two lanes, then over those of the other free digits. Assumes nothing.
-use Rattle.std.proofs.Common.{◌≡◌, ℕ, suc, ◌+◌, ◌*◌, ◌/◌, ◌%◌, ◌^◌, ◌<◌, ◌≤◌, min, true, false, ltb, ◌⊎◌, List, length, get_or, drop, sym, ap, ◌∙◌, ⊎_elim, pow-suc, arith, ltb-false, ltb-true, lt-ltb, eq-eqb, ne_eqb}
+use Rattle.std.proofs.Common.{◌≡◌, ℕ, suc, ◌+◌, ◌*◌, ◌/◌, ◌%◌, ◌^◌, ◌<◌, ◌≤◌, min, true, false, ltb, ◌⊎◌, Bool, List, length, get_or, drop, sym, ap, ◌∙◌, ⊎_elim, pow-suc, arith, ltb-false, ltb-true, lt-ltb, eq-eqb, ne_eqb}
 use native.Mathlib.Nat.{div-div-eq-div-mul}
 use native.Mathlib.Decide.{dec_lt, ℕ_discrete}
 use lib.Bits.{bit_and, and_zero_r}
@@ -18,7 +18,7 @@ use Rattle.tables.proofs.Visiting.{going_none, going_then}
 use Rattle.tables.proofs.Asking.{weigh-over, weigh_apart, lane_none, entry_met}
 
 -- Where the entry is at most the action's weight and the entry of j, the action need not be asked.
-heard_enough : (x : Space) (t marks : List ℕ) (m i j : ℕ) → j < length t → get_or t i 0 ≤ 65535 → get_or t i 0 ≤ action_weight x.task m + get_or t j 0 → Leads x m i j → Heard x t marks m i
+heard_enough : (x : Space) (t : List ℕ) (marks : List Bool) (m i j : ℕ) → j < length t → get_or t i 0 ≤ 65535 → get_or t i 0 ≤ action_weight x.task m + get_or t j 0 → Leads x m i j → Heard x t marks m i
 unfolding offer_at offer
 heard_enough x t marks m i j b c l a =
     let w = worst (outcome_entry x.task x.mask x.weights t m (get_or x.states i 0)) 0 (outcome_count x.task m) in
@@ -27,7 +27,7 @@ heard_enough x t marks m i j b c l a =
     low (raised-least (get_or t i 0) (action_weight x.task m) w c (omega (arith, l, h, e)))
 
 -- What was told of entry j, and that an entry is not above it and the edge's weight, is enough.
-pub heard_told : (x : Space) (t marks : List ℕ) (m i j e w said : ℕ) → w ≡ min (action_weight x.task m) 65535 → said ≡ e + w → j < length t → i < length t → Told t marks j e → above t i said ≡ false → get_or t i 0 ≤ 65535 →
+pub heard_told : (x : Space) (t : List ℕ) (marks : List Bool) (m i j e w said : ℕ) → w ≡ min (action_weight x.task m) 65535 → said ≡ e + w → j < length t → i < length t → Told t marks j e → above t i said ≡ false → get_or t i 0 ≤ 65535 →
     Leads x m i j → Heard x t marks m i
 unfolding above
 heard_told x t marks m i j e w said p q b l (again k) n c a = later a.outcome a.known (rw a.there k)
@@ -55,30 +55,30 @@ abbrev two : Space → List ℕ → ℕ → ℕ → ℕ
 two x es e i = lane_value (lane_after (edge_lanes es e)) (get_or x.states i 0)
 
 -- The values of the second lane below y were gone through; and with its value y those of the first below z.
-pub record Rows (x : Space) (es : List ℕ) (e j at y : ℕ) (t marks : List ℕ) (c : ℕ) (new q₁ marks₁ : List ℕ) (h d : ℕ) : Type 0 where
+pub record Rows (x : Space) (es : List ℕ) (e j at y : ℕ) (t : List ℕ) (marks : List Bool) (c : ℕ) (new q₁ : List ℕ) (marks₁ : List Bool) (h d : ℕ) : Type 0 where
   pub going : Going x t marks c new q₁ marks₁ h d
   pub heard : (i : ℕ) → i < length new → permitted_at x (edge_action es e) i ≡ true → Leads x (edge_action es e) i j → one x es e i < lane_values (edge_lanes es e) → two x es e i < y →
       i ≡ at + lane_sum (edge_lanes es e) (get_or x.states i 0) + lane_sum (lane_after (edge_lanes es e)) (get_or x.states i 0) → Heard x new marks₁ (edge_action es e) i
 
-pub record Cells (x : Space) (es : List ℕ) (e j at y z : ℕ) (t marks : List ℕ) (c : ℕ) (new q₁ marks₁ : List ℕ) (h d : ℕ) : Type 0 where
+pub record Cells (x : Space) (es : List ℕ) (e j at y z : ℕ) (t : List ℕ) (marks : List Bool) (c : ℕ) (new q₁ : List ℕ) (marks₁ : List Bool) (h d : ℕ) : Type 0 where
   pub going : Going x t marks c new q₁ marks₁ h d
   pub heard : (i : ℕ) → i < length new → permitted_at x (edge_action es e) i ≡ true → Leads x (edge_action es e) i j → one x es e i < z → two x es e i ≡ y →
       i ≡ at + lane_sum (edge_lanes es e) (get_or x.states i 0) + lane_sum (lane_after (edge_lanes es e)) (get_or x.states i 0) → Heard x new marks₁ (edge_action es e) i
 
-pub rows_start : {x : Space} {es : List ℕ} {e j at : ℕ} {t q marks : List ℕ} {h c : ℕ} → Queue (length t) q marks h c → Rows x es e j at 0 t marks c t q marks h c
+pub rows_start : {x : Space} {es : List ℕ} {e j at : ℕ} {t q : List ℕ} {marks : List Bool} {h c : ℕ} → Queue (length t) q marks h c → Rows x es e j at 0 t marks c t q marks h c
 rows_start k = record { going = going_none k; heard = λ i b f g n l. absurd (omega arith) }
 
-pub cells_start : {x : Space} {es : List ℕ} {e j at y : ℕ} {t q marks : List ℕ} {h c : ℕ} → Queue (length t) q marks h c → Cells x es e j at y 0 t marks c t q marks h c
+pub cells_start : {x : Space} {es : List ℕ} {e j at y : ℕ} {t q : List ℕ} {marks : List Bool} {h c : ℕ} → Queue (length t) q marks h c → Cells x es e j at y 0 t marks c t q marks h c
 cells_start k = record { going = going_none k; heard = λ i b f g l. absurd (omega arith) }
 
-module _ {x : Space} {es : List ℕ} {e j at y z : ℕ} {t marks u p b : List ℕ} {h c k : ℕ} (w : Cells x es e j at y z t marks c u p b h k) where
+module _ {x : Space} {es : List ℕ} {e j at y z : ℕ} {t : List ℕ} {marks : List Bool} {u p : List ℕ} {b : List Bool} {h c k : ℕ} (w : Cells x es e j at y z t marks c u p b h k) where
   same : (i i₀ : ℕ) → i₀ ≡ at + y * lane_weight (lane_after (edge_lanes es e)) + z * lane_weight (edge_lanes es e) → one x es e i ≡ z → two x es e i ≡ y →
       i ≡ at + lane_sum (edge_lanes es e) (get_or x.states i 0) + lane_sum (lane_after (edge_lanes es e)) (get_or x.states i 0) → i ≡ i₀
   same i i₀ s f g r = let a = rw f at (lane_sum-value (edge_lanes es e) (get_or x.states i 0)) in
       let d = rw g at (lane_sum-value (lane_after (edge_lanes es e)) (get_or x.states i 0)) in omega (arith, s, r, a, d)
 
   -- The state of the next value of the first lane was asked about, or need not be.
-  pub cells_next : {new q d : List ℕ} {l : ℕ} (i₀ : ℕ) → i₀ ≡ at + y * lane_weight (lane_after (edge_lanes es e)) + z * lane_weight (edge_lanes es e) → Going x u b k new q d h l →
+  pub cells_next : {new q : List ℕ} {d : List Bool} {l : ℕ} (i₀ : ℕ) → i₀ ≡ at + y * lane_weight (lane_after (edge_lanes es e)) + z * lane_weight (edge_lanes es e) → Going x u b k new q d h l →
       (i₀ < length new → permitted_at x (edge_action es e) i₀ ≡ true → Leads x (edge_action es e) i₀ j → Heard x new d (edge_action es e) i₀) → Cells x es e j at y (z + 1) t marks c new q d h l
   cells_next {new} {q} {d} i₀ s a n = record { going = going_then w.going a; heard = λ i b f g l m r. either i b f g l m r (dec_lt (one x es e i) z) }
     where
@@ -87,8 +87,8 @@ module _ {x : Space} {es : List ℕ} {e j at y z : ℕ} {t marks u p b : List �
       either i b₁ f g l m r (yes o) = a.moved.keeps (edge_action es e) i (w.heard i (omega (arith, b₁, a.moved.long)) f g o m r)
       either i b₁ f g l m r (no o) = let v = same i i₀ s (omega arith) m r in rw v (n (rw v at b₁) (rw v at f) (rw v at g))
 
-module _ {x : Space} {es : List ℕ} {e j at y : ℕ} {t marks u p b : List ℕ} {h c k : ℕ} (w : Rows x es e j at y t marks c u p b h k) where
-  pub rows_next : {z : ℕ} {new q d : List ℕ} {l : ℕ} → Cells x es e j at y z u b k new q d h l → lane_values (edge_lanes es e) ≤ z → Rows x es e j at (y + 1) t marks c new q d h l
+module _ {x : Space} {es : List ℕ} {e j at y : ℕ} {t : List ℕ} {marks : List Bool} {u p : List ℕ} {b : List Bool} {h c k : ℕ} (w : Rows x es e j at y t marks c u p b h k) where
+  pub rows_next : {z : ℕ} {new q : List ℕ} {d : List Bool} {l : ℕ} → Cells x es e j at y z u b k new q d h l → lane_values (edge_lanes es e) ≤ z → Rows x es e j at (y + 1) t marks c new q d h l
   rows_next {z} {new} {q} {d} a n = record { going = going_then w.going a.going; heard = λ i b f g l m r. either i b f g l m r (dec_lt (two x es e i) y) }
     where
       either : (i : ℕ) → i < length new → permitted_at x (edge_action es e) i ≡ true → Leads x (edge_action es e) i j → one x es e i < lane_values (edge_lanes es e) → two x es e i < y + 1 →
@@ -131,22 +131,22 @@ module _ (x : Space) (v free i : ℕ) where
   choice_low : choice ≤ rest % 16
   choice_low = lib.Bits.and_le_l (rest % 16) (free % 16)
 
-module _ {x : Space} {es : List ℕ} {e j v free at : ℕ} {t marks new q d : List ℕ} {h c k : ℕ} where
+module _ {x : Space} {es : List ℕ} {e j v free at : ℕ} {t : List ℕ} {marks : List Bool} {new q : List ℕ} {d : List Bool} {h c k : ℕ} where
   pub freed_none : (free ≡ 0) ⊎ (length x.weights ≤ v) → Laned x es e j at t marks c new q d h k → Freed x es e j v free at t marks c new q d h k
   freed_none n a = record { going = a.going; heard = λ i b f g l m r. let z = free_none x v free i n in a.heard i b f g l m (omega (arith, r, z)) }
 
 -- The values of digit v below z were gone through.
-pub record Choosing (x : Space) (es : List ℕ) (e j v free at z : ℕ) (t marks : List ℕ) (c : ℕ) (new q₁ marks₁ : List ℕ) (h d : ℕ) : Type 0 where
+pub record Choosing (x : Space) (es : List ℕ) (e j v free at z : ℕ) (t : List ℕ) (marks : List Bool) (c : ℕ) (new q₁ : List ℕ) (marks₁ : List Bool) (h d : ℕ) : Type 0 where
   pub going : Going x t marks c new q₁ marks₁ h d
   pub heard : (i : ℕ) → i < length new → permitted_at x (edge_action es e) i ≡ true → Leads x (edge_action es e) i j →
       one x es e i < lane_values (edge_lanes es e) → two x es e i < lane_values (lane_after (edge_lanes es e)) → choice x v free i < z →
       i ≡ at + lane_sum (edge_lanes es e) (get_or x.states i 0) + lane_sum (lane_after (edge_lanes es e)) (get_or x.states i 0) + of_free x v free i → Heard x new marks₁ (edge_action es e) i
 
-pub choosing_start : {x : Space} {es : List ℕ} {e j v free at : ℕ} {t q marks : List ℕ} {h c : ℕ} → Queue (length t) q marks h c → Choosing x es e j v free at 0 t marks c t q marks h c
+pub choosing_start : {x : Space} {es : List ℕ} {e j v free at : ℕ} {t q : List ℕ} {marks : List Bool} {h c : ℕ} → Queue (length t) q marks h c → Choosing x es e j v free at 0 t marks c t q marks h c
 choosing_start k = record { going = going_none k; heard = λ i b f g m n l. absurd (omega arith) }
 
-module _ {x : Space} {es : List ℕ} {e j v free at z : ℕ} {t marks u p b : List ℕ} {h c k : ℕ} (w : Choosing x es e j v free at z t marks c u p b h k) where
-  pub choosing_next : {new q d : List ℕ} {l : ℕ} (y : ℕ) → y ≡ at + z * get_or x.weights v 0 → Freed x es e j (v + 1) (free / 16) y u b k new q d h l → Choosing x es e j v free at (z + 1) t marks c new q d h l
+module _ {x : Space} {es : List ℕ} {e j v free at z : ℕ} {t : List ℕ} {marks : List Bool} {u p : List ℕ} {b : List Bool} {h c k : ℕ} (w : Choosing x es e j v free at z t marks c u p b h k) where
+  pub choosing_next : {new q : List ℕ} {d : List Bool} {l : ℕ} (y : ℕ) → y ≡ at + z * get_or x.weights v 0 → Freed x es e j (v + 1) (free / 16) y u b k new q d h l → Choosing x es e j v free at (z + 1) t marks c new q d h l
   choosing_next {new} {q} {d} y s a = record { going = going_then w.going a.going; heard = λ i b f g m n l r. either i b f g m n l r (dec_lt (choice x v free i) z) }
     where
       either : (i : ℕ) → i < length new → permitted_at x (edge_action es e) i ≡ true → Leads x (edge_action es e) i j →
@@ -178,7 +178,7 @@ module _ {x : Space} {es : List ℕ} {e j v free at z : ℕ} {t marks u p b : Li
       either (no q) = choosing_end sizes q o (g (omega (arith, q)))
 
 -- One edge.
-module _ {x : Space} {ts es : List ℕ} {e j at : ℕ} {t marks new q d : List ℕ} {h c k : ℕ} (a : at ≡ way_back es e j) where
+module _ {x : Space} {ts es : List ℕ} {e j at : ℕ} {t : List ℕ} {marks : List Bool} {new q : List ℕ} {d : List Bool} {h c k : ℕ} (a : at ≡ way_back es e j) where
   pub passed-freed : Freed x es e j 0 (edge_free es e) at t marks c new q d h k → Passed x ts es e j t marks c new q d h k
   passed-freed w = record { going = w.going; heard = λ i b f g s. w.heard i b f g s.first s.second (from i s) }
     where

@@ -15,22 +15,22 @@ way_forward es ws e i s =
     (i + 65536 - (lane_sum (edge_lanes es e) s + lane_sum (lane_after (edge_lanes es e)) s + weigh ws (bit_and s (edge_free es e))) % 65536 + 65536 - edge_back es e) % 65536
 
 -- Entries t and c waiting states became `new` and d waiting ones: the queue is in order, and what was heard is.
-pub record Going (x : Space) (t marks : List ℕ) (c : ℕ) (new q₁ marks₁ : List ℕ) (h d : ℕ) : Type 0 where
+pub record Going (x : Space) (t : List ℕ) (marks : List Bool) (c : ℕ) (new q₁ : List ℕ) (marks₁ : List Bool) (h d : ℕ) : Type 0 where
   pub moved : Moved x t marks c new marks₁ d
   pub queue : Queue (length new) q₁ marks₁ h d
 
 -- r is what action m says of entry i; where it is infinite, that was heard.
-pub record Offered (x : Space) (t marks : List ℕ) (m i r : ℕ) : Type 0 where
+pub record Offered (x : Space) (t : List ℕ) (marks : List Bool) (m i r : ℕ) : Type 0 where
   pub said : r < 65535 → r ≡ offer_at x t m i
   pub nothing : 65535 ≤ r → Heard x t marks m i
 
 -- Action m was asked about state i.
-pub record Asked (x : Space) (m i : ℕ) (t marks : List ℕ) (c : ℕ) (new q₁ marks₁ : List ℕ) (h d : ℕ) : Type 0 where
+pub record Asked (x : Space) (m i : ℕ) (t : List ℕ) (marks : List Bool) (c : ℕ) (new q₁ : List ℕ) (marks₁ : List Bool) (h d : ℕ) : Type 0 where
   pub going : Going x t marks c new q₁ marks₁ h d
   pub heard : permitted_at x m i ≡ true → Heard x new marks₁ m i
 
 -- The action of edge e was asked about every state before j whose index is `at` and what the two lanes of its own word add.
-pub record Laned (x : Space) (es : List ℕ) (e j at : ℕ) (t marks : List ℕ) (c : ℕ) (new q₁ marks₁ : List ℕ) (h d : ℕ) : Type 0 where
+pub record Laned (x : Space) (es : List ℕ) (e j at : ℕ) (t : List ℕ) (marks : List Bool) (c : ℕ) (new q₁ : List ℕ) (marks₁ : List Bool) (h d : ℕ) : Type 0 where
   pub going : Going x t marks c new q₁ marks₁ h d
   pub heard : (i : ℕ) → i < length new → permitted_at x (edge_action es e) i ≡ true → Leads x (edge_action es e) i j →
       lane_value (edge_lanes es e) (slice_index x.states i) < lane_values (edge_lanes es e) →
@@ -38,7 +38,7 @@ pub record Laned (x : Space) (es : List ℕ) (e j at : ℕ) (t marks : List ℕ)
       i ≡ at + lane_sum (edge_lanes es e) (slice_index x.states i) + lane_sum (lane_after (edge_lanes es e)) (slice_index x.states i) → Heard x new marks₁ (edge_action es e) i
 
 -- The same, where the free digits of its word from v on add something too.
-pub record Freed (x : Space) (es : List ℕ) (e j v free at : ℕ) (t marks : List ℕ) (c : ℕ) (new q₁ marks₁ : List ℕ) (h d : ℕ) : Type 0 where
+pub record Freed (x : Space) (es : List ℕ) (e j v free at : ℕ) (t : List ℕ) (marks : List Bool) (c : ℕ) (new q₁ : List ℕ) (marks₁ : List Bool) (h d : ℕ) : Type 0 where
   pub going : Going x t marks c new q₁ marks₁ h d
   pub heard : (i : ℕ) → i < length new → permitted_at x (edge_action es e) i ≡ true → Leads x (edge_action es e) i j →
       lane_value (edge_lanes es e) (slice_index x.states i) < lane_values (edge_lanes es e) →
@@ -47,27 +47,27 @@ pub record Freed (x : Space) (es : List ℕ) (e j v free at : ℕ) (t marks : Li
       + weigh (drop v x.weights) (bit_and (slice_index x.states i / 16 ^ v) free) → Heard x new marks₁ (edge_action es e) i
 
 -- The action of edge e was asked about every state from which that edge leads to j.
-pub record Passed (x : Space) (ts es : List ℕ) (e j : ℕ) (t marks : List ℕ) (c : ℕ) (new q₁ marks₁ : List ℕ) (h d : ℕ) : Type 0 where
+pub record Passed (x : Space) (ts es : List ℕ) (e j : ℕ) (t : List ℕ) (marks : List Bool) (c : ℕ) (new q₁ : List ℕ) (marks₁ : List Bool) (h d : ℕ) : Type 0 where
   pub going : Going x t marks c new q₁ marks₁ h d
   pub heard : (i : ℕ) → i < length new → permitted_at x (edge_action es e) i ≡ true → Leads x (edge_action es e) i j → Before x ts es e i j → Heard x new marks₁ (edge_action es e) i
 
 -- The edges of row c were gone through.
-pub record RowDone (x : Space) (ts es : List ℕ) (k j c : ℕ) (t marks : List ℕ) (a : ℕ) (new q₁ marks₁ : List ℕ) (h d : ℕ) : Type 0 where
+pub record RowDone (x : Space) (ts es : List ℕ) (k j c : ℕ) (t : List ℕ) (marks : List Bool) (a : ℕ) (new q₁ : List ℕ) (marks₁ : List Bool) (h d : ℕ) : Type 0 where
   pub going : Going x t marks a new q₁ marks₁ h d
   pub heard : (q i : ℕ) → q < 64 → 64 * c + q < k → i < length new → permitted_at x (edge_action es (64 * c + q)) i ≡ true →
       Leads x (edge_action es (64 * c + q)) i j → Before x ts es (64 * c + q) i j → Heard x new marks₁ (edge_action es (64 * c + q)) i
 
 -- Every action that leads to j was asked.
-pub record Visited (x : Space) (j : ℕ) (t marks : List ℕ) (c : ℕ) (new q₁ marks₁ : List ℕ) (h d : ℕ) : Type 0 where
+pub record Visited (x : Space) (j : ℕ) (t : List ℕ) (marks : List Bool) (c : ℕ) (new q₁ : List ℕ) (marks₁ : List Bool) (h d : ℕ) : Type 0 where
   pub going : Going x t marks c new q₁ marks₁ h d
   pub heard : (m i : ℕ) → Asks x m i → i < length new → Leads x m i j → Heard x new marks₁ m i
 
 -- Every state whose entry is 0 waits.
-pub record GoalsWait (t q₁ marks₁ : List ℕ) (d : ℕ) : Type 0 where
+pub record GoalsWait (t q₁ : List ℕ) (marks₁ : List Bool) (d : ℕ) : Type 0 where
   pub queue : Queue (length t) q₁ marks₁ 0 d
   pub zeros : (j : ℕ) → j < length t → slice_index t j ≡ 0 → Waits marks₁ j
 
 -- No entry is more than 1 above that of a state that waits, and none above the infinite one.
-pub record Level (t marks : List ℕ) : Type 0 where
+pub record Level (t : List ℕ) (marks : List Bool) : Type 0 where
   pub near : (i j : ℕ) → i < length t → Waits marks j → j < length t → slice_index t i ≤ slice_index t j + 1
   pub small : (i : ℕ) → i < length t → slice_index t i ≤ 65535

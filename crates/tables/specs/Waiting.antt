@@ -1,6 +1,6 @@
 -- What a worklist keeps while it lowers the entries of a table: what every action says of every entry was heard, or one of its outcomes
 -- still waits. The order in which states wait is free. Assumes nothing.
-use Rattle.std.specs.Prelude.{◌≡◌, ℕ, ◌+◌, ◌<◌, ◌≤◌, true, false, ◌⊎◌, List, length, slice_index, slice_index_or}
+use Rattle.std.specs.Prelude.{◌≡◌, ℕ, ◌+◌, ◌<◌, ◌≤◌, Bool, true, false, ◌⊎◌, List, length, get_or, slice_index, slice_index_or}
 use Rattle.tables.specs.Packed.{outcome_count}
 use Rattle.tables.specs.Steps.{weigh, Space, after, idles, offer_at, permitted_at, Steps, total}
 
@@ -8,12 +8,12 @@ use Rattle.tables.specs.Steps.{weigh, Space, after, idles, offer_at, permitted_a
 unfoldable pub index_after : Space → ℕ → ℕ → ℕ → ℕ
 index_after x m i o = weigh x.weights (after x.task x.mask m o (slice_index x.states i))
 
--- State j waits: its mark is 1.
-abbrev pub Waits : List ℕ → ℕ → Type 0
-Waits marks j = slice_index marks j ≡ 1
+-- State j waits: it is marked.
+abbrev pub Waits : List Bool → ℕ → Type 0
+Waits marks j = get_or marks j false ≡ true
 
 -- Action m says no less of entry i, or an outcome of it waits.
-pub data Heard (x : Space) (t marks : List ℕ) (m i : ℕ) : Type 0 where
+pub data Heard (x : Space) (t : List ℕ) (marks : List Bool) (m i : ℕ) : Type 0 where
   low : slice_index_or t i 0 ≤ offer_at x t m i → Heard x t marks m i
   later : (o : ℕ) → o < outcome_count x.task m → Waits marks (index_after x m i o) → Heard x t marks m i
 
@@ -30,13 +30,13 @@ pub record Asks (x : Space) (m i : ℕ) : Type 0 where
   pub enabled : permitted_at x m i ≡ true
 
 -- What the worklist keeps: the entries came by steps, and every action was heard.
-pub record Kept (x : Space) (first t marks : List ℕ) : Type 0 where
+pub record Kept (x : Space) (first t : List ℕ) (marks : List Bool) : Type 0 where
   pub steps : Steps x first t
   pub heard : (m i : ℕ) → Asks x m i → i < length t → Heard x t marks m i
 
 -- A change of entries and marks that keeps what was heard: an entry that was lowered waits, what waited still does, and the sum of the
 -- entries and of the number of waiting states does not grow.
-pub record Moved (x : Space) (t marks : List ℕ) (c : ℕ) (new marks₁ : List ℕ) (d : ℕ) : Type 0 where
+pub record Moved (x : Space) (t : List ℕ) (marks : List Bool) (c : ℕ) (new : List ℕ) (marks₁ : List Bool) (d : ℕ) : Type 0 where
   pub long : length new ≡ length t
   pub steps : Steps x t new
   pub keeps : (m i : ℕ) → Heard x t marks m i → Heard x new marks₁ m i
@@ -45,6 +45,6 @@ pub record Moved (x : Space) (t marks : List ℕ) (c : ℕ) (new marks₁ : List
   pub falls : total new + d ≤ total t + c
 
 -- e is entry j, or j waits again.
-pub data Told (t marks : List ℕ) (j e : ℕ) : Type 0 where
+pub data Told (t : List ℕ) (marks : List Bool) (j e : ℕ) : Type 0 where
   is : slice_index_or t j 0 ≡ e → Told t marks j e
   again : Waits marks j → Told t marks j e

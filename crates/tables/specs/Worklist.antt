@@ -1,11 +1,11 @@
 -- A step of a worklist: what it keeps, and what it does to the entries and the states that wait. Assumes nothing.
-use Rattle.std.specs.Prelude.{◌≡◌, ℕ, List}
+use Rattle.std.specs.Prelude.{◌≡◌, ℕ, Bool, List}
 use Rattle.tables.specs.Graph.{Graphed}
 use Rattle.tables.specs.declared.proved_worklist.visits.Worklist.{Worklist}
 
 -- The worklist went from old to new: graph, entries and ring are the same ones, no state was taken out, and P is what was done: to entries, marks and
 -- number of waiting states, of which the new ones stand behind the old, with the places and the head of the ring.
-pub record Goes {N : ℕ} (P : Graphed → List ℕ → List ℕ → ℕ → List ℕ → List ℕ → List ℕ → ℕ → ℕ → Type 0) (old new : Worklist N) : Type 0 where
+pub record Goes {N : ℕ} (P : Graphed → List ℕ → List Bool → ℕ → List ℕ → List ℕ → List Bool → ℕ → ℕ → Type 0) (old new : Worklist N) : Type 0 where
   pub same_entries : new.entries.ghost_name ≡ old.entries.ghost_name
   pub same_ring : new.ring.ghost_name ≡ old.ring.ghost_name
   pub same_graph : new.graph ≡ old.graph

@@ -8,7 +8,7 @@ ghost use Rattle.tables.specs.Queue.{Queue, Put, Taken};
 pub(crate) struct Ring<const N: usize> {
     pub(crate) states: usize,
     pub(crate) places: [u16; N],
-    pub(crate) marks: [u8; N],
+    pub(crate) marks: [bool; N],
     pub(crate) head: usize,
     pub(crate) count: usize,
     ghost small: { N ≤ 4096 },
@@ -24,7 +24,7 @@ impl<const N: usize> Ring<N> {
         Ring {
             states,
             places: [0u16; N],
-            marks: [0u8; N],
+            marks: [false; N],
             head: 0,
             count: 0,
         }
@@ -35,11 +35,11 @@ impl<const N: usize> Ring<N> {
         requires { j < self.old.states }
         ensures { (Put self.old.states self.old.places self.old.marks self.old.head self.old.count j self.new.places self.new.marks self.new.count) × (self.new.states ≡ self.old.states) × (self.new.head ≡ self.old.head) }
     {
-        if self.marks[j] == 1 {
+        if self.marks[j] {
             return;
         }
         let at = (self.head + self.count) % N;
-        self.marks[j] = 1;
+        self.marks[j] = true;
         self.places[at] = j as u16;
         self.count += 1;
     }
@@ -56,7 +56,7 @@ impl<const N: usize> Ring<N> {
         let j = usize::from(self.places[self.head]);
         self.head = (self.head + 1) % N;
         self.count -= 1;
-        self.marks[j] = 0;
+        self.marks[j] = false;
         Some(j)
     }
 }

@@ -56,7 +56,7 @@ fn index_after(edges: &[u64], weights: &[u16; 16], e: usize, i: usize, s: u64) -
 }
 
 // What the action of edge e says of state i, by its own edges, and infinite if one of them leads to a state that waits.
-fn offer_along(graph: &Graph, entries: &[u16], marks: &[u8], e: usize, i: usize) -> u16
+fn offer_along(graph: &Graph, entries: &[u16], marks: &[bool], e: usize, i: usize) -> u16
     requires { (e < graph.now.edge_number) × (i < length entries.now) × (graph.now.number ≡ length entries.now) × (length entries.now ≤ length marks.now) × (permitted_at graph.now.space (edge_action graph.now.edges e) i ≡ true) }
     ensures { Offered graph.now.space entries.now marks.now (edge_action graph.now.edges e) i result }
 {
@@ -73,7 +73,7 @@ fn offer_along(graph: &Graph, entries: &[u16], marks: &[u8], e: usize, i: usize)
         if v == u16::MAX {
             return u16::MAX;
         }
-        if marks[j] == 1 {
+        if marks[j] {
             return u16::MAX;
         }
         most = most.max(v);

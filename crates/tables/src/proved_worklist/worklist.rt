@@ -17,7 +17,7 @@ use crate::proved_worklist::visits::Worklist;
 use crate::sweep::start;
 
 // Whether no state that waits can lower an entry: none is more than 1 above the least that waits.
-fn is_level(entries: &[u16], marks: &[u8]) -> bool
+fn is_level(entries: &[u16], marks: &[bool]) -> bool
     requires { length entries.now ≤ length marks.now }
     ensures { result ≡ true → Level entries.now marks.now }
 {
@@ -26,7 +26,7 @@ fn is_level(entries: &[u16], marks: &[u8]) -> bool
     for (i, entry) in entries.iter().enumerate() {
         let e = usize::from(*entry);
         most = most.max(e);
-        if marks[i] == 1 {
+        if marks[i] {
             least = least.min(e);
         }
     }

@@ -16,9 +16,9 @@ pub bounds-marks-j : goal.bounds-marks-j
 bounds-marks-j c = let p = rw (← c.graph.view_is) at c.requires in let w = c.graph.invariant in
     let h = offering_inside (edges_here w p.2) p.0 p.1 (few_here w p.2) p.4 c.loop-f.invariant c.index_after-j.result c.entry_at-v.result c.index_after-j.ensures c.entry_at-v.ensures (omega (arith, c.loop-f-test.true, c.read-edge.ensures.end)) (omega arith) c.if-v.false in omega (arith, h, p.3)
 
-pub returns-then-marks-j-eq1 : goal.returns-then-marks-j-eq1
-returns-then-marks-j-eq1 c = let p = rw (← c.graph.view_is) at c.requires in let w = c.graph.invariant in
-    rw (← c.graph.view_is) (offered_waits (edges_here w p.2) p.0 p.1 (few_here w p.2) p.4 c.loop-f.invariant c.index_after-j.result c.entry_at-v.result c.index_after-j.ensures c.entry_at-v.ensures (omega (arith, c.loop-f-test.true, c.read-edge.ensures.end)) refl c.if-marks-j-eq1.true)
+pub returns-then-marks-j : goal.returns-then-marks-j
+returns-then-marks-j c = let p = rw (← c.graph.view_is) at c.requires in let w = c.graph.invariant in
+    rw (← c.graph.view_is) (offered_waits (edges_here w p.2) p.0 p.1 (few_here w p.2) p.4 c.loop-f.invariant c.index_after-j.result c.entry_at-v.result c.index_after-j.ensures c.entry_at-v.ensures (omega (arith, c.loop-f-test.true, c.read-edge.ensures.end)) refl c.if-marks-j.true)
 
 pub loop-f-preserved : goal.loop-f-preserved
 loop-f-preserved c = let p = rw (← c.graph.view_is) at c.requires in let w = c.graph.invariant in
