@@ -77,10 +77,6 @@ module _ (a : List ℕ) (actions n mask : ℕ) (sizes p weights states new : Lis
         rw (w, weigh_padded (weights_from 1 (take n sizes) p) (16 - n) (get_or states i 0), s i b) (weigh-index 1 (take n sizes) p y z.values_few o ∙ index_at_state (take n sizes) p z.values_some i b);
   }
 
--- Lists of the same length have the same states.
-pub indexed_as : (weights states : List ℕ) (n k : ℕ) → k ≡ n → Indexed weights states n → Indexed weights states k
-indexed_as weights states n k e h = rw e h
-
 -- The task of a sound record: the sets of its actions by bytes, within a pattern.
 pub sound_lookable : (r : List ℕ) → Sound r → (p : List ℕ) → Lookable (compiled (task_of r)) (pack_by picking p) (action_count r) ((variable_count r + 1) / 2)
 unfolding task_of

@@ -111,16 +111,3 @@ exact_goal x t s e g z = record { at_goal_lem = λ q. z; least = λ q. false_tru
 
 pub exact_said : (x : Space) (t : List ℕ) (s e : ℕ) → false ≡ is_goal x.task x.mask s → Said x t s e → Exact x t s e
 exact_said x t s e g h = record { at_goal_lem = λ q. false_true (g ∙ q); least = λ q. h.least; attained = λ q. h.attained }
-
-abbrev pub ExactTo : Space → List ℕ → ℕ → Type 0
-ExactTo x t i = (j : ℕ) → j < i → Exact x t (get_or x.states j 0) (get_or t j 0)
-
-pub exact_next : (x : Space) (t : List ℕ) (i : ℕ) → Exact x t (get_or x.states i 0) (get_or t i 0) → ExactTo x t i → ExactTo x t (i + 1)
-exact_next x t i e h j l = either (dec_lt j i)
-  where
-    either : Dec (j < i) → Exact x t (get_or x.states j 0) (get_or t j 0)
-    either (yes b) = h j b
-    either (no b) = let z : j ≡ i = omega arith in rw z e
-
-pub exact_all : (x : Space) (t : List ℕ) (i : ℕ) → length t ≤ i → ExactTo x t i → Certified x t
-exact_all x t i l h = record { exact = λ j b. h j (omega arith) }

@@ -28,10 +28,7 @@ use Rattle.tables.specs.Spread.{costs_named, states_named, table_spread}
 use Rattle.tables.proofs.TableChain.{entries-length}
 use Rattle.tables.proofs.BuiltTables.{built_over-length, chained_table}
 
--- A row of which the first i counts are cleared.
-pub clearing_next : (row : List ℕ) (i : ℕ) → i < length row → take i row ≡ replicate i 0 → take (i + 1) (set row i 0) ≡ replicate (i + 1) 0
-clearing_next row i l h = let e = add-one i in rw e (take-suc-set row i 0 l ∙ rw h (replicate-append-replicate i 1 0 ∙ ap (λ n. replicate {A = ℕ} n 0) e))
-
+-- A row that is cleared counts nothing.
 pub cleared : (row new : List ℕ) → length row ≡ row_size → new ≡ replicate (length row) 0 → new ≡ spread []
 cleared row new l h = h ∙ ap (λ n. replicate {A = ℕ} n 0) l ∙ sym spread_of_none
 

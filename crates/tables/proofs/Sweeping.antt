@@ -71,12 +71,6 @@ worst_step : (f : ℕ → ℕ) (o n : ℕ) → o < n → worst f o (n - o) ≡ m
 unfolding worst
 worst_step f o n l = let e : n - o ≡ suc (n - (o + 1)) = omega arith in let g : o + 1 ≡ suc o = add-one o in rw (e, g)
 
-pub worst-more : (f : ℕ → ℕ) (o n most : ℕ) → o < n → most < f o → worst f 0 n ≡ max most (worst f o (n - o)) → worst f 0 n ≡ max (f o) (worst f (o + 1) (n - (o + 1)))
-worst-more f o n most l h v = let e = worst_step f o n l in omega arith
-
-pub worst_same : (f : ℕ → ℕ) (o n most : ℕ) → o < n → f o ≤ most → worst f 0 n ≡ max most (worst f o (n - o)) → worst f 0 n ≡ max most (worst f (o + 1) (n - (o + 1)))
-worst_same f o n most l h v = let e = worst_step f o n l in omega arith
-
 pub worst_next : (f : ℕ → ℕ) (o n most : ℕ) → o < n → worst f 0 n ≡ max most (worst f o (n - o)) → worst f 0 n ≡ max (max most (f o)) (worst f (o + 1) (n - (o + 1)))
 worst_next f o n most l v = let e = worst_step f o n l in omega arith
 

@@ -152,7 +152,7 @@ fn is_said(t: &Trial<'_>, set: u64, i: usize, s: u64, e: u16) -> bool
     ensures { result ≡ true → Said (space_of t.now.space.now) t.now.entries.now s e }
 {
     let mut rest = set;
-    let mut attained = e == 65535;
+    let mut attained = e == u16::MAX;
     while rest != 0 {
         let m = u64::trailing_zeros(rest) as usize;
         match judge(t, m, i, s, e) {

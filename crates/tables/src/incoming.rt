@@ -1,6 +1,6 @@
 // Which edges lead to a state: sets of edges by its lower and by its upper part, 64 edges to a row. The edges that lead to it are those in both sets.
 use crate::edges::Edge;
-use crate::places::{Columns, at_or, product, put, variables};
+use crate::places::{Columns, product, put, variables};
 
 // Sets of edges of one row: those that know a value of a variable, and those that know the variable.
 #[derive(Drop)]
@@ -32,7 +32,7 @@ impl Known {
             let allowed = self.allowed(v, x);
             let to = begin.wrapping_add(len.wrapping_mul(x));
             for k in 0..len {
-                let held = at_or(sets, begin.wrapping_add(k), 0);
+                let held = sets.get(begin.wrapping_add(k)).copied().unwrap_or(0);
                 put(sets, to.wrapping_add(k), held & allowed);
             }
         }
@@ -215,6 +215,6 @@ impl Lookup<'_> {
         let at = w
             .wrapping_mul(self.stride)
             .wrapping_add((place / 4194304) as usize);
-        at_or(self.upper, at, 0)
+        self.upper.get(at).copied().unwrap_or(0)
     }
 }

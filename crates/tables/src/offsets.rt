@@ -1,6 +1,6 @@
 // Lists of offsets: for a set of variables, what each of its values adds to a place. A list has the number of its set of variables, by their bits: 0 to
 // 63 for a set of the lower part, from 64 on for one of the upper part. Together these lists have fewer than 6,300 offsets.
-use crate::places::{Columns, at_or, product, put, variables};
+use crate::places::{Columns, product, put, variables};
 
 // Where a list begins among the offsets, and where it ends. A list that was not made yet is empty.
 #[derive(Clone, Copy, PartialEq, Eq)]
@@ -81,7 +81,11 @@ impl<'a> Offsets<'a> {
     // Offsets for the further values of one more variable: each is the one of the value before it, and the column.
     fn lengthen(&mut self, begin: usize, len: usize, all: usize, column: u32) {
         for k in len..all {
-            let x = at_or(self.places, begin.wrapping_add(k - len), 0);
+            let x = self
+                .places
+                .get(begin.wrapping_add(k - len))
+                .copied()
+                .unwrap_or(0);
             put(self.places, begin.wrapping_add(k), x.wrapping_add(column));
         }
     }
@@ -139,7 +143,7 @@ impl<'a> Offsets<'a> {
     pub(crate) fn without(&mut self, span: Span, dropped: u32) -> Span {
         let mut end = span.begin;
         for k in span.begin..span.end {
-            let x = at_or(self.places, usize::from(k), 0);
+            let x = self.places.get(usize::from(k)).copied().unwrap_or(0);
             if x != dropped {
                 put(self.places, usize::from(end), x);
                 end = end.wrapping_add(1);
@@ -153,6 +157,9 @@ impl<'a> Offsets<'a> {
 
     // The first offset of a list.
     pub(crate) fn first(&self, span: Span) -> u32 {
-        at_or(self.places, usize::from(span.begin), 0)
+        self.places
+            .get(usize::from(span.begin))
+            .copied()
+            .unwrap_or(0)
     }
 }

@@ -6,6 +6,7 @@ ghost use Rattle.task_record.specs.TaskOf.{cells_at};
 ghost use Rattle.tables.specs.Packed.{pack_by, digit_by, picking};
 
 use task_record::cells::pattern_cells;
+use task_record::layout::UNNAMED;
 
 // The rules for a digit: 15 where a cell names its variable, or where it does not; the value that it names; the value itself; 15 where it is 1.
 #[derive(Clone, Copy, PartialEq, Eq)]
@@ -23,9 +24,9 @@ fn digit(rule: DigitRule, x: u8) -> u64
     ensures { (result ≡ digit_by rule x) × (result < 16) }
 {
     match rule {
-        DigitRule::Naming => { if x == 255 { 0 } else { 15 } }
-        DigitRule::Leaving => { if x == 255 { 15 } else { 0 } }
-        DigitRule::Setting => { if x == 255 { 0 } else { u64::from(x % 16) } }
+        DigitRule::Naming => { if x == UNNAMED { 0 } else { 15 } }
+        DigitRule::Leaving => { if x == UNNAMED { 15 } else { 0 } }
+        DigitRule::Setting => { if x == UNNAMED { 0 } else { u64::from(x % 16) } }
         DigitRule::Low => u64::from(x % 16),
         DigitRule::Picking => { if x == 1 { 15 } else { 0 } }
     }

@@ -34,18 +34,10 @@ pub(crate) fn variables(digits: u64) -> Members {
     Members(digits & DIGITS)
 }
 
-// What stands at a place of an array, and `or` past its end.
-pub(crate) fn at_or<T: Copy>(xs: &[T], i: usize, or: T) -> T {
-    if i < xs.len() {
-        return xs[i];
-    }
-    or
-}
-
 // Nothing is put past an array's end.
 pub(crate) fn put<T: Copy>(xs: &mut [T], i: usize, x: T) {
-    if i < xs.len() {
-        xs[i] = x;
+    if let Some(place) = xs.get_mut(i) {
+        *place = x;
     }
 }
 

@@ -2,7 +2,6 @@
 // of the entries.
 use crate::incoming::Lookup;
 use crate::offsets::Offsets;
-use crate::places::at_or;
 use crate::visits::Worklist;
 
 // From the settled states in the queue on, until it is empty or every state is settled.
@@ -12,7 +11,7 @@ pub(crate) fn settle(mut work: Worklist<'_>, graph: Lookup<'_>, offsets: &Offset
         if head >= work.tail || work.tail >= states {
             return;
         }
-        let place = at_or(work.queue, head, 0);
+        let place = work.queue.get(head).copied().unwrap_or(0);
         work.visit_before(graph, offsets, place);
     }
 }

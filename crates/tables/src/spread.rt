@@ -63,12 +63,16 @@ fn count_pattern(record: &SoundRecord, pattern: u64, tables: &[u16], row: &mut [
     ensures { (result ≡ states_named record.now pattern) × (row.new ≡ spread (costs_named record.now pattern)) }
 {
     row.fill(0);
-    if pattern < u64::from(pattern_count(record.cells)) {
-        let part = part_of(record, pattern as u8);
-        count_entries(&tables[part.start..part.end], row);
-        return (part.end - part.start) as u64;
+    let patterns = pattern_count(record.cells);
+    let Ok(p) = u8::try_from(pattern) else {
+        return 0;
+    };
+    if p >= patterns {
+        return 0;
     }
-    0
+    let part = part_of(record, p);
+    count_entries(&tables[part.start..part.end], row);
+    (part.end - part.start) as u64
 }
 
 // Builds the tables and counts, for the pattern of a number, how many of its abstract states have each cost: place v of the row is for cost v, the

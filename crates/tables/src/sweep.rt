@@ -127,17 +127,11 @@ pub(crate) fn worst_entry<G: Guess>(
 }
 
 // A sum that reaches 65,535 counts as infinite.
+#[tactic(auto, unfolding(crate::specs::Steps::raised))]
 pub(crate) fn raise(w: u64, v: u16) -> u16
     ensures { result ≡ raised w v }
 {
-    if w >= 65535 {
-        return 65535;
-    }
-    let sum = w as usize + usize::from(v);
-    if sum >= 65535 {
-        return 65535;
-    }
-    sum as u16
+    u16::try_from(w.saturating_add(u64::from(v))).unwrap_or(u16::MAX)
 }
 
 // What an action says of the entry of a state, as far as it is below a limit. No guess is made.
@@ -259,7 +253,7 @@ fn first_entry(task: &[u64; 1282], mask: u64, s: u64) -> u16
     if at_goal(task, mask, s) {
         return 0;
     }
-    65535
+    u16::MAX
 }
 
 // 0 at the goals, infinite elsewhere.

@@ -4,7 +4,7 @@
 use crate::edges::{Edge, Sources};
 use crate::incoming::{Lookup, Row};
 use crate::offsets::Offsets;
-use crate::places::{Members, at_or, put};
+use crate::places::{Members, put};
 
 fn index_in(place: u32) -> usize {
     (place % 65536) as usize
@@ -24,12 +24,16 @@ pub(crate) struct Worklist<'a> {
 
 impl Worklist<'_> {
     fn is_open(&self, place: u32) -> bool {
-        at_or(self.entries, index_in(place), 0) == u16::MAX
+        self.entries.get(index_in(place)).copied().unwrap_or(0) == u16::MAX
     }
 
     // What an action that at worst leads to the state at a place says of a state before it.
     fn cost_before(&self, place: u32) -> u16 {
-        at_or(self.entries, index_in(place), u16::MAX - 1).wrapping_add(1)
+        self.entries
+            .get(index_in(place))
+            .copied()
+            .unwrap_or(u16::MAX - 1)
+            .wrapping_add(1)
     }
 
     // The state gets its entry, and stands at the end of the queue.
@@ -45,9 +49,11 @@ impl Worklist<'_> {
             return true;
         }
         let at = index_in(place).wrapping_add(edge.counters as usize);
-        let count = at_or(self.counters, at, 0).wrapping_add(1);
-        put(self.counters, at, count);
-        count == edge.outcomes
+        let Some(count) = self.counters.get_mut(at) else {
+            return false;
+        };
+        *count = count.wrapping_add(1);
+        *count == edge.outcomes
     }
 
     // The states that differ from the one at a place only in some variables, by the lists of the lower and of the upper ones: all that an action does

@@ -6,6 +6,7 @@ ghost use Rattle.tables.specs.Packed.{pack_by, leaving, setting};
 ghost use Rattle.tables.specs.Squeezed.{bytes_of, plain_cell, squeezed};
 
 use crate::packed::{DigitRule, pack};
+use task_record::layout::UNNAMED;
 
 // What an outcome keeps, and what it sets; of a precondition the digits that it does not name, and the values that it names.
 #[derive(Clone, Copy)]
@@ -17,7 +18,7 @@ pub(crate) struct Words {
 fn strange(x: u8) -> u8
     ensures { (result == 0) ≡ plain_cell x }
 {
-    if x == 255 {
+    if x == UNNAMED {
         return 0;
     }
     if x < 16 {

@@ -7,12 +7,7 @@ use Rattle.task_record.specs.TaskOf.{task_of, patterns_of}
 use Rattle.patterns.specs.Space.{entries_needed}
 use Rattle.tables.proofs.Spreading.{cleared, states_of_pattern, pattern_ends, part_costs, part_few, part_bounded, states_named_lem, none_named, no_states}
 use Rattle.tables.proofs.spread.count_pattern.Goals as goal
-use Rattle.tables.proofs.spread.count_pattern.Goals.{After-from, After-part_of-part}
-
--- The number of patterns, once it was compared with.
-
-patterns-known : (c : After-from) → c.from.result ≡ pattern_count c.args.record.now
-patterns-known c = c.from.ensures ∙ rw c.record.view_is at c.pattern_count.ensures
+use Rattle.tables.proofs.spread.count_pattern.Goals.{After-part_of-part}
 
 -- A number that names a pattern: where its table begins and ends.
 
@@ -21,13 +16,13 @@ module _ (c : After-part_of-part) where
   rec = c.args.record.now
 
   abbrev number : ℕ
-  number = c.args.pattern
+  number = c.in-Ok.p
 
   abbrev tabs : List ℕ
   tabs = c.args.tables.now
 
   below : number < pattern_count rec
-  below = omega (arith, c.if-pattern-from.true, c.from.ensures ∙ rw c.record.view_is at c.pattern_count.ensures)
+  below = omega (arith, c.if-p-patterns.false, rw c.record.view_is at c.pattern_count-patterns.ensures)
 
   begins : c.part_of-part.result.start ≡ entries_needed (task_of rec).sizes (take number (patterns_of rec))
   begins = c.part_of-part.ensures.0
@@ -69,10 +64,15 @@ count_entries-requires c = let w = (goal.at.count_entries-requires c).After-part
 pub overflow_sub-result : goal.overflow_sub-result
 overflow_sub-result c = let w = (goal.at.overflow_sub-result c).After-part_of-part in let e = ends w in omega arith
 
-pub returns-then-pattern-from : goal.returns-then-pattern-from
-returns-then-pattern-from c = let w = (goal.at.returns-then-pattern-from c).After-part_of-part in let p = c.requires in let l = below w in let e = ends w in
-    (omega (arith, states_named_lem (rec w) (tabs w) p.0 p.1 (number w) l), c.count_entries.ensures ∙ ap spread (part_costs (rec w) (tabs w) p.0 p.1 (number w) l (part w) (part-is w)))
+pub returns-in_default : goal.returns-in_default
+returns-in_default c = let l : pattern_count c.args.record.now ≤ c.args.pattern = omega (arith, rw c.record.view_is at c.pattern_count-patterns.ensures, c.in_default.ensures) in
+    (sym (no_states c.args.record.now c.args.pattern l), cleared c.args.row.now _ c.requires.2 (c.fill.ensures.after (λ y e. e)) ∙ ap spread (sym (none_named c.args.record.now c.args.pattern l)))
+
+pub returns-then-p-patterns : goal.returns-then-p-patterns
+returns-then-p-patterns c = let l : pattern_count c.args.record.now ≤ c.args.pattern = omega (arith, c.if-p-patterns.true, rw c.record.view_is at c.pattern_count-patterns.ensures, c.in-Ok.ensures.1) in
+    (sym (no_states c.args.record.now c.args.pattern l), cleared c.args.row.now _ c.requires.2 (c.fill.ensures.after (λ y e. e)) ∙ ap spread (sym (none_named c.args.record.now c.args.pattern l)))
 
 pub returns : goal.returns
-returns c = let v = (goal.at.returns c).After-from in let l : pattern_count c.args.record.now ≤ c.args.pattern = omega (arith, c.if-pattern-from.false, patterns-known v) in
-    (sym (no_states c.args.record.now c.args.pattern l), cleared c.args.row.now _ c.requires.2 (c.fill.ensures.after (λ y e. e)) ∙ ap spread (sym (none_named c.args.record.now c.args.pattern l)))
+returns c = let w = (goal.at.returns c).After-part_of-part in let p = c.requires in let l = below w in let e = ends w in
+    rw (← c.in-Ok.ensures.1)
+    (omega (arith, states_named_lem (rec w) (tabs w) p.0 p.1 (number w) l), c.count_entries.ensures ∙ ap spread (part_costs (rec w) (tabs w) p.0 p.1 (number w) l (part w) (part-is w)))
