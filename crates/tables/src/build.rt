@@ -18,7 +18,7 @@ fn make(x: &Space<'_>, entries: &mut [u16])
     requires { length entries.old ≡ x.now.count }
     ensures { Finished (space_of x.now) entries.new }
 {
-    candidate(x.task, x.mask, x.weights, x.sizes, x.actions, entries);
+    candidate(x, entries);
     if is_certified(x, entries) {
         return;
     }

@@ -5,6 +5,8 @@ use crate::compiled_task::{kept, need, outcome_count, set, value};
 use crate::incoming::Graph;
 use crate::offsets::{Numbers, Offsets, Span};
 use crate::places::{Columns, DIGITS};
+use crate::space::Space;
+use arrayvec::ArrayVec;
 
 // The states that an edge leads from, for a state that it leads to: the one at its place, or those at the offsets of the lists of what this outcome
 // alone sets, and at each of them those of the lists of what every outcome sets.
@@ -57,17 +59,16 @@ struct Test {
 }
 
 // An outcome by the digits that it may change, and their values.
-#[derive(Clone, Copy, PartialEq, Eq)]
+#[derive(Clone, Copy, Default, PartialEq, Eq)]
 struct Change {
     moved: u64,
     value: u64,
 }
 
-// The distinct outcomes of an action: the first `count` of the list.
+// The distinct outcomes of an action.
 #[derive(Drop)]
 struct Changes {
-    all: [Change; 8],
-    count: usize,
+    list: ArrayVec<Change, 8>,
 }
 
 // 15 in every digit that is not 0.
@@ -86,27 +87,19 @@ fn moved_by(task: &[u64; 1282], mask: u64, m: usize, o: usize) -> u64
 }
 
 impl Changes {
-    fn list(&self) -> &[Change] {
-        &self.all[..self.count.min(8)]
-    }
-
     // One outcome more, unless it is there.
     fn add(&mut self, change: Change) {
-        if self.list().contains(&change) {
-            return;
+        if !self.list.as_slice().contains(&change) {
+            let _ = self.list.try_push(change);
         }
-        self.all[self.count % 8] = change;
-        self.count = (self.count % 8) + 1;
     }
 
     // The outcomes of action m; none if one of them changes nothing: such an action leads from every state to itself and lowers no entry.
     fn of(task: &[u64; 1282], mask: u64, m: usize) -> Option<Changes>
         requires { m < 64 }
     {
-        let none = Change { moved: 0, value: 0 };
         let mut changes = Changes {
-            all: [none; 8],
-            count: 0,
+            list: ArrayVec::new(),
         };
         for o in 0..outcome_count(task, m).min(8) {
             let moved = moved_by(task, mask, m, o);
@@ -122,7 +115,7 @@ impl Changes {
     // The variables that every outcome sets and the action does not need. What it leads to does not depend on them.
     fn common(&self, need: u64) -> u64 {
         let mut common = !need;
-        for change in self.list() {
+        for change in self.list.as_slice() {
             common = common & change.moved;
         }
         common
@@ -137,7 +130,7 @@ impl Changes {
         common: u64,
     ) -> Option<Span> {
         let mut span = offsets.short_list(columns, common)?;
-        for change in self.list() {
+        for change in self.list.as_slice() {
             if change.moved == common {
                 span = offsets.without(span, columns.place_of(change.value, common));
             }
@@ -209,12 +202,13 @@ fn add_action(
             offsets.keep(span);
         }
     }
-    let counters = graph.add_counters(changes.count);
-    for change in changes.list() {
+    let outcomes = changes.list.len();
+    let counters = graph.add_counters(outcomes);
+    for change in changes.list.as_slice() {
         let own = change.moved & !(test.need | common);
         let mut edge = edge_of(columns, test, *change, shift);
         edge.counters = counters;
-        edge.outcomes = (changes.count % 16) as u8;
+        edge.outcomes = (outcomes % 16) as u8;
         edge.sources = sources_of(offsets, columns, own, common, list);
         graph.add(edge);
     }
@@ -222,20 +216,17 @@ fn add_action(
 
 // The edges of all actions. Those for which there is no room are only counted.
 pub(crate) fn make_edges(
-    task: &[u64; 1282],
-    mask: u64,
-    actions: usize,
+    x: &Space<'_>,
     graph: &mut Graph<'_>,
     offsets: &mut Offsets<'_>,
     columns: &Columns,
-)
-    requires { actions ≤ 64 }
-{
-    for m in 0..actions {
-        if let Some(changes) = Changes::of(task, mask, m) {
+) {
+    let mask = x.mask;
+    for m in 0..x.actions {
+        if let Some(changes) = Changes::of(x.task, mask, m) {
             let test = Test {
-                need: need(task, m) & mask,
-                value: value(task, m) & mask,
+                need: need(x.task, m) & mask,
+                value: value(x.task, m) & mask,
             };
             add_action(graph, offsets, columns, &test, &changes);
         }

@@ -131,7 +131,7 @@ pub(crate) fn worst_entry<G: Guess>(
 pub(crate) fn raise(w: u64, v: u16) -> u16
     ensures { result ≡ raised w v }
 {
-    u16::try_from(w.saturating_add(u64::from(v))).unwrap_or(u16::MAX)
+    u16::try_from(w).unwrap_or(u16::MAX).saturating_add(v)
 }
 
 // What an action says of the entry of a state, as far as it is below a limit. No guess is made.

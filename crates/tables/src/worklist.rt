@@ -8,6 +8,7 @@ use crate::incoming::{Graph, Row};
 use crate::offsets::{Numbers, Offsets};
 use crate::places::Columns;
 use crate::queue::settle;
+use crate::space::Space;
 use crate::visits::Worklist;
 
 // The goals: the place of one, and the lists of the variables that they leave free.
@@ -66,8 +67,8 @@ fn candidate_within<
     const SETS: usize,
     const OFFSETS: usize,
     const STATES: usize,
->(task: &[u64; 1282], mask: u64, columns: &Columns, actions: usize, entries: &mut [u16]) -> bool
-    requires { (actions ≤ 64) × (ROWS ≤ 8) × (SETS ≤ 6656) × (OFFSETS ≤ 7295) × (STATES ≤ 4096) }
+>(x: &Space<'_>, columns: &Columns, entries: &mut [u16]) -> bool
+    requires { (ROWS ≤ 8) × (SETS ≤ 6656) × (OFFSETS ≤ 7295) × (STATES ≤ 4096) }
 {
     let mut rows = [Row::EMPTY; ROWS];
     let mut upper = [0u64; SETS];
@@ -75,55 +76,38 @@ fn candidate_within<
     let mut queue = [0u32; STATES];
     let mut graph = Graph::new(&mut rows, &mut upper, columns.rows, entries.len());
     let mut offsets = Offsets::new(&mut places);
-    make_edges(task, mask, actions, &mut graph, &mut offsets, columns);
+    make_edges(x, &mut graph, &mut offsets, columns);
     let goals = Goals {
-        place: columns.place_of(goal_value(task), goal_need(task) & mask),
-        lists: offsets.lists_of(columns, mask & !goal_need(task)),
+        place: columns.place_of(goal_value(x.task), goal_need(x.task) & x.mask),
+        lists: offsets.lists_of(columns, x.mask & !goal_need(x.task)),
     };
     if !graph.fits() || !offsets.fit() {
         return false;
     }
-    graph.fill(mask, columns);
+    graph.fill(x.mask, columns);
     settle_counted(&goals, &graph, &offsets, entries, &mut queue);
     true
 }
 
 // From infinite entries on: with little memory, if at most 64 edges and few lists will do.
-fn candidate_from(
-    task: &[u64; 1282],
-    mask: u64,
-    columns: &Columns,
-    actions: usize,
-    entries: &mut [u16],
-)
-    requires { actions ≤ 64 }
-{
+fn candidate_from(x: &Space<'_>, columns: &Columns, entries: &mut [u16]) {
     let has_room = if entries.len() <= 512 {
-        candidate_within::<1, 128, 895, 512>(task, mask, columns, actions, entries)
+        candidate_within::<1, 128, 895, 512>(x, columns, entries)
     } else {
-        candidate_within::<1, 896, 895, 4096>(task, mask, columns, actions, entries)
+        candidate_within::<1, 896, 895, 4096>(x, columns, entries)
     };
     if !has_room {
-        let _ = candidate_within::<8, 6656, 7295, 4096>(task, mask, columns, actions, entries);
+        let _ = candidate_within::<8, 6656, 7295, 4096>(x, columns, entries);
     }
 }
 
 // Candidate entries for the table of a pattern: 0 at goals, infinite where no plan leads to one. Without a goal in the pattern every state is one.
-pub(crate) fn candidate(
-    task: &[u64; 1282],
-    mask: u64,
-    weights: &[u16; 16],
-    sizes: &[u8; 16],
-    actions: usize,
-    entries: &mut [u16],
-)
-    requires { actions ≤ 64 }
-{
-    if goal_need(task) & mask == 0 {
+pub(crate) fn candidate(x: &Space<'_>, entries: &mut [u16]) {
+    if goal_need(x.task) & x.mask == 0 {
         entries.fill(0);
         return;
     }
     entries.fill(u16::MAX);
-    let columns = Columns::new(mask, weights, sizes);
-    candidate_from(task, mask, &columns, actions, entries);
+    let columns = Columns::new(x.mask, x.weights, x.sizes);
+    candidate_from(x, &columns, entries);
 }
