@@ -18,10 +18,6 @@ use Rattle.tables.proofs.Sweeping.{raised_high, below_raised, false_true}
 pub guessed : (weights states entries : List ℕ) (g z : ℕ) → Indexed weights states (length entries) → g < length entries → get_or states g 0 ≡ z → get_or entries g 0 ≡ get_or entries (weigh weights z) 65535
 guessed weights states entries g z x l e = let q : weigh weights z ≡ g = rw (sym e) (x.place g l) in rw q (inside entries g 0 65535 l)
 
--- What is left of a set is less.
-pub set-falls : (w : ℕ) → (w ≡ 0 → ⊥) → bit_and w (w - 1) < w
-set-falls w h = let l = and_le_r w (w - 1) in omega arith
-
 -- What an action says, judged. A limit that is reached by the largest entry is reached by what the action says of the state.
 pub judged_high : (e w x v : ℕ) → e ≤ 65535 → Below e x v → e ≤ v → Judged (raised w x) e More
 judged_high e w x v b h l = let q = below_raised e w x v b h in let z = raised_high e w v b l in record { equal = λ u. let n : ◌≡◌ {A = ℕ} 0 1 = cc in absurd (omega arith); enough = λ u. q.enough z }

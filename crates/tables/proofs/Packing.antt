@@ -1,7 +1,10 @@
 -- Packed words stand for lists of cells: the mask test is `meets`, keep-and-set is `apply`, the pattern's mask is `keep`, and a word
 -- holds its state. Assumes nothing.
-use Rattle.std.proofs.Common.{◌≡◌, ℕ, zero, suc, ◌+◌, ◌-◌, ◌*◌, ◌/◌, ◌%◌, ◌^◌, ◌<◌, ◌≤◌, Bool, true, false, cond, ◌&&◌, ◌||◌, T, eqb, ltb, List, [], ◌∷◌, ◌++◌, length, get_or, drop, refl, ap, ◌∙◌, ap₂, mod-eq_of_lt, pow-suc, add-one, arith, ltb→lt, length-drop, drop_of_length-le, drop-cons, eq-eqb, ne_eqb, eqb-true}
+use Rattle.std.proofs.Common.{◌≡◌, ℕ, zero, suc, ◌+◌, ◌-◌, ◌*◌, ◌/◌, ◌%◌, ◌^◌, ◌<◌, ◌≤◌, Bool, true, false, cond, ◌&&◌, ◌||◌, T, eqb, ltb, List, [], ◌∷◌, ◌++◌, length, get_or, drop, reverse, refl, ap, ◌∙◌, ap₂, mod-eq_of_lt, pow-suc, add-one, arith, ltb→lt, length-drop, drop_of_length-le, drop-cons, eq-eqb, ne_eqb, eqb-true}
 use native.Mathlib.Nat.{pow-le-pow_right}
+use mathlib.Core.List.{reverse-cons}
+use Rattle.std.proofs.lemmas.List.Sums.{fold-append}
+use Rattle.std.specs.List.{fold}
 use lib.Arith.{digits_div, digits_mod}
 use lib.Bits.{bit_and, bit_or, and_block, or_block, and_mask, and_zero_l, and_zero_r, or_zero_l, or_zero_r}
 use Rattle.planning.specs.Finite.{All}
@@ -124,29 +127,16 @@ pack-keep g b z e (q ∷ p) (x ∷ c) = by_test (eqb q 1)
     (λ h. rw h (and_block 4 (pack_by g c) (pack_by picking p) (g x) 15 (b x) (omega arith) ∙ ap₂ (λ m n. m * 16 + n) (pack-keep g b z e p c) (kept_digit (g x) (b x))))
     (λ h. rw (h, e) (and_block 4 (pack_by g c) (pack_by picking p) (g x) 0 (b x) (omega arith) ∙ ap₂ (λ m n. m * 16 + n) (pack-keep g b z e p c) (and_zero_r (g x))))
 
--- The loop that packs goes down from the end.
-drop_step : (s : List ℕ) (i : ℕ) → i < length s → drop i s ≡ get_or s i 0 ∷ drop (i + 1) s
-drop_step s i h = rw (add-one, drop-cons s i 0)
-
-pub pack_end : (g : ℕ → ℕ) (s : List ℕ) (i : ℕ) → length s ≤ i → pack_by g (drop i s) ≡ 0
+-- The cells from the last one on, each before those after it.
+pub packing_folded : (g : ℕ → ℕ) → ((x : ℕ) → g x < 16) → (s : List ℕ) → length s ≤ 16 → fold (λ p x. bit_or (p * 16 % 18446744073709551616) (g x)) 0 (reverse s) ≡ pack_by g s
 unfolding pack_by
-pack_end g s i h = rw (drop_of_length-le s h)
-
-pack_step : (g : ℕ → ℕ) (s : List ℕ) (i : ℕ) → i < length s → pack_by g (drop i s) ≡ pack_by g (drop (i + 1) s) * 16 + g (get_or s i 0)
-unfolding pack_by
-pack_step g s i h = rw (drop_step s i h)
-
-pub pack_back : (g : ℕ → ℕ) (s : List ℕ) (i : ℕ) → 0 < i → i ≤ length s → pack_by g (drop (i - 1) s) ≡ pack_by g (drop i s) * 16 + g (get_or s (i - 1) 0)
-pack_back g s i h l = let e : (i - 1) + 1 ≡ i = omega arith in rw e at (pack_step g s (i - 1) (omega arith))
-
-pub pack_room : (g : ℕ → ℕ) → ((x : ℕ) → g x < 16) → (s : List ℕ) (i p : ℕ) → 0 < i → i ≤ length s → length s ≤ 16 → p ≡ pack_by g (drop i s)
-    → p * 16 + g (get_or s (i - 1) 0) < 18446744073709551616
-pack_room g b s i p h l n e =
-    let f = pack-fits g b (drop (i - 1) s) (simp length-drop (omega arith)) in let t = pack_back g s i h l in omega arith
-
-pub pack_whole : (g : ℕ → ℕ) (s : List ℕ) (i p : ℕ) → i ≤ 0 → p ≡ pack_by g (drop i s) → p ≡ pack_by g s
-pack_whole g s zero p h e = e
-pack_whole g s (suc i) p h e = absurd (omega arith)
+packing_folded g b [] l = refl
+packing_folded g b (x ∷ s) l =
+    let h = λ (p : ℕ) (y : ℕ). bit_or (p * 16 % 18446744073709551616) (g y) in let e = packing_folded g b s (omega arith) in
+    let few : length s ≤ 15 = omega arith in let q = pow-le-pow_right {n = 16} (omega arith) few in let room = pack-below g b s in
+    let whole : pack_by g s * 16 % 18446744073709551616 ≡ pack_by g s * 16 + 0 = omega arith in let low : g x ≡ 0 * 16 + g x = omega arith in
+    ap (fold h 0) (reverse-cons x s) ∙ fold-append h 0 (reverse s) (x ∷ []) ∙ ap (λ p. h p x) e
+    ∙ ap₂ bit_or whole low ∙ or_block 4 (pack_by g s) 0 0 (g x) (omega arith) (b x) ∙ ap₂ (λ m n. m * 16 + n) (or_zero_r (pack_by g s)) (or_zero_l (g x))
 
 pub digit_by_digit : (rule : DigitRule) (x : ℕ) → digit_by rule x < 16
 unfolding digit_by

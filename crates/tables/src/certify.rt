@@ -7,7 +7,7 @@ ghost use Rattle.tables.specs.Certified.{counts, Judged, Said, Exact, Certified}
 
 use crate::applying::{applying, fill_sets};
 use crate::compiled_task::{kept, need, outcome_count, set, value, weight};
-use crate::places::variables;
+use crate::places::{Members, variables};
 use crate::space::Space;
 use crate::sweep::{Guess, at_goal, index_of, raise, worst_entry};
 
@@ -146,15 +146,12 @@ fn judge(t: &Trial<'_>, m: usize, i: usize, s: u64, e: u16) -> Verdict
 }
 
 // Whether entry e of state i, no goal, is what the actions of a set say of it. What is at most 1 is the least that an action can say.
-// Stays: a `for` over `Members` is no plainer to prove, since the loop's fact is one about what is left of the set.
 fn is_said(t: &Trial<'_>, set: u64, i: usize, s: u64, e: u16) -> bool
     requires { set ≡ set_from (counts t.now.space.now.task.now t.now.space.now.mask s) 0 t.now.space.now.actions }
     ensures { result ≡ true → Said (space_of t.now.space.now) t.now.entries.now s e }
 {
-    let mut rest = set;
     let mut attained = e == u16::MAX;
-    while rest != 0 {
-        let m = u64::trailing_zeros(rest) as usize;
+    for m in Members(set) {
         match judge(t, m, i, s, e) {
             Verdict::Less => return false,
             Verdict::Same => {
@@ -165,7 +162,6 @@ fn is_said(t: &Trial<'_>, set: u64, i: usize, s: u64, e: u16) -> bool
             }
             Verdict::More => {}
         }
-        rest = rest & (rest - 1);
     }
     attained
 }

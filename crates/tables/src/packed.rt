@@ -1,6 +1,6 @@
 // Sixteen cells packed into a word of 64 bits, 4 bits each. `mask_of` is public for the search and is no entry of the product: it answers for any cells
 // and any number of a pattern what its equation says.
-ghost use Rattle.std.specs.Prelude.{◌≡◌, ◌<◌, ◌≤◌, length};
+ghost use Rattle.std.specs.Prelude.{◌≡◌, ◌≤◌, length};
 ghost use Rattle.task_record.specs.Layout.{at_pattern};
 ghost use Rattle.task_record.specs.TaskOf.{cells_at};
 ghost use Rattle.tables.specs.Packed.{pack_by, digit_by, picking};
@@ -21,7 +21,7 @@ pub(crate) enum DigitRule {
 // The digit of a cell by a rule.
 #[tactic(auto, unfolding(crate::specs::Packed::digit_by))]
 fn digit(rule: DigitRule, x: u8) -> u64
-    ensures { (result ≡ digit_by rule x) × (result < 16) }
+    ensures { result ≡ digit_by rule x }
 {
     match rule {
         DigitRule::Naming => { if x == UNNAMED { 0 } else { 15 } }
@@ -37,11 +37,10 @@ pub(crate) fn pack(rule: DigitRule, cells: &[u8]) -> u64
     requires { length cells.now ≤ 16 }
     ensures { result ≡ pack_by (digit_by rule) cells.now }
 {
-    let mut p = 0u64;
-    for i in (0..cells.len()).rev() {
-        p = p * 16 + digit(rule, cells[i]);
-    }
-    p
+    cells
+        .iter()
+        .rev()
+        .fold(0, |p, x| (p << 4) | digit(rule, *x))
 }
 
 // The digits of the variables that pattern p of a record names.

@@ -6,6 +6,7 @@ ghost use Rattle.tables.specs.Spaces.{space_of};
 ghost use Rattle.tables.specs.Steps.{weigh, is_goal, permitted, after, idles, worst, raised, outcome_entry, Below, offer, lowers, relaxed, started, Readable, RowSwept, Swept, Settled};
 
 use crate::compiled_task::{goal_need, goal_value, kept, need, outcome_count, set, value, weight};
+use crate::places::Members;
 use crate::sets::set_of;
 use crate::space::Space;
 
@@ -204,19 +205,15 @@ pub(crate) fn lively(task: &[u64; 1282], mask: u64, actions: usize) -> u64
 }
 
 // One pass with every action that counts.
-// Stays: a `for` over `Members` is no plainer to prove, since the loop's fact is one about what is left of the set.
 fn sweep(x: &Space<'_>, entries: &mut [u16]) -> bool
     requires { length entries.old ≡ x.now.count }
     ensures { Swept (space_of x.now) entries.old entries.new result }
 {
     let mut changed = false;
-    let mut rest = x.live;
-    while rest != 0 {
-        let m = u64::trailing_zeros(rest) as usize;
+    for m in Members(x.live) {
         if sweep_action(x, entries, m) {
             changed = true;
         }
-        rest = rest & (rest - 1);
     }
     changed
 }

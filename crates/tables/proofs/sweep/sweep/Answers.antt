@@ -1,25 +1,21 @@
 -- `tables::sweep::sweep` meets its contract. Assumes nothing.
-use Rattle.std.proofs.Common.{◌∙◌, arith}
-use Rattle.tables.proofs.Certifying.{set-falls}
+use Rattle.std.proofs.Common.{◌∙◌}
 use Rattle.tables.proofs.Sweeping.{passing_start, passing_known, passing_still, passing_hit, passing_end}
 use Rattle.tables.proofs.sweep.sweep.Goals as goal
-use Rattle.tables.proofs.sweep.sweep.Goals.{then-sweep_action, else-sweep_action}
 
-pub loop-rest-init : goal.loop-rest-init
-loop-rest-init c = passing_start _ _ _ c.args.x.now.live_is
-
-pub overflow_cast-m : goal.overflow_cast-m
-overflow_cast-m c = let few = c.args.x.now.actions_few in let k = passing_known few c.loop-rest.invariant c.loop-rest-test.true in record { fits = omega (arith, k, few) }
+pub loop-m-init : goal.loop-m-init
+loop-m-init c = rw c.into_iter-m-iterator.ensures.into_iter_gives (passing_start _ _ _ c.args.x.now.live_is)
 
 pub sweep_action-requires : goal.sweep_action-requires
-sweep_action-requires c = let v = c.loop-rest.invariant in (passing_known c.args.x.now.actions_few v c.loop-rest-test.true, v.pass.long ∙ c.requires)
+sweep_action-requires c = let v = c.loop-m.invariant in let s = c.in-Some.ensures.steps in (rw s.1 (passing_known c.args.x.now.actions_few v s.0), v.pass.long ∙ c.requires)
 
-pub loop-rest-smaller : goal.loop-rest-smaller
-loop-rest-smaller c = set-falls _ c.loop-rest-test.true
+pub loop-m-preserved-then-sweep_action : goal.loop-m-preserved-then-sweep_action
+loop-m-preserved-then-sweep_action c = let s = c.in-Some.ensures.steps in
+    rw s.2 (passing_hit c.args.x.now.actions_few c.loop-m.invariant s.0 (rw (s.1, c.if-sweep_action.true) at c.sweep_action.ensures))
 
-pub loop-rest-preserved : goal.loop-rest-preserved
-loop-rest-preserved c = let v = c.loop-rest.invariant in let few = c.args.x.now.actions_few in let some = c.loop-rest-test.true in let e = c.sweep_action.ensures in
-    elim c.if-sweep_action.branch [ then-sweep_action w ↦ rw w.changed-is (passing_hit few v some (rw w.if-sweep_action.true at e)) | else-sweep_action w ↦ rw w.changed-is (passing_still few v some (rw w.if-sweep_action.false at e)) ]
+pub loop-m-preserved : goal.loop-m-preserved
+loop-m-preserved c = let s = c.in-Some.ensures.steps in
+    rw s.2 (passing_still c.args.x.now.actions_few c.loop-m.invariant s.0 (rw (s.1, c.if-sweep_action.false) at c.sweep_action.ensures))
 
 pub returns : goal.returns
-returns c = passing_end c.loop-rest.invariant c.loop-rest-test.false
+returns c = passing_end c.loop-m.invariant c.in-None.ensures.steps
