@@ -8,6 +8,7 @@ ghost use Rattle.tables.specs.Patterned.{states_of};
 ghost use Rattle.tables.specs.Listed.{SplitAt, Roomy, space_in};
 ghost use Rattle.tables.specs.Visits.{RowDone, Visited, GoalsWait, Level};
 
+use crate::places::Members;
 use crate::proved_worklist::edges::{Graph, make_edges};
 use crate::proved_worklist::incoming::{Halves, edges_into, fill_sets, upper_part};
 use crate::proved_worklist::parts::Parts;
@@ -53,13 +54,8 @@ impl<'a, const N: usize> Worklist<'a, N> {
         requires { (j < length self.old.entries.now) × (Told self.old.entries.now self.old.ring.now.marks j entry) × (Row self.old.graph.now.tests (slice_index self.old.graph.now.space.states j) self.old.graph.now.edge_number c set) × (c ≤ 8) }
         ensures { Goes (λ g. RowDone g.space g.tests g.edges g.edge_number j c) self.old self.new }
     {
-        let mut rest = set;
-        // Stays: the step takes the lowest number out of the set, and what is known is of the set that is left; the library has no iterator over the
-        // numbers of a set.
-        while rest != 0 {
-            let q = u64::trailing_zeros(rest) as usize;
+        for q in Members(set) {
             self.visit_edge(64 * c + q, j, entry);
-            rest &= rest - 1;
         }
     }
 

@@ -4,8 +4,5 @@ use Rattle.tables.specs.Worklist.{Goes}
 use Rattle.tables.proofs.Rounds.{RowGoing}
 use Rattle.tables.proofs.proved_worklist.visits.Worklist.visit_row.Given as goal
 
-abbrev pub invariant-loop-rest : goal.invariant-loop-rest
-invariant-loop-rest g l = Goes (λ w. RowGoing w.space w.tests w.edges (get_or w.space.states l.j 0) w.edge_number l.j l.c l.rest) l.fn.self l.self
-
-abbrev pub decreases-loop-rest : goal.decreases-loop-rest
-decreases-loop-rest g l = l.rest
+abbrev pub invariant-loop-q : goal.invariant-loop-q
+invariant-loop-q g l = Goes (λ w. RowGoing w.space w.tests w.edges (get_or w.space.states l.j 0) w.edge_number l.j l.c (l.q-iterator.0)) l.fn.self l.self
