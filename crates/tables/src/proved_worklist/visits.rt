@@ -122,17 +122,19 @@ impl<'a, const N: usize> Worklist<'a, N> {
         ensures { Goes (λ g. Asked g.space (edge_action g.edges e) i) self.old self.new }
     {
         let graph = self.graph;
+        let entries = &mut *self.entries;
+        let ring = &mut *self.ring;
         let states = graph.states;
         let edge = Edge::read(graph.edges, e);
         if !permits(graph.task, graph.mask, edge.action, states[i]) {
             return;
         }
-        let said = raise(edge.weight, self.entries[j]);
-        if said >= self.entries[i] {
+        let said = raise(edge.weight, entries[j]);
+        if said >= entries[i] {
             return;
         }
-        self.entries[i] = said;
-        self.ring.put(i);
+        entries[i] = said;
+        ring.put(i);
     }
 
     // Whether entry i is there and above what was said.
