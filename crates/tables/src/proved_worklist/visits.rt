@@ -81,6 +81,60 @@ fn offer_along(graph: &Graph, entries: &[u16], marks: &[bool], e: usize, i: usiz
     raise(edge.weight, most)
 }
 
+// The action of edge e is asked about state i: its entry falls to what the action says, if that is less, and then the state waits.
+fn ask<const N: usize>(graph: &Graph, entries: &mut [u16], ring: &mut Ring<N>, e: usize, i: usize)
+    requires { (e < graph.now.edge_number) × (i < length entries.old) × (graph.now.number ≡ length entries.old) × (ring.old.states ≡ length entries.old) }
+    ensures { (Asked graph.now.space (edge_action graph.now.edges e) i entries.old ring.old.marks ring.old.count entries.new ring.new.places ring.new.marks ring.old.head ring.new.count) × (ring.new.states ≡ ring.old.states) × (ring.new.head ≡ ring.old.head) }
+{
+    let states = graph.states;
+    let edge = Edge::read(graph.edges, e);
+    if !permits(graph.task, graph.mask, edge.action, states[i]) {
+        return;
+    }
+    let v = offer_along(graph, entries, &ring.marks, e, i);
+    if v >= entries[i] {
+        return;
+    }
+    entries[i] = v;
+    ring.put(i);
+}
+
+// The action of edge e, which has no other edge and no free digit, is asked about the state i before j: it says its weight and the entry
+// of j.
+fn ask_only<const N: usize>(
+    graph: &Graph,
+    entries: &mut [u16],
+    ring: &mut Ring<N>,
+    e: usize,
+    j: usize,
+    i: usize,
+)
+    requires { (e < graph.now.edge_number) × (i < length entries.old) × (graph.now.number ≡ length entries.old) × (ring.old.states ≡ length entries.old) × (j < length entries.old) × (lane_weight (edge_lanes graph.now.edges e) ≡ 0) × (lane_weight (lane_after (edge_lanes graph.now.edges e)) ≡ 0) × (edge_free graph.now.edges e ≡ 0) × (i ≡ way_back graph.now.edges e j) × (edge_end graph.now.edges e ≡ edge_first graph.now.edges e + 1) }
+    ensures { (Asked graph.now.space (edge_action graph.now.edges e) i entries.old ring.old.marks ring.old.count entries.new ring.new.places ring.new.marks ring.old.head ring.new.count) × (ring.new.states ≡ ring.old.states) × (ring.new.head ≡ ring.old.head) }
+{
+    let states = graph.states;
+    let edge = Edge::read(graph.edges, e);
+    if !permits(graph.task, graph.mask, edge.action, states[i]) {
+        return;
+    }
+    let said = raise(edge.weight, entries[j]);
+    if said >= entries[i] {
+        return;
+    }
+    entries[i] = said;
+    ring.put(i);
+}
+
+// Whether entry i is there and above what was said.
+fn is_above(entries: &[u16], i: usize, said: usize) -> bool
+    ensures { (result ≡ above entries.now i said) × (slice_index entries.now i ≤ 65535) }
+{
+    if i < entries.len() {
+        return usize::from(entries[i]) > said;
+    }
+    false
+}
+
 // How many values of a digit are gone through: one where it is not free.
 fn values_of(free: u64, size: u8) -> u64
     ensures { (result ≤ 16) × (free ≡ 0 → 1 ≤ result) × (1 ≤ free → (d : ℕ) → d < 16 → d < size → d < result) }
@@ -94,65 +148,14 @@ fn values_of(free: u64, size: u8) -> u64
 impl<'a, const N: usize> Worklist<'a, N> {
     ghost use Rattle.tables.specs.Worklist.{Goes};
 
-    // The action of edge e is asked about state i: its entry falls to what the action says, if that is less, and then the state waits.
-    fn ask(&mut self, e: usize, i: usize)
-        requires { (e < self.old.graph.now.edge_number) × (i < length self.old.entries.now) }
-        ensures { Goes (λ g. Asked g.space (edge_action g.edges e) i) self.old self.new }
-    {
-        let graph = self.graph;
-        let entries = &mut *self.entries;
-        let ring = &mut *self.ring;
-        let states = graph.states;
-        let edge = Edge::read(graph.edges, e);
-        if !permits(graph.task, graph.mask, edge.action, states[i]) {
-            return;
-        }
-        let v = offer_along(graph, entries, &ring.marks, e, i);
-        if v >= entries[i] {
-            return;
-        }
-        entries[i] = v;
-        ring.put(i);
-    }
-
-    // The action of edge e, which has no other edge and no free digit, is asked about the state i before j: it says its weight and the entry
-    // of j.
-    fn ask_only(&mut self, e: usize, j: usize, i: usize)
-        requires { (e < self.old.graph.now.edge_number) × (i < length self.old.entries.now) × (j < length self.old.entries.now) × (lane_weight (edge_lanes self.old.graph.now.edges e) ≡ 0) × (lane_weight (lane_after (edge_lanes self.old.graph.now.edges e)) ≡ 0) × (edge_free self.old.graph.now.edges e ≡ 0) × (i ≡ way_back self.old.graph.now.edges e j) × (edge_end self.old.graph.now.edges e ≡ edge_first self.old.graph.now.edges e + 1) }
-        ensures { Goes (λ g. Asked g.space (edge_action g.edges e) i) self.old self.new }
-    {
-        let graph = self.graph;
-        let entries = &mut *self.entries;
-        let ring = &mut *self.ring;
-        let states = graph.states;
-        let edge = Edge::read(graph.edges, e);
-        if !permits(graph.task, graph.mask, edge.action, states[i]) {
-            return;
-        }
-        let said = raise(edge.weight, entries[j]);
-        if said >= entries[i] {
-            return;
-        }
-        entries[i] = said;
-        ring.put(i);
-    }
-
-    // Whether entry i is there and above what was said.
-    fn is_above(&self, i: usize, said: usize) -> bool
-        ensures { (result ≡ above self.now.entries.now i said) × (slice_index self.now.entries.now i ≤ 65535) }
-    {
-        if i < self.entries.len() {
-            return usize::from(self.entries[i]) > said;
-        }
-        false
-    }
-
     // The action of an edge is asked about the states whose index is `at` and any values of its two lanes.
     fn visit_lanes(&mut self, by: Arrival, at: usize)
         requires { (by.e < self.old.graph.now.edge_number) × (by.j < length self.old.entries.now) × (Told self.old.entries.now self.old.ring.now.marks by.j by.entry) × (at ≤ 17000000) }
         ensures { Goes (λ g. Laned g.space g.edges by.e by.j at) self.old self.new }
     {
         let graph = self.graph;
+        let entries = &mut *self.entries;
+        let ring = &mut *self.ring;
         let e = by.e as usize;
         let edge = Edge::read(graph.edges, e);
         let said = usize::from(by.entry) + edge.weight as usize;
@@ -165,8 +168,8 @@ impl<'a, const N: usize> Worklist<'a, N> {
         for y in 0..twos {
             let mut i = row;
             for x in 0..ones {
-                if self.is_above(i, said) {
-                    self.ask(e, i);
+                if is_above(entries, i, said) {
+                    ask(graph, entries, ring, e, i);
                 }
                 i += one;
             }
@@ -203,15 +206,17 @@ impl<'a, const N: usize> Worklist<'a, N> {
         let free = edge.free;
         if free == 0 {
             if edge.plain {
+                let entries = &mut *self.entries;
+                let ring = &mut *self.ring;
                 let said = usize::from(entry) + edge.weight as usize;
-                if !self.is_above(at, said) {
+                if !is_above(entries, at, said) {
                     return;
                 }
                 if edge.end == edge.first + 1 {
-                    self.ask_only(e, j, at);
+                    ask_only(graph, entries, ring, e, j, at);
                     return;
                 }
-                self.ask(e, at);
+                ask(graph, entries, ring, e, at);
                 return;
             }
             let by = Arrival {

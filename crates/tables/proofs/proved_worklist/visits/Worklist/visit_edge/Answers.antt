@@ -1,35 +1,53 @@
 -- `tables::proved_worklist::visits::Worklist::visit_edge` meets its contract. Assumes nothing.
-use Rattle.std.proofs.Common.{sym, ◌∙◌, arith}
+use Rattle.std.proofs.Common.{sym, refl, ◌∙◌, arith}
 use Rattle.tables.specs.Edges.{way_back}
 use Rattle.tables.proofs.Visiting.{going_none}
 use Rattle.tables.proofs.Graphs.{edges_here}
 use Rattle.tables.proofs.Walks.{heard_told, above_inside, passed_plain, passed_laned, passed-freed}
-use Rattle.tables.proofs.Goes.{queue_of, goes_nowhere, goes_as}
+use Rattle.tables.proofs.Goes.{queue_of, goes_as}
 use Rattle.tables.proofs.proved_worklist.visits.Worklist.visit_edge.Goals as goal
 
 pub returns-then-not-is_above : goal.returns-then-not-is_above
 unfolding way_back
 returns-then-not-is_above g c = let w = c.args.self.now in let p = rw (← c.graph.view_is) at c.requires in let r = c.read-edge.ensures in let n = r.plain c.if-edge.true in
-    goes_nowhere w (rw (← c.graph.view_is) (passed_plain (omega (arith, c.from.ensures, r.back)) (sym r.free ∙ c.if-free-eq0.true) n.0 n.1 (going_none (queue_of w))
-    (λ b f z. heard_told _ _ _ _ _ _ _ _ _ (c.graph.invariant.edges_of.weight _ p.0) (omega (arith, c.from-then-edge.ensures, r.weight)) p.1 b p.2 (sym c.is_above.ensures.0 ∙ c.if-not-is_above.true) c.is_above.ensures.1 z)))
+    record {
+      same_entries = refl;
+      same_ring = refl;
+      same_graph = refl;
+      same_head = refl;
+      done = rw (← c.graph.view_is) (passed_plain (omega (arith, c.from.ensures, r.back)) (sym r.free ∙ c.if-free-eq0.true) n.0 n.1 (going_none (queue_of w))
+          (λ b f z. heard_told _ _ _ _ _ _ _ _ _ (c.graph.invariant.edges_of.weight _ p.0) (omega (arith, c.from-then-edge.ensures, r.weight)) p.1 b p.2 (sym c.is_above.ensures.0 ∙ c.if-not-is_above.true) c.is_above.ensures.1 z));
+    }
 
 pub ask_only-requires : goal.ask_only-requires
 unfolding way_back
-ask_only-requires g c = let p = rw (← c.graph.view_is) at c.requires in let r = c.read-edge.ensures in let n = r.plain c.if-edge.true in
-    rw (← c.graph.view_is) (omega (arith, c.args.self.now.ring.now.small), (p.0, above_inside _ _ _ (sym c.is_above.ensures.0 ∙ c.if-not-is_above.false), p.1, n.0, n.1, sym r.free ∙ c.if-free-eq0.true, omega (arith, c.from.ensures, r.back), omega (arith, c.if-edge-2.true, r.first, r.end)))
+ask_only-requires g c = let w = c.args.self.now in let p = rw (← c.graph.view_is) at c.requires in let r = c.read-edge.ensures in let n = r.plain c.if-edge.true in
+    rw (← c.graph.view_is) (omega (arith, w.ring.now.small), (p.0, above_inside _ _ _ (sym c.is_above.ensures.0 ∙ c.if-not-is_above.false), rw (← c.graph.view_is) at w.all, w.places, p.1, n.0, n.1, sym r.free ∙ c.if-free-eq0.true, omega (arith, c.from.ensures, r.back), omega (arith, c.if-edge-2.true, r.first, r.end)))
 
 pub returns-then-edge-2 : goal.returns-then-edge-2
 unfolding way_back
-returns-then-edge-2 g c = let r = c.read-edge.ensures in let n = r.plain c.if-edge.true in
-    goes_as c.ask_only.ensures (λ a. rw (← c.graph.view_is) (passed_plain (omega (arith, c.from.ensures, r.back)) (sym r.free ∙ c.if-free-eq0.true) n.0 n.1 (rw (← c.graph.view_is) at a).going (λ b f z. (rw (← c.graph.view_is) at a).heard f)))
+returns-then-edge-2 g c = let r = c.read-edge.ensures in let n = r.plain c.if-edge.true in let a = rw (← c.graph.view_is) at c.ask_only.ensures in
+    record {
+      same_entries = refl;
+      same_ring = refl;
+      same_graph = refl;
+      same_head = a.2;
+      done = rw (← c.graph.view_is) (passed_plain (omega (arith, c.from.ensures, r.back)) (sym r.free ∙ c.if-free-eq0.true) n.0 n.1 a.0.going (λ b f z. a.0.heard f));
+    }
 
 pub ask-requires : goal.ask-requires
-ask-requires g c = (omega (arith, c.args.self.now.ring.now.small), (c.requires.0, above_inside _ _ _ (sym c.is_above.ensures.0 ∙ c.if-not-is_above.false)))
+ask-requires g c = let w = c.args.self.now in (omega (arith, w.ring.now.small), (c.requires.0, above_inside _ _ _ (sym c.is_above.ensures.0 ∙ c.if-not-is_above.false), w.all, w.places))
 
 pub returns-then-edge : goal.returns-then-edge
 unfolding way_back
-returns-then-edge g c = let r = c.read-edge.ensures in let n = r.plain c.if-edge.true in
-    goes_as c.ask.ensures (λ a. rw (← c.graph.view_is) (passed_plain (omega (arith, c.from.ensures, r.back)) (sym r.free ∙ c.if-free-eq0.true) n.0 n.1 (rw (← c.graph.view_is) at a).going (λ b f z. (rw (← c.graph.view_is) at a).heard f)))
+returns-then-edge g c = let r = c.read-edge.ensures in let n = r.plain c.if-edge.true in let a = rw (← c.graph.view_is) at c.ask.ensures in
+    record {
+      same_entries = refl;
+      same_ring = refl;
+      same_graph = refl;
+      same_head = a.2;
+      done = rw (← c.graph.view_is) (passed_plain (omega (arith, c.from.ensures, r.back)) (sym r.free ∙ c.if-free-eq0.true) n.0 n.1 a.0.going (λ b f z. a.0.heard f));
+    }
 
 pub visit_lanes-requires : goal.visit_lanes-requires
 visit_lanes-requires g c = let p = c.requires in (omega (arith, c.args.self.now.ring.now.small), (p.0, p.1, p.2, omega arith))
