@@ -1,4 +1,4 @@
--- Where a byte stands first, and the first line or piece of a text: it ends where the next separator stands.
+-- The first line or piece of a text: it ends where the next separator stands.
 -- Assumes nothing.
 use mathlib.Core.Path.{◌≡◌, refl}
 use mathlib.Core.Bool.{Bool, true, false, cond}
@@ -11,18 +11,6 @@ use borrow.Author.Tests.{eq-eqb, ne_eqb}
 use Rattle.std.specs.List.{slice_split, onto_first}
 use Rattle.reader.specs.Text.{line_break, index_of, push, pieces, lines_of}
 use Rattle.task_record.proofs.Rest.{drop_step}
-
-pub index_hit : (s : List ℕ) (i b : ℕ) → i < length s → get_or s i 0 ≡ b → index_of b (drop i s) ≡ 0
-unfolding index_of
-index_hit s i b h e = rw (drop_step s i h, eq-eqb (get_or s i 0) b e)
-
-pub index_miss : (s : List ℕ) (i b : ℕ) → i < length s → (get_or s i 0 ≡ b → ⊥) → index_of b (drop i s) ≡ suc (index_of b (drop (i + 1) s))
-unfolding index_of
-index_miss s i b h e = rw (drop_step s i h, ne_eqb (get_or s i 0) b e)
-
-pub index_end : (s : List ℕ) (i b : ℕ) → length s ≤ i → index_of b (drop i s) ≡ 0
-unfolding index_of
-index_end s i b h = rw (drop_of_length-le s h)
 
 onto_push : (x : ℕ) (ps : List (List ℕ)) → onto_first x ps ≡ push x ps
 onto_push x [] = refl

@@ -8,25 +8,12 @@ pub const COMMA: u8 = b',';
 
 pub const COLON: u8 = b':';
 
-// The index of the first b, or the length where there is none.
-pub(crate) fn find(s: &[u8], b: u8) -> usize
-    ensures { result ≡ index_of b s.now }
-{
-    for (i, x) in s.iter().enumerate() {
-        if *x == b {
-            return i;
-        }
-    }
-    s.len()
-}
-
 // A text up to the first b, and what stands behind that b.
 pub(crate) fn cut(s: &[u8], b: u8) -> (&[u8], &[u8])
     ensures { (result.0.now ≡ take (index_of b s.now) s.now) × (result.1.now ≡ drop (index_of b s.now + 1) s.now) }
 {
-    let k = find(s, b);
-    if k < s.len() {
-        return (&s[..k], &s[k + 1..]);
+    match s.iter().position(|x| *x == b) {
+        Some(k) => (&s[..k], &s[k + 1..]),
+        None => (s, &[]),
     }
-    (s, &s[s.len()..])
 }

@@ -6,10 +6,11 @@ ghost use Rattle.std.proofs.lemmas.List.Edits.{sets};
 pub(crate) fn cell_at(r: &[u8], k: usize) -> usize
     ensures { (result ≡ get_or r.now k 0) × (result < 256) }
 {
-    if k < r.len() { usize::from(r[k]) } else { 0 }
+    r.get(k).copied().map_or(0, usize::from)
 }
 
 // One cell.
+// Stays: a test and a store, since the library says nothing of what a slice ends as after its `get_mut`.
 pub(crate) fn put(r: &mut [u8], at: usize, x: u8)
     ensures { r.new ≡ set r.old at x }
 {
