@@ -8,6 +8,7 @@ ghost use Rattle.reader.specs.Lists.{pair_fits};
 use crate::blank::{Record, clear_record};
 use crate::grammar::put_budget;
 use crate::lists::allowed;
+use crate::places::Row;
 use crate::store::fill;
 use std::marker::Model;
 use task_record::layout::{AT_VARIABLES, ROW_SIZE};
@@ -65,11 +66,10 @@ impl Draft {
     }
 
     // The cells of a row, all the same.
-    pub(crate) fn fill_row(&mut self, row: usize, x: u8)
-        requires { (24 ≤ row) × (row + 16 ≤ record_size) }
-        ensures { (self.new ≡ sets self.old row (replicate 16 x)) × (length self.new ≡ record_size) }
+    pub(crate) fn fill_row(&mut self, row: Row, x: u8)
+        ensures { (self.new ≡ sets self.old row.at (replicate 16 x)) × (length self.new ≡ record_size) }
     {
-        fill(&mut self.cells, row, ROW_SIZE, x);
+        fill(&mut self.cells, row.at, ROW_SIZE, x);
     }
 
     pub(crate) fn store_budget(&mut self, n: usize)

@@ -1,5 +1,6 @@
-// Where a line's number goes: its cell, with the range that it may have. Assumes nothing.
-ghost use Rattle.std.specs.Prelude.{◌≡◌};
+// Where a line's number goes: its cell, with the range that it may have; and where a list goes: its row. Assumes nothing.
+ghost use Rattle.std.specs.Prelude.{◌≡◌, ◌+◌, ◌≤◌};
+ghost use Rattle.task_record.specs.Layout.{record_size};
 
 // The numbers that a line may hold, and the cell that keeps it.
 #[derive(Clone, Copy)]
@@ -9,8 +10,23 @@ pub struct Field {
     pub at: usize,
 }
 
+// The sixteen cells of a list, behind the counts and sizes.
+#[derive(Clone, Copy)]
+pub struct Row {
+    pub at: usize,
+    ghost behind_sizes: { 24 ≤ at },
+    ghost in_record: { at + 16 ≤ record_size },
+}
+
 pub(crate) fn field_of(low: u8, high: u8, at: usize) -> Field
     ensures { result ≡ record { low = low; high = high; at = at } }
 {
     Field { low, high, at }
+}
+
+pub(crate) fn row_at(at: usize) -> Row
+    requires { (24 ≤ at) × (at + 16 ≤ record_size) }
+    ensures { result.at ≡ at }
+{
+    Row { at }
 }

@@ -8,21 +8,20 @@ ghost use Rattle.reader.specs.Quick.{ListAt, ListLine, NumberLine};
 use crate::draft::Draft;
 use crate::lists::{Kind, is_values, is_whole, unnamed_of};
 use crate::pieces::{COMMA, LINE_BREAK};
-use crate::places::Field;
+use crate::places::{Field, Row};
 use crate::quick_items::{quick_item, short_number};
 
-// In a good text at least so many bytes stand from the place of any line but the last on: those of the shortest last two lines.
-const LINE_ROOM: usize = 16;
+// In a good text at least so many bytes stand behind the key of any line but the last: those of the shortest value and of the last line.
+const VALUE_ROOM: usize = 7;
 
 // And so many from the place of any item of a list on.
 const ITEM_ROOM: usize = 6;
 
 // What stands behind a key.
 fn behind<'a>(s: &'a [u8], key: &[u8]) -> Option<&'a [u8]>
-    requires { length key.now ≤ 9 }
     ensures { IfSome result (λ e. (s.now ≡ key.now ++ e.now) × (7 ≤ length e.now)) }
 {
-    if s.len() < LINE_ROOM {
+    if s.len().saturating_sub(key.len()) < VALUE_ROOM {
         return None;
     }
     s.strip_prefix(key)
@@ -30,17 +29,15 @@ fn behind<'a>(s: &'a [u8], key: &[u8]) -> Option<&'a [u8]>
 
 // Whether an empty list stands there.
 fn is_empty(s: &[u8], kind: Kind) -> bool
-    requires { 0 < length s.now }
-    ensures { result ≡ true → (get_or s.now 0 0 ≡ 10) × (is_values kind ≡ false) }
+    ensures { result ≡ true → (0 < length s.now) × (get_or s.now 0 0 ≡ 10) × (is_values kind ≡ false) }
 {
-    s[0] == LINE_BREAK && !is_values(kind)
+    s.first() == Some(&LINE_BREAK) && !is_values(kind)
 }
 
 // A list up to the end of its line.
 #[inline(always)]
-fn quick_list<'a>(s: &'a [u8], rec: &mut Draft, kind: Kind, row: usize) -> Option<&'a [u8]>
-    requires { (0 < length s.now) × (24 ≤ row) × (row + 16 ≤ record_size) }
-    ensures { IfSome result (λ e. ListAt s.now kind rec.old row rec.new e.now) }
+fn quick_list<'a>(s: &'a [u8], rec: &mut Draft, kind: Kind, row: Row) -> Option<&'a [u8]>
+    ensures { IfSome result (λ e. ListAt s.now kind rec.old row.at rec.new e.now) }
 {
     let n = rec.variables();
     rec.fill_row(row, unnamed_of(kind));
@@ -59,7 +56,7 @@ fn quick_list<'a>(s: &'a [u8], rec: &mut Draft, kind: Kind, row: usize) -> Optio
             return None;
         }
         let c = after[0];
-        rec.store(row + v, x as u8);
+        rec.store(row.at + v, x as u8);
         if c == LINE_BREAK {
             if is_whole(n, kind, v + 1) {
                 return Some(&after[1..]);
@@ -82,10 +79,9 @@ pub(crate) fn quick_list_line<'a>(
     rec: &mut Draft,
     key: &[u8],
     kind: Kind,
-    row: usize,
+    row: Row,
 ) -> Option<&'a [u8]>
-    requires { (24 ≤ row) × (row + 16 ≤ record_size) × (length key.now ≤ 9) }
-    ensures { IfSome result (λ e. ListLine s.now key.now kind rec.old row rec.new e.now) }
+    ensures { IfSome result (λ e. ListLine s.now key.now kind rec.old row.at rec.new e.now) }
 {
     let value = behind(s, key)?;
     quick_list(value, rec, kind, row)
@@ -98,7 +94,7 @@ pub(crate) fn quick_number_line<'a>(
     key: &[u8],
     field: Field,
 ) -> Option<&'a [u8]>
-    requires { (field.at < record_size) × (field.at ≡ at_variables → field.high ≤ 16) × (length key.now ≤ 9) }
+    requires { (field.at < record_size) × (field.at ≡ at_variables → field.high ≤ 16) }
     ensures { IfSome result (λ e. NumberLine s.now key.now field.low field.high rec.old field.at rec.new e.now) }
 {
     let value = behind(s, key)?;

@@ -11,7 +11,7 @@ use crate::draft::Draft;
 use crate::lists::Kind;
 use crate::order::Due;
 use crate::pieces::LINE_BREAK;
-use crate::places::field_of;
+use crate::places::{field_of, row_at};
 use crate::quick_lines::{quick_list_line, quick_number_line};
 use task_record::layout::{
     AT_ACTION_COUNT, AT_GOAL, AT_LIMIT, AT_PATTERN_COUNT, AT_SIZES, AT_START, AT_VARIABLES,
@@ -39,7 +39,7 @@ fn quick_outcomes<'a>(s: &'a [u8], rec: &mut Draft, m: u8) -> Option<&'a [u8]>
     let mut rest = s;
     let count = rec.cell(at_action(m));
     for k in 0..count {
-        rest = quick_list_line(rest, rec, b"eff=", Kind::Pairs, at_outcome(m, k))?;
+        rest = quick_list_line(rest, rec, b"eff=", Kind::Pairs, row_at(at_outcome(m, k)))?;
     }
     Some(rest)
 }
@@ -49,7 +49,7 @@ fn quick_action<'a>(s: &'a [u8], rec: &mut Draft, m: u8) -> Option<&'a [u8]>
     requires { m < 64 }
     ensures { IfSome result (λ e. (get_or rec.new 1 0 ≡ get_or rec.old 1 0) × Leads (Due.Need m) rec.old s.now (action_from rec.new (m + 1)) rec.new e.now) }
 {
-    let a = quick_list_line(s, rec, b"need=", Kind::Pairs, at_precondition(m))?;
+    let a = quick_list_line(s, rec, b"need=", Kind::Pairs, row_at(at_precondition(m)))?;
     let b = quick_number_line(a, rec, b"outcomes=", field_of(1, 8, at_action(m)))?;
     quick_outcomes(b, rec, m)
 }
@@ -75,7 +75,7 @@ fn quick_patterns<'a>(s: &'a [u8], rec: &mut Draft) -> Option<&'a [u8]>
     let mut rest = s;
     let count = rec.cell(AT_PATTERN_COUNT);
     for p in 0..count {
-        rest = quick_list_line(rest, rec, b"pattern=", Kind::Members, at_pattern(p))?;
+        rest = quick_list_line(rest, rec, b"pattern=", Kind::Members, row_at(at_pattern(p)))?;
     }
     Some(rest)
 }
@@ -94,8 +94,8 @@ fn quick_front<'a>(s: &'a [u8], rec: &mut Draft) -> Option<&'a [u8]>
 fn quick_states<'a>(s: &'a [u8], rec: &mut Draft) -> Option<&'a [u8]>
     ensures { IfSome result (λ e. Leads Due.Goal rec.old s.now Due.Patterns rec.new e.now) }
 {
-    let a = quick_list_line(s, rec, b"goal=", Kind::Pairs, AT_GOAL)?;
-    quick_list_line(a, rec, b"start=", Kind::Values, AT_START)
+    let a = quick_list_line(s, rec, b"goal=", Kind::Pairs, row_at(AT_GOAL))?;
+    quick_list_line(a, rec, b"start=", Kind::Values, row_at(AT_START))
 }
 
 // The lines from the number of patterns to the limit.

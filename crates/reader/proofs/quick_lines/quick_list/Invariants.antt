@@ -11,7 +11,7 @@ use Rattle.reader.proofs.quick_lines.quick_list.Given as goal
 
 abbrev pub invariant-loop-rest : goal.invariant-loop-rest
 invariant-loop-rest l = (l.next ≤ 16)
-    × ((r : List ℕ) → l.initial.rec ≡ sets r l.row (replicate 16 (unnamed l.kind)) → Listing l.s l.kind r l.row l.rec l.next l.rest)
+    × ((r : List ℕ) → l.initial.rec ≡ sets r l.row.at (replicate 16 (unnamed l.kind)) → Listing l.s l.kind r l.row.at l.rec l.next l.rest)
 
 abbrev pub decreases-loop-rest : goal.decreases-loop-rest
 decreases-loop-rest l = length l.rest
