@@ -5,6 +5,7 @@ pub mod Bytes
 pub mod Text
 pub mod Lists
 pub mod Grammar
+pub mod Held
 pub mod Answers
 pub mod Stores
 pub mod Written

@@ -4,6 +4,7 @@
 mod blank;
 mod decimal;
 mod draft;
+mod due_line;
 mod grammar;
 mod lists;
 mod order;

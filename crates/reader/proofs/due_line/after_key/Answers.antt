@@ -1,10 +1,10 @@
--- `reader::grammar::after_key` meets its contract: the key is the front of the line. Assumes nothing.
+-- `reader::due_line::after_key` meets its contract: the key is the front of the line. Assumes nothing.
 use mathlib.Core.Path.{◌≡◌, ◌∙◌, refl, subst, sym}
 use Rattle.std.proofs.Common.{Option, Some, None, Result}
 use Rattle.std.specs.Option.{MatchOption, ok_or}
 use Rattle.std.specs.Result.{MatchResult}
 use Rattle.reader.proofs.Keys.{key_prefix}
-use Rattle.reader.proofs.grammar.after_key.Goals as goal
+use Rattle.reader.proofs.due_line.after_key.Goals as goal
 
 by-case : {T E : Type 0} (N : Type 0) (P Q : T → Type 0) (R : E → Type 0) (found : Option T) (e : E) (r : Result T E) → r ≡ ok_or found e → MatchOption found N P
     → ((x : T) → P x → Q x) → (N → R e) → MatchResult r Q R
