@@ -45,10 +45,7 @@ fn take_number(rec: &mut [u8], field: Field, n: Option<usize>) -> Result<(), Lin
     ensures { (due : Due) → take_number rec.old due field.low field.high field.at n ≡ went due result rec.new }
 {
     let n = n.ok_or(LineFault::Form)?;
-    if n < usize::from(field.low) {
-        return Err(LineFault::Range);
-    }
-    if usize::from(field.high) < n {
+    if n < usize::from(field.low) || usize::from(field.high) < n {
         return Err(LineFault::Range);
     }
     put(rec, field.at, n as u8);
@@ -88,10 +85,7 @@ fn take_list(rec: &mut [u8], kind: Kind, at: usize, list: &Gathered) -> Result<(
     if !list.form {
         return Err(LineFault::Form);
     }
-    if !list.list {
-        return Err(LineFault::List);
-    }
-    if !is_whole(cell_at(rec, AT_VARIABLES), kind, list.next) {
+    if !list.list || !is_whole(cell_at(rec, AT_VARIABLES), kind, list.next) {
         return Err(LineFault::List);
     }
     put_cells(rec, at, &list.cells);

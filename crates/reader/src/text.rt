@@ -37,7 +37,8 @@ fn read_lines(text: &[u8], rec: &mut [u8]) -> Result<(), Refusal>
 }
 
 // The same, into a lent record that has room. The record is filled apart, in `local`, and copied out once the whole text is good, so a refusal leaves
-// the lent one as found.
+// the lent one as found. A function of its own when compiled, so that the quick pass keeps the registers.
+#[inline(never)]
 fn read_slowly(text: &[u8], local: &mut Record, record: &mut [u8]) -> Result<(), Refusal>
     requires { record_size ≤ length «record».old }
     ensures { (result ≡ read_answer text.now «record».old) × («record».new ≡ read_leaves text.now «record».old) }
