@@ -32,8 +32,5 @@ fn value_of(s: &[u8]) -> Option<usize>
 pub(crate) fn number(s: &[u8]) -> Option<usize>
     ensures { result ≡ number_of s.now }
 {
-    if is_framed(s) {
-        return value_of(s);
-    }
-    None
+    if is_framed(s) { value_of(s) } else { None }
 }

@@ -65,19 +65,12 @@ fn item_of(kind: Kind, next: usize, piece: &[u8]) -> Option<Pair>
 }
 
 // Whether a pair keeps the list's rules.
+#[tactic(auto, unfolding(crate::specs::Lists::pair_fits))]
 pub(crate) fn allowed(rec: &[u8], next: usize, v: usize, x: usize) -> bool
     ensures value { result ≡ pair_fits rec.now next v x }
     ensures bounds { result ≡ true → (v < get_or rec.now at_variables 0) × (v < 255) × (x < 255) }
 {
-    if v < next {
-        return false;
-    }
-    let n = cell_at(rec, AT_VARIABLES);
-    if n <= v {
-        return false;
-    }
-    let size = cell_at(rec, AT_SIZES + v);
-    x < size
+    next <= v && v < cell_at(rec, AT_VARIABLES) && x < cell_at(rec, AT_SIZES + v)
 }
 
 // The cell of a variable that a list does not name.

@@ -1,8 +1,7 @@
 // The order of the lines: which line is due after another, by the counts that the record holds. Assumes nothing.
-ghost use Rattle.std.specs.Prelude.{◌≡◌};
+ghost use Rattle.std.specs.Prelude.{◌≡◌, ◌+◌, cond, ltb, get_or, Some, None};
 ghost use Rattle.reader.specs.Grammar.{action_from, pattern_from, next_due, ended};
 
-use crate::store::cell_at;
 use task_record::layout::{AT_ACTION_COUNT, AT_PATTERN_COUNT, AT_VARIABLES, at_action};
 
 // The line that is due, by its key: of a size the variable, of the lines of an action its number, of an eff its place, of a pattern its number.
@@ -23,62 +22,75 @@ pub enum Due {
     End,
 }
 
-fn action_from(r: &[u8], m: usize) -> Due
-    ensures { result ≡ action_from r.now m }
+fn count_at(r: &[u8], k: usize) -> u8
+    ensures { result ≡ get_or r.now k 0 }
 {
-    let n = cell_at(r, AT_ACTION_COUNT);
-    if m < n { Due::Need(m as u8) } else { Due::Goal }
+    r.get(k).copied().unwrap_or(0)
 }
 
-fn pattern_from(r: &[u8], p: usize) -> Due
-    ensures { result ≡ pattern_from r.now p }
+// The number after i, where it is below n.
+fn next_below(i: u8, n: u8) -> Option<u8>
+    ensures { result ≡ cond (ltb (i + 1) n) (Some (i + 1)) None }
 {
-    let n = cell_at(r, AT_PATTERN_COUNT);
-    if p < n {
-        Due::Pattern(p as u8)
-    } else {
-        Due::Limit
-    }
+    i.checked_add(1).filter(|&k| k < n)
 }
 
+#[tactic(auto, unfolding(crate::specs::Grammar::next_due))]
 fn after_size(r: &[u8], i: u8) -> Due
     ensures { result ≡ next_due r.now (Due.Size i) }
 {
-    let n = cell_at(r, AT_VARIABLES);
-    let k = usize::from(i) + 1;
-    if k < n {
-        Due::Size(k as u8)
-    } else {
-        Due::Moves
+    match next_below(i, count_at(r, AT_VARIABLES)) {
+        Some(k) => Due::Size(k),
+        None => Due::Moves,
     }
 }
 
+fn after_action(r: &[u8], m: u8) -> Due
+    ensures { result ≡ action_from r.now (m + 1) }
+{
+    match next_below(m, count_at(r, AT_ACTION_COUNT)) {
+        Some(k) => Due::Need(k),
+        None => Due::Goal,
+    }
+}
+
+#[tactic(auto, unfolding(crate::specs::Grammar::next_due))]
 fn after_eff(r: &[u8], m: u8, o: u8) -> Due
     ensures { result ≡ next_due r.now (Due.Eff m o) }
 {
-    let n = cell_at(r, at_action(m));
-    let k = usize::from(o) + 1;
-    if k < n {
-        return Due::Eff(m, k as u8);
+    match next_below(o, count_at(r, at_action(m))) {
+        Some(k) => Due::Eff(m, k),
+        None => after_action(r, m),
     }
-    action_from(r, usize::from(m) + 1)
+}
+
+fn after_pattern(r: &[u8], p: u8) -> Due
+    ensures { result ≡ pattern_from r.now (p + 1) }
+{
+    match next_below(p, count_at(r, AT_PATTERN_COUNT)) {
+        Some(k) => Due::Pattern(k),
+        None => Due::Limit,
+    }
 }
 
 // What is due after a line.
+#[tactic(auto, unfolding(crate::specs::Grammar::next_due))]
 pub(crate) fn next_due(r: &[u8], d: Due) -> Due
     ensures { result ≡ next_due r.now d }
 {
     match d {
         Due::Vars => Due::Size(0),
         Due::Size(i) => after_size(r, i),
-        Due::Moves => action_from(r, 0),
+        Due::Moves if count_at(r, AT_ACTION_COUNT) == 0 => Due::Goal,
+        Due::Moves => Due::Need(0),
         Due::Need(m) => Due::Outcomes(m),
         Due::Outcomes(m) => Due::Eff(m, 0),
         Due::Eff(m, o) => after_eff(r, m, o),
         Due::Goal => Due::Start,
         Due::Start => Due::Patterns,
-        Due::Patterns => pattern_from(r, 0),
-        Due::Pattern(p) => pattern_from(r, usize::from(p) + 1),
+        Due::Patterns if count_at(r, AT_PATTERN_COUNT) == 0 => Due::Limit,
+        Due::Patterns => Due::Pattern(0),
+        Due::Pattern(p) => after_pattern(r, p),
         Due::Limit => Due::Budget,
         Due::Budget => Due::End,
         Due::End => Due::End,

@@ -123,24 +123,23 @@ fn last_end(text: &[u8]) -> usize
 {
     let last = text.len() - 1;
     if text[last] == LINE_BREAK {
-        return last;
+        last
+    } else {
+        last + 1
     }
-    last + 1
 }
 
 // Whether a budget stands there; then the record has it.
+#[tactic(auto, unfolding(crate::specs::Grammar::take_budget))]
 fn quick_budget(rec: &mut Draft, s: &[u8]) -> bool
     ensures { result ≡ true → take_budget rec.old Due.Budget (number_of s.now) ≡ go_on Due.Budget rec.new }
 {
     match number(s) {
-        None => false,
-        Some(n) => {
-            if 1000000 < n {
-                return false;
-            }
+        Some(n) if n <= 1000000 => {
             rec.store_budget(n);
             true
         }
+        _ => false,
     }
 }
 

@@ -1,5 +1,5 @@
 -- The digits of a number without fuel: a digit is itself, and more is the digits before the last and the last. Assumes nothing.
-use mathlib.Core.Path.{◌≡◌, ap}
+use mathlib.Core.Path.{◌≡◌, ◌∙◌, ap}
 use mathlib.Core.List.{List, [], ◌∷◌, ◌++◌}
 use Prim.Native.Nat.{ℕ, zero, suc, ◌+◌, ◌*◌, ◌/◌, ◌%◌, ◌<◌, ◌≤◌}
 use native.Mathlib.Decide.{dec_lt}
@@ -7,6 +7,8 @@ use native.Mathlib.Omega.{arith}
 use borrow.Author.Tests.{lt-ltb, le-ltb}
 use lib.Dec.{ltb}
 use lib.ListN.{length, length-append}
+use Rattle.std.specs.Fmt as library
+use Rattle.std.proofs.lemmas.Fmt.{decimal_by_steps}
 use Rattle.planning.specs.Finite.{choose}
 use Rattle.report.specs.Decimal.{digits_of, decimal}
 
@@ -30,6 +32,11 @@ decimal_of_digit n l = rw (lt-ltb n 10 l)
 pub decimal_of_more : (n : ℕ) → 10 ≤ n → decimal n ≡ decimal (n / 10) ++ ((48 + n % 10) ∷ [])
 unfolding decimal digits_of choose
 decimal_of_more n l = rw (le-ltb n 10 l) (ap (λ (d : List ℕ). d ++ ((48 + n % 10) ∷ [])) (digits_enough n (suc (n / 10)) (n / 10) (omega arith) (omega arith)))
+
+-- the library's digits are these
+pub decimal_by_library : (n : ℕ) → n < 18446744073709551616 → decimal n ≡ library.decimal n
+decimal_by_library =
+    decimal_by_steps (λ n ds. decimal n ≡ ds) decimal_of_digit (λ n ds l e. decimal_of_more n l ∙ ap (λ (d : List ℕ). d ++ ((48 + n % 10) ∷ [])) e)
 
 -- the powers of ten
 unfoldable pub tens : ℕ → ℕ

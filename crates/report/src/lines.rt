@@ -4,6 +4,8 @@ ghost use Rattle.report.specs.Decimal.{decimal};
 ghost use Rattle.report.specs.Lines.{line, number_line, comma_before, comma_list, plan_line};
 ghost use Rattle.report.specs.Writing.{Puts};
 
+use itoa::Buffer;
+
 const LINE_BREAK: u8 = 10;
 
 const COMMA: u8 = 44;
@@ -50,25 +52,11 @@ impl<'a> Lines<'a> {
         }
     }
 
-    // Stays: `as`, since a word has no `From` into a byte, and `try_from` would have a case that never comes.
-    fn put_digit(&mut self, d: u64)
-        requires { (self.old.at < 4000000000) × (d < 10) }
-        ensures { Puts ((48 + d) ∷ []) self.old self.new }
-    {
-        self.put_byte(b'0' + d as u8);
-    }
-
-    // Most significant digit first, so the digits before the last are written first.
-    // Stays: the library's digits go into a buffer of their own, and are copied from there; these go where they stand.
     fn put_decimal(&mut self, n: u64)
         requires { self.old.at ≤ 3000000000 }
         ensures { Puts (decimal n) self.old self.new }
     {
-        if n < 10 {
-            return self.put_digit(n);
-        }
-        self.put_decimal(n / 10);
-        self.put_digit(n % 10)
+        self.put_word(Buffer::new().format(n).as_bytes())
     }
 
     // The numbers after the first, each with a comma before it.

@@ -1,20 +1,19 @@
 // One vector: the call that its first letter tells, on the record as it then is.
-use crate::lists::{Numbers, as_bytes, break_lines};
+use crate::lists::{as_bytes, break_lines, number_at, numbers_of};
 use crate::shown::{show_answer, show_counts, show_first};
 use planner::estimates::{planner_additive, planner_build_tables, planner_spread, planner_value};
 use planner::plans::{planner_check_plan, planner_search};
 use planner::tasks::{planner_check_record, planner_check_state, planner_read_text};
 use std::io;
+use task_record::layout::{AT_PATTERNS, AT_START, RECORD_SIZE};
 
-const AT_START: usize = 40;
-
-const AT_PATTERNS: usize = 56;
-
-const RECORD_ROOM: usize = 9472;
+// A record and eight bytes more.
+const RECORD_ROOM: usize = RECORD_SIZE + 8;
 
 const ROW_ROOM: usize = 4104;
 
 // The record that was read last, and how many bytes of it are lent.
+// Stays: an array beside a number, since a vector of the library forgets what a shorter `lend` hides, and the next `lend` shows it again.
 #[derive(Drop)]
 struct Record {
     cells: [u8; RECORD_ROOM],
@@ -32,12 +31,11 @@ impl Record {
     }
 }
 
-// What the calls are lent from line to line, but for the bytes of states and plans, and the numbers of the line.
+// What the calls are lent from line to line, but for the bytes of states and plans.
 #[derive(Drop)]
 pub(crate) struct Lent {
     rec: Record,
     tables: [u16; 16384],
-    numbers: Numbers,
 }
 
 impl Lent {
@@ -48,7 +46,6 @@ impl Lent {
                 lent: RECORD_ROOM,
             },
             tables: [0; 16384],
-            numbers: Numbers::new(),
         }
     }
 
@@ -59,9 +56,9 @@ impl Lent {
 
     // Offsets and values by turns.
     // Stays: `as` at the low byte of a number, since a number has no `From` into a byte, and `try_from` would have a case that never comes.
-    fn cells(&mut self, out: &impl Print) -> io::Result<()> {
+    fn cells(&mut self, out: &impl Print, numbers: &[usize]) -> io::Result<()> {
         let rec = self.rec.as_mut_slice();
-        for pair in self.numbers.as_slice().chunks_exact(2) {
+        for pair in numbers.chunks_exact(2) {
             if let Some(cell) = rec.get_mut(pair[0]) {
                 *cell = (pair[1] % 256) as u8;
             }
@@ -69,14 +66,14 @@ impl Lent {
         show_answer(out, planner_check_record(rec))
     }
 
-    fn state(&mut self, out: &impl Print, room: &mut [u8]) -> io::Result<()> {
-        let state = as_bytes(self.numbers.as_slice(), room);
+    fn state(&mut self, out: &impl Print, numbers: &[usize], room: &mut [u8]) -> io::Result<()> {
+        let state = as_bytes(numbers, room);
         show_answer(out, planner_check_state(self.rec.as_slice(), state))
     }
 
-    fn build(&mut self, out: &impl Print) -> io::Result<()> {
+    fn build(&mut self, out: &impl Print, numbers: &[usize]) -> io::Result<()> {
         let rec = self.rec.as_slice();
-        let entries = self.numbers.at(0).min(self.tables.len());
+        let entries = number_at(numbers, 0).min(self.tables.len());
         let all = &mut self.tables[..];
         let tables = &mut all[..entries];
         show_answer(out, planner_build_tables(rec, tables))?;
@@ -85,12 +82,12 @@ impl Lent {
 
     // Into a row that holds 7 where nothing is counted.
     // Stays: `as`, since an index has no `From` into a word; and an array for the row, since there is no heap.
-    fn spread(&mut self, out: &impl Print) -> io::Result<()> {
+    fn spread(&mut self, out: &impl Print, numbers: &[usize]) -> io::Result<()> {
         let mut counts = [7u32; ROW_ROOM];
         let rec = self.rec.as_slice();
-        let pattern = self.numbers.at(0) as u64;
-        let entries = self.numbers.at(1).min(self.tables.len());
-        let length = self.numbers.at(2).min(counts.len());
+        let pattern = number_at(numbers, 0) as u64;
+        let entries = number_at(numbers, 1).min(self.tables.len());
+        let length = number_at(numbers, 2).min(counts.len());
         let all = &mut self.tables[..];
         let tables = &mut all[..entries];
         let row = &mut counts[..length];
@@ -99,18 +96,17 @@ impl Lent {
         show_counts(out, row)
     }
 
-    fn value(&mut self, out: &impl Print, room: &mut [u8]) -> io::Result<()> {
-        let entries = self.numbers.last_first().min(self.tables.len());
-        let numbers = self.numbers.as_slice();
+    fn value(&mut self, out: &impl Print, numbers: &[usize], room: &mut [u8]) -> io::Result<()> {
+        let entries = number_at(numbers, 0).min(self.tables.len());
         let from = numbers.len().min(1);
         let state = as_bytes(&numbers[from..], room);
         let tables = &self.tables[..entries];
         show_answer(out, planner_value(self.rec.as_slice(), state, tables))
     }
 
-    fn search(&mut self, out: &impl Print, room: &mut [u8]) -> io::Result<()> {
-        let entries = self.numbers.at(0).min(self.tables.len());
-        let bytes = self.numbers.at(1).min(room.len());
+    fn search(&mut self, out: &impl Print, numbers: &[usize], room: &mut [u8]) -> io::Result<()> {
+        let entries = number_at(numbers, 0).min(self.tables.len());
+        let bytes = number_at(numbers, 1).min(room.len());
         let rec = self.rec.as_slice();
         let all = &mut self.tables[..];
         let tables = &mut all[..entries];
@@ -119,8 +115,13 @@ impl Lent {
         show_first(out, "plan", plan)
     }
 
-    fn check_plan(&mut self, out: &impl Print, room: &mut [u8]) -> io::Result<()> {
-        let plan = as_bytes(self.numbers.as_slice(), room);
+    fn check_plan(
+        &mut self,
+        out: &impl Print,
+        numbers: &[usize],
+        room: &mut [u8],
+    ) -> io::Result<()> {
+        let plan = as_bytes(numbers, room);
         let rec = self.rec.as_slice();
         if rec.len() < AT_PATTERNS {
             return Ok(());
@@ -131,15 +132,21 @@ impl Lent {
         )
     }
 
-    fn call(&mut self, out: &impl Print, letter: u8, room: &mut [u8]) -> io::Result<()> {
+    fn call(
+        &mut self,
+        out: &impl Print,
+        letter: u8,
+        numbers: &[usize],
+        room: &mut [u8],
+    ) -> io::Result<()> {
         match letter {
-            b'c' => self.cells(out),
-            b's' => self.state(out, room),
-            b'b' => self.build(out),
-            b'f' => self.search(out, room),
-            b'h' => self.spread(out),
-            b'v' => self.value(out, room),
-            b'p' => self.check_plan(out, room),
+            b'c' => self.cells(out, numbers),
+            b's' => self.state(out, numbers, room),
+            b'b' => self.build(out, numbers),
+            b'f' => self.search(out, numbers, room),
+            b'h' => self.spread(out, numbers),
+            b'v' => self.value(out, numbers, room),
+            b'p' => self.check_plan(out, numbers, room),
             _ => Ok(()),
         }
     }
@@ -156,18 +163,14 @@ impl Lent {
         let name = line.iter().position(|&b| b == b':').unwrap_or(line.len());
         let list = (name + 2).min(line.len());
         if letter == b'l' {
-            self.numbers.read(&line[list..]);
-            self.rec.lent = self.numbers.at(0);
+            self.rec.lent = number_at(&numbers_of(&line[list..]), 0);
             return Ok(());
         }
         out.write_all(&line[..name])?;
         match letter {
             b'r' => self.read(out, &mut line[list..])?,
             b'a' => show_answer(out, planner_additive(self.rec.as_slice()))?,
-            _ => {
-                self.numbers.read(&line[list..]);
-                self.call(out, letter, room)?
-            }
+            _ => self.call(out, letter, &numbers_of(&line[list..]), room)?,
         }
         println!(out)
     }

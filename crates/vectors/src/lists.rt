@@ -1,5 +1,5 @@
 // The arguments of a line: text with its line breaks, and lists of numbers.
-ghost use Rattle.std.specs.Prelude.{◌≤◌, length};
+use arrayvec::ArrayVec;
 
 // The document writes / for a line break.
 pub(crate) fn break_lines(text: &mut [u8]) {
@@ -23,49 +23,22 @@ fn number_of(piece: &[u8]) -> usize {
 }
 
 // The numbers of a list.
-// Stays: with no heap they stand in an array, with their count.
-#[derive(Drop)]
-pub(crate) struct Numbers {
-    cells: [usize; 64],
-    count: usize,
-    ghost in_room: { count ≤ 64 },
+pub(crate) type Numbers = ArrayVec<usize, 64>;
+
+// They are parted by commas; those that find no room are passed over.
+pub(crate) fn numbers_of(list: &[u8]) -> Numbers {
+    let mut numbers = Numbers::new();
+    if !list.is_empty() {
+        for piece in list.split(|&b| b == b',') {
+            let _ = numbers.try_push(number_of(piece));
+        }
+    }
+    numbers
 }
 
-impl Numbers {
-    pub(crate) fn new() -> Numbers {
-        Numbers {
-            cells: [0; 64],
-            count: 0,
-        }
-    }
-
-    // The numbers are parted by commas; those that find no room are passed over.
-    pub(crate) fn read(&mut self, list: &[u8]) {
-        self.count = 0;
-        if list.is_empty() {
-            return;
-        }
-        for piece in list.split(|&b| b == b',') {
-            if self.count < 64 {
-                self.cells[self.count] = number_of(piece);
-                self.count += 1;
-            }
-        }
-    }
-
-    pub(crate) fn as_slice(&self) -> &[usize] {
-        &self.cells[..self.count]
-    }
-
-    // Number k of the list, or 0 where it has fewer.
-    pub(crate) fn at(&self, k: usize) -> usize {
-        self.as_slice().get(k).copied().unwrap_or(0)
-    }
-
-    // The number that a list last began with: an empty list leaves it.
-    pub(crate) fn last_first(&self) -> usize {
-        self.cells[0]
-    }
+// Number k of a list, or 0 where it has fewer.
+pub(crate) fn number_at(numbers: &[usize], k: usize) -> usize {
+    numbers.get(k).copied().unwrap_or(0)
 }
 
 // The numbers as bytes, as many as find room.

@@ -11,6 +11,6 @@ pub returns-then-is_framed : goal.returns-then-is_framed
 unfolding number_of well_formed
 returns-then-is_framed c = rw (sym c.is_framed.ensures ∙ c.if-is_framed.true) c.value_of.ensures
 
-pub returns : goal.returns
+pub returns-else-is_framed : goal.returns-else-is_framed
 unfolding number_of well_formed
-returns c = rw (sym c.is_framed.ensures ∙ c.if-is_framed.false)
+returns-else-is_framed c = rw (sym c.is_framed.ensures ∙ c.if-is_framed.false)
