@@ -3,14 +3,12 @@
 use mathlib.Core.Path.{◌≡◌, refl}
 use mathlib.Core.Bool.{Bool, true, false, cond}
 use mathlib.Core.List.{List, [], ◌∷◌}
-use Prim.Native.Nat.{ℕ, zero, suc, ◌+◌, ◌≤◌, ◌<◌}
+use Prim.Native.Nat.{ℕ, zero, suc, ◌<◌}
 use native.Mathlib.Nat.{not-suc-le-zero}
 use lib.Dec.{eqb}
-use lib.ListN.{length, take, drop, get_or, drop_of_length-le}
-use borrow.Author.Tests.{eq-eqb, ne_eqb}
+use lib.ListN.{length, take, drop}
 use Rattle.std.specs.List.{slice_split, onto_first}
 use Rattle.reader.specs.Text.{line_break, index_of, push, pieces, lines_of}
-use Rattle.task_record.proofs.Rest.{drop_step}
 
 onto_push : (x : ℕ) (ps : List (List ℕ)) → onto_first x ps ≡ push x ps
 onto_push x [] = refl

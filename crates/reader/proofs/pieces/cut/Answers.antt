@@ -2,7 +2,7 @@
 use Prim.Native.Nat.{◌+◌, ◌≤◌, ℕ}
 use borrow.Author.Tests.{ltb-false}
 use lib.Dec.{eqb, ltb}
-use lib.ListN.{drop, drop_of_length-le, length, take}
+use lib.ListN.{drop, drop_of_length-le, take}
 use lib.Seq.{take_all}
 use mathlib.Core.Bool.{Bool, true, false, cond, false≢true}
 use mathlib.Core.List.{List}
