@@ -14,6 +14,7 @@ fn is_framed(s: &[u8]) -> bool
 }
 
 // What digits say, where every byte is one.
+// Stays: a loop, since a fold's closure would have to be told how many digits came before, so that `v * 10` does not wrap.
 fn value_of(s: &[u8]) -> Option<usize>
     requires { length s.now ≤ 7 }
     ensures { result ≡ cond (digits s.now) (Some (value 0 s.now)) None }

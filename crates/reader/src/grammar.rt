@@ -45,11 +45,13 @@ fn take_number(rec: &mut [u8], field: Field, n: Option<usize>) -> Result<(), Lin
     ensures { (due : Due) → take_number rec.old due field.low field.high field.at n ≡ went due result rec.new }
 {
     let n = n.ok_or(LineFault::Form)?;
-    if n < usize::from(field.low) || usize::from(field.high) < n {
-        return Err(LineFault::Range);
+    match u8::try_from(n) {
+        Ok(n) if field.low <= n && n <= field.high => {
+            put(rec, field.at, n);
+            Ok(())
+        }
+        _ => Err(LineFault::Range),
     }
-    put(rec, field.at, n as u8);
-    Ok(())
 }
 
 // The budget, lowest byte first.

@@ -15,7 +15,7 @@ pub struct Front<'a, T> {
 }
 
 // A number of one or two digits.
-pub(crate) fn short_number(s: &[u8]) -> Option<Front<'_, usize>>
+pub(crate) fn short_number(s: &[u8]) -> Option<Front<'_, u8>>
     requires { 2 ≤ length s.now }
     ensures { IfSome result (λ n. (n.read < 100) × (length s.now ≤ length n.rest.now + 2) × (s.now ≡ decimal n.read ++ n.rest.now)) }
 {
@@ -26,7 +26,7 @@ pub(crate) fn short_number(s: &[u8]) -> Option<Front<'_, usize>>
     }
     if !b.is_ascii_digit() {
         return Some(Front {
-            read: usize::from(a - b'0'),
+            read: a - b'0',
             rest: &s[1..],
         });
     }
@@ -34,7 +34,7 @@ pub(crate) fn short_number(s: &[u8]) -> Option<Front<'_, usize>>
         return None;
     }
     Some(Front {
-        read: 10 * usize::from(a - b'0') + usize::from(b - b'0'),
+        read: 10 * (a - b'0') + (b - b'0'),
         rest: &s[2..],
     })
 }

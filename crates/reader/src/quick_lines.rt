@@ -104,12 +104,9 @@ pub(crate) fn quick_number_line<'a>(
     if rest[0] != LINE_BREAK {
         return None;
     }
-    if x < usize::from(field.low) {
+    if x < field.low || field.high < x {
         return None;
     }
-    if usize::from(field.high) < x {
-        return None;
-    }
-    rec.store(field.at, x as u8);
+    rec.store(field.at, x);
     Some(&rest[1..])
 }

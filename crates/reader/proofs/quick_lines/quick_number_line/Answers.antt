@@ -15,5 +15,5 @@ returns c =
       value = v;
       had = b.0;
       stands = number_at v i.rest.now a.field.low a.field.high a.rec.now a.field.at i.read _ n.2 (omega (arith, n.0)) (omega (arith, b.1, n.1)) c.if-rest-ne-LINE_BREAK.false
-          (rw c.from.ensures at c.if-x-from.false) (rw c.from-2.ensures at c.if-from-x.false) c.store.ensures.0 c.store.ensures.1;
+          c.if-x-field.false c.if-field-x.false c.store.ensures.0 c.store.ensures.1;
     }
