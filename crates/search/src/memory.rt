@@ -5,7 +5,8 @@
 ghost use Rattle.std.specs.Prelude.{◌≡◌, ◌<◌, ◌≤◌, true, length};
 ghost use Rattle.search.specs.Memory.{said, result_word, Recalls, Noted};
 
-// Stays: four numbers in one word, since memory is fixed and a field for each would make a slot half as large again.
+// Stays: four numbers in one word: with a field for each a slot is half as large again, and a short search, which fills the small memory once, takes
+// 1.09 of the instructions, one that fills the large one 1.07.
 #[derive(Clone, Copy)]
 pub(crate) struct Slot {
     pub state: u64,
@@ -15,7 +16,8 @@ pub(crate) struct Slot {
 pub(crate) const EMPTY: Slot = Slot { state: 0, word: 0 };
 
 // After how many examinations a state ends, the size of its plan (0: it fails) and the plan's first byte.
-// Stays: 0 for a failure, since the same cell is a place in the buffer where slots say where plans stand (`written`), and 0 is one of those.
+// Stays: a size of 0 for a failure: in the slots of `written` the same cell is the place of a plan's first byte, which may be 0, so that an Option made
+// of the cell here would lose that place.
 #[derive(Clone, Copy)]
 pub(crate) struct Recalled {
     pub made: u32,

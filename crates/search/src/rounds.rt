@@ -1,6 +1,8 @@
 // Rounds of examinations from a state, one more depth each, up to the limit; then the plan that was found is written and the buffer
 // is cleared behind it. The rounds begin with a small memory; where they outgrow it, they go on with a larger one, which begins empty.
 // Asks for a limit whose depths fit the memory.
+// Stays: `Startable` at three functions: it is a fact about an instance and a visit together, and a type of both would be made anew wherever the depth
+// or the count changes.
 ghost use Rattle.std.specs.Prelude.{◌≡◌, ◌<◌, ◌≤◌, length};
 ghost use Rattle.planning.specs.Search as planning;
 ghost use Rattle.search.specs.Memory.{Remembers};

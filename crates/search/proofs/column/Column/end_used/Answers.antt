@@ -1,5 +1,5 @@
 -- `search::column::Column::end_used` meets its contract: the variables after the one that was found add nothing. Assumes nothing.
-use Rattle.std.proofs.Common.{◌≡◌, rules, tests, arith}
+use Rattle.std.proofs.Common.{◌≡◌, rules, tests}
 use Rattle.std.proofs.lemmas.Iterator.{first_from_find}
 use Rattle.search.specs.ByteRows.{digit_adds}
 use Rattle.search.proofs.Backward.{yields_below}
