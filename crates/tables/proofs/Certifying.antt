@@ -2,14 +2,14 @@
 -- each loop. Assumes nothing.
 use Rattle.std.proofs.Common.{◌≡◌, ℕ, ◌+◌, ◌-◌, ◌<◌, ◌≤◌, Bool, true, false, not, ◌⊎◌, List, length, get_or, sym, ap, ◌∙◌, ⊎_elim, arith}
 use native.Mathlib.Decide.{dec_lt}
-use lib.Bits.{bit_and, and_le_r}
+use lib.Bits.{bit_and}
 use lib.Count.{count_trailing_zeros}
 use Rattle.planning.proofs.Test.{T_true, false_not_T, and_l}
 use Rattle.tables.specs.declared.certify.Verdict.{Verdict}
 use Rattle.tables.specs.declared.certify.Verdict.TheVariants.{Less, Same, More}
 use Rattle.tables.specs.Sets.{set_from}
 use Rattle.tables.specs.Steps.{Space, weigh, is_goal, permitted, idles, raised, Below, offer}
-use Rattle.tables.specs.Certified.{Attained, Exact, Indexed, counts, Judged, Said, Certified}
+use Rattle.tables.specs.Certified.{Attained, Exact, Indexed, counts, Judged, Said}
 use Rattle.tables.proofs.SetWords.{set_meet, Left, left_all, Next, next_left, none_left}
 use Rattle.tables.proofs.Settled.{inside}
 use Rattle.tables.proofs.Sweeping.{raised_high, below_raised, false_true}

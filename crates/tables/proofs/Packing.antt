@@ -1,6 +1,6 @@
 -- Packed words stand for lists of cells: the mask test is `meets`, keep-and-set is `apply`, the pattern's mask is `keep`, and a word
 -- holds its state. Assumes nothing.
-use Rattle.std.proofs.Common.{◌≡◌, ℕ, zero, suc, ◌+◌, ◌-◌, ◌*◌, ◌/◌, ◌%◌, ◌^◌, ◌<◌, ◌≤◌, Bool, true, false, cond, ◌&&◌, ◌||◌, T, eqb, ltb, List, [], ◌∷◌, ◌++◌, length, get_or, drop, reverse, refl, ap, ◌∙◌, ap₂, mod-eq_of_lt, pow-suc, add-one, arith, ltb→lt, length-drop, drop_of_length-le, drop-cons, eq-eqb, ne_eqb, eqb-true}
+use Rattle.std.proofs.Common.{◌≡◌, ℕ, zero, suc, ◌+◌, ◌-◌, ◌*◌, ◌/◌, ◌%◌, ◌^◌, ◌<◌, ◌≤◌, Bool, true, false, cond, ◌&&◌, ◌||◌, T, eqb, ltb, List, [], ◌∷◌, ◌++◌, length, reverse, refl, ap, ◌∙◌, ap₂, mod-eq_of_lt, pow-suc, arith, ltb→lt, eq-eqb, ne_eqb, eqb-true}
 use native.Mathlib.Nat.{pow-le-pow_right}
 use mathlib.Core.List.{reverse-cons}
 use Rattle.std.proofs.lemmas.List.Sums.{fold-append}

@@ -1,6 +1,6 @@
 -- Laws of counting the entries of one pattern among built tables: where they stand, and that they read back as its costs. Assumes nothing.
-use Rattle.std.proofs.Common.{◌≡◌, ℕ, zero, suc, ◌+◌, ◌<◌, ◌≤◌, min, cond, eqb, ltb, List, [], ◌∷◌, ◌++◌, map, length, get_or, take, drop, set, replicate, sym, refl, ap, ◌∙◌, add-one, arith, length-take, take-suc-set, drop_at, le-ltb, lt-ltb, eqb-true, Result, Ok, Err}
-use lib.ListN.{length-map, replicate-append-replicate}
+use Rattle.std.proofs.Common.{◌≡◌, ℕ, zero, suc, ◌+◌, ◌<◌, ◌≤◌, min, cond, eqb, ltb, List, [], ◌∷◌, ◌++◌, map, length, get_or, take, drop, replicate, sym, refl, ap, ◌∙◌, add-one, arith, length-take, drop_at, le-ltb, lt-ltb, eqb-true, Result, Ok, Err}
+use lib.ListN.{length-map}
 use Rattle.planning.specs.Extended.{ℕ∞, fin, inf}
 use Rattle.planning.specs.Table.{state_count, table, tables, entry_of, cost_of, EntriesBelow, Small, most_cost}
 use Rattle.planning.specs.Spread.{row_size, spread, place_of}

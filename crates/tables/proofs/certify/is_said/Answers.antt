@@ -1,5 +1,5 @@
 -- `tables::certify::is_said` meets its contract. Assumes nothing.
-use Rattle.std.proofs.Common.{◌≡◌, ℕ, sym, ◌∙◌, inl, inr, arith, eqb-true}
+use Rattle.std.proofs.Common.{◌≡◌, ℕ, inl, inr, arith, eqb-true}
 use Rattle.tables.specs.Spaces.{space_of}
 use Rattle.tables.proofs.Certifying.{judging_start, judged_known, judging_next, judging_hit, judging_end}
 use Rattle.tables.proofs.Sweeping.{false_true}
