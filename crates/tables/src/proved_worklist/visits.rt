@@ -163,7 +163,7 @@ impl<'a, const N: usize> Worklist<'a, N> {
         let two = usize::from(edge.two.weight());
         let ones = usize::from(edge.one.values());
         let twos = usize::from(edge.two.values());
-        // Stays: with the index as `at + y * two + x * one` tables take 1.03 times the instructions, and up to 1.17.
+        // Stays: with the index as `at + y * two + x * one` tables of 16^3 and of 2^12 states take 1.06 times the instructions.
         let mut row = at;
         for y in 0..twos {
             let mut i = row;
