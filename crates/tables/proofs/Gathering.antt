@@ -1,29 +1,11 @@
 -- Sets that are gathered one number at a time, and what is left of one. Assumes nothing.
-use Rattle.std.proofs.Common.{◌≡◌, ℕ, suc, ◌+◌, ◌-◌, ◌*◌, ◌%◌, ◌^◌, ◌<◌, ◌≤◌, Bool, cond, sym, refl, ◌∙◌, pow-suc, add-one, arith}
+use Rattle.std.proofs.Common.{◌≡◌, ℕ, ◌+◌, ◌-◌, ◌*◌, ◌%◌, ◌^◌, ◌<◌, ◌≤◌, Bool, sym, refl, ◌∙◌, arith}
 use native.Mathlib.Nat.{pow-le-pow_right}
 use lib.Bits.{bit_and, bit_or, and_le_r, or_zero_r}
 use mir.Val.{bool_byte}
 use Rattle.planning.proofs.Test.{by_test}
 use Rattle.tables.specs.Sets.{set_from}
 use Rattle.tables.proofs.SetWords.{set_more}
-
--- The set of the numbers below m that pass f, and the bit of m.
-pub record Gathered (f : ℕ → Bool) (m set bit : ℕ) : Type 0 where
-  pub so_far : set ≡ set_from f 0 m
-  pub next_bit : m < 64 → bit ≡ 2 ^ m
-
-pub gathered_none : (f : ℕ → Bool) → Gathered f 0 0 1
-unfolding set_from
-gathered_none f = record { so_far = refl; next_bit = λ l. refl }
-
-pub gathered_next : (f : ℕ → Bool) (m set bit new : ℕ) → m < 64 → new ≡ cond (f m) (bit_or set bit) set → Gathered f m set bit → Gathered f (m + 1) new (bit % 9223372036854775808 * 2)
-gathered_next f m set bit new l e g = record {
-  so_far = e ∙ rw (g.next_bit l, g.so_far) (sym (set_more f m));
-  next_bit = λ h. let q = pow-le-pow_right {n = 2} (omega arith) (let z : m ≤ 62 = omega arith in z) in let s = pow-suc 2 m in let b = g.next_bit l in let z : 2 ^ (m + 1) ≡ 2 ^ suc m = rw add-one in omega arith;
-}
-
-pub gathered_all : (f : ℕ → Bool) (m n set bit : ℕ) → m ≤ n → n ≤ m → Gathered f m set bit → set ≡ set_from f 0 n
-gathered_all f m n set bit l h g = let e : m ≡ n = omega arith in rw e at g.so_far
 
 -- No number yet.
 pub set_none : (f : ℕ → Bool) → 0 ≡ set_from f 0 0

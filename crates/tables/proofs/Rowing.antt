@@ -1,10 +1,11 @@
 -- Sets of edges by the digits of a part of the index: what the slots say, that the meet of two sets misses no edge, and how they are filled.
 -- Assumes nothing.
-use Rattle.std.proofs.Common.{◌≡◌, ℕ, zero, suc, ◌+◌, ◌-◌, ◌*◌, ◌/◌, ◌%◌, ◌^◌, ◌<◌, ◌≤◌, min, Bool, true, false, cond, ◌&&◌, ◌||◌, eqb, List, length, get_or, set, sym, refl, ap, ◌∙◌, ⊎_elim, mul-le-mul_right, mod-lt, div-lt_iff_lt-mul, mul-le-mul, mul-le-mul_left, div-mul-le_self, arith, length-set, get_or-set_other, get_or-set_same, eq-eqb}
+use Rattle.std.proofs.Common.{◌≡◌, ℕ, zero, suc, ◌+◌, ◌-◌, ◌*◌, ◌/◌, ◌%◌, ◌^◌, ◌<◌, ◌≤◌, min, Bool, true, false, cond, ◌&&◌, ◌||◌, eqb, List, ◌++◌, length, take, drop, get_or, set, sym, refl, ap, ◌∙◌, ⊎_elim, mul-le-mul_right, mod-lt, div-lt_iff_lt-mul, mul-le-mul, mul-le-mul_left, div-mul-le_self, arith, add_assoc, length-append, length-drop, length-take-le, get_or-set_other, get_or-set_same, eq-eqb}
 use mathlib.Core.Bool.{and-true, and_assoc, or-true}
 use native.Mathlib.Nat.{div-add-mod}
 use lib.Arith.{digits_div}
 use native.Mathlib.Decide.{dec_lt}
+use Rattle.std.proofs.lemmas.List.{get_or_append_left, get_or-append-add, get_or-drop, get_or-take}
 use lib.Bits.{bit_and, bit_or}
 use Rattle.planning.proofs.Test.{by_test}
 use Rattle.tables.specs.Sets.{set_from, lowest_need, need_at, SlotsOf}
@@ -118,90 +119,94 @@ meet_none slots part word set (suc n) v e = rw (eq-eqb (digit part v) 0 (ap (λ 
 pub meeting_early : {slots : List ℕ} {part word all set rest w v : ℕ} → Meeting slots part word all set rest w v → rest ≡ 0 → set ≡ digits_meet slots part word all 0 16
 meeting_early {slots} {part} {word} {all} {set} {rest} {w} {v} m e = sym (m.goes ∙ meet_none slots part word set (16 - v) v (sym m.rest_is ∙ e))
 
--- The place of a state is among the words.
-pub place_in : (h m step n : ℕ) → h < m → 1 ≤ step → m * step ≤ n → h * step + step ≤ n
-place_in h m step n l s b = let k : h + 1 ≤ m = omega arith in let e = mul-le-mul_right step k in omega (arith, e)
-
 -- A part, filled below h.
-pub record PartTo (states slots old new : List ℕ) (all part step n base h at : ℕ) : Type 0 where
-  pub place : at ≡ h * step
-  pub within : h ≤ n
-  pub long : length new ≡ length old
-  pub here : (j : ℕ) → j < h → get_or new (base + j) 0 ≡ digits_meet slots part (get_or states (j * step) 0) all 0 16
-  pub before : (i : ℕ) → i < base → get_or new i 0 ≡ get_or old i 0
+pub record PartTo (states slots : List ℕ) (all part step : ℕ) (sets : List ℕ) (h : ℕ) : Type 0 where
+  pub here : (j : ℕ) → j < h → get_or sets j 0 ≡ digits_meet slots part (get_or states (j * step) 0) all 0 16
 
-pub part_to_start : {states slots old : List ℕ} {all part step n base : ℕ} → PartTo states slots old old all part step n base 0 0
-part_to_start = record { place = omega arith; within = omega arith; long = refl; here = λ j l. absurd (omega arith); before = λ i l. refl }
+pub part_to_start : {states slots sets : List ℕ} {all part step : ℕ} → PartTo states slots all part step sets 0
+part_to_start = record { here = λ j l. absurd (omega arith) }
 
-pub part_to_next : {states slots old u : List ℕ} {all part step n base h at : ℕ} (r : ℕ) → h < n → base + n ≤ length old → r ≡ digits_meet slots part (get_or states at 0) all 0 16 →
-    PartTo states slots old u all part step n base h at → PartTo states slots old (set u (base + h) r) all part step n base (h + 1) (at + step)
-part_to_next {states} {slots} {old} {u} {all} {part} {step} {n} {base} {h} {at} r l b e v = record {
-  place = omega (arith, v.place);
-  within = omega arith;
-  long = length-set u (base + h) r ∙ v.long;
-  here = λ j d. either j d (dec_lt j h);
-  before = λ i d. get_or-set_other u (base + h) i r 0 (λ z. omega arith) ∙ v.before i d;
-}
+pub part_to_next : {states slots sets : List ℕ} {all part step h : ℕ} (r : ℕ) → h < length sets → r ≡ digits_meet slots part (get_or states (h * step) 0) all 0 16 →
+    PartTo states slots all part step sets h → PartTo states slots all part step (set sets h r) (h + 1)
+part_to_next {states} {slots} {sets} {all} {part} {step} {h} r l e v = record { here = λ j d. either j d (dec_lt j h) }
   where
-    either : (j : ℕ) → j < h + 1 → Dec (j < h) → get_or (set u (base + h) r) (base + j) 0 ≡ digits_meet slots part (get_or states (j * step) 0) all 0 16
-    either j d (yes y) = get_or-set_other u (base + h) (base + j) r 0 (λ z. omega arith) ∙ v.here j y
-    either j d (no y) = let z : j ≡ h = omega arith in let p = v.place in rw z (get_or-set_same u (base + h) r 0 (omega (arith, v.long)) ∙ e ∙ rw p)
+    either : (j : ℕ) → j < h + 1 → Dec (j < h) → get_or (set sets h r) j 0 ≡ digits_meet slots part (get_or states (j * step) 0) all 0 16
+    either j d (yes y) = get_or-set_other sets h j r 0 (λ z. omega arith) ∙ v.here j y
+    either j d (no y) = let z : j ≡ h = omega arith in rw z (get_or-set_same sets h r 0 l ∙ e)
 
-pub part_to_end : {states slots old u : List ℕ} {all part step n base h at : ℕ} → n ≤ h → PartTo states slots old u all part step n base h at → PartFilled states slots old u all part step n base
-part_to_end l v = record { here = λ j b. v.here j (omega arith); before = v.before }
+pub part_to_end : {states slots sets : List ℕ} {all part step h : ℕ} → length sets ≤ h → PartTo states slots all part step sets h → PartFilled states slots all part step sets
+part_to_end l v = record { here = λ j b. v.here j (omega arith) }
 
 -- Two parts make a row.
-pub row_made : {states ts slots old mid new : List ℕ} {all low high lower upper first count base : ℕ} → SlotsOf (edge_need ts first) count 16 slots → all ≡ set_from (λ q. true) 0 count →
-    PartFilled states slots old mid all low 1 lower base → PartFilled states slots mid new all high lower upper (base + lower) →
-    EdgeRow states ts new low high lower upper first count base × ((i : ℕ) → i < base → get_or new i 0 ≡ get_or old i 0)
-row_made {states} {ts} {slots} {old} {mid} {new} {all} {low} {high} {lower} {upper} {first} {count} {base} s e f g = (
-  record {
-    lows = λ l b. let z : l * 1 ≡ l = omega arith in g.before (base + l) (omega arith) ∙ f.here l b ∙ rw z (met s low (get_or states l 0) all e);
-    highs = λ h b. g.here h b ∙ met s high (get_or states (h * lower) 0) all e;
-  },
-  λ i b. g.before i (omega arith) ∙ f.before i b,
-)
+pub row_made : {states ts slots lows highs : List ℕ} {all low high lower upper first count : ℕ} → SlotsOf (edge_need ts first) count 16 slots → all ≡ set_from (λ q. true) 0 count → length lows ≡ lower → length highs ≡ upper →
+    PartFilled states slots all low 1 lows → PartFilled states slots all high lower highs → EdgeRow states ts (lows ++ highs) low high lower upper first count
+row_made {states} {ts} {slots} {lows} {highs} {all} {low} {high} {lower} {upper} {first} {count} s e m n f g = record {
+  lows = λ l b. let z : l * 1 ≡ l = omega arith in get_or_append_left lows highs 0 l (omega (arith, m)) ∙ f.here l (omega (arith, m)) ∙ rw z (met s low (get_or states l 0) all e);
+  highs = λ h b. rw m at (get_or-append-add lows highs h 0) ∙ g.here h (omega (arith, n)) ∙ met s high (get_or states (h * lower) 0) all e;
+}
 
 -- The rows below c.
-pub record RowsTo (states ts old new : List ℕ) (k low high lower upper c base : ℕ) : Type 0 where
-  pub place : base ≡ (lower + upper) * c
+pub record RowsTo (states ts old new : List ℕ) (k low high lower upper c : ℕ) : Type 0 where
   pub within : c ≤ 8
   pub long : length new ≡ length old
-  pub rows : (d : ℕ) → d < c → 64 * d < k → EdgeRow states ts new low high lower upper (64 * d) (min 64 (k - 64 * d)) ((lower + upper) * d)
+  pub rows : (d : ℕ) → d < c → 64 * d < k → EdgeRow states ts (drop ((lower + upper) * d) new) low high lower upper (64 * d) (min 64 (k - 64 * d))
 
-pub rows_to_start : {states ts old : List ℕ} {k low high lower upper : ℕ} → RowsTo states ts old old k low high lower upper 0 0
-rows_to_start = record { place = omega arith; within = omega arith; long = refl; rows = λ d l. absurd (omega arith) }
+pub rows_to_start : {states ts old : List ℕ} {k low high lower upper : ℕ} → RowsTo states ts old old k low high lower upper 0
+rows_to_start = record { within = omega arith; long = refl; rows = λ d l. absurd (omega arith) }
 
-row_kept : {states ts old new : List ℕ} {low high lower upper first count base : ℕ} → EdgeRow states ts old low high lower upper first count base → ((i : ℕ) → i < base + lower + upper → get_or new i 0 ≡ get_or old i 0) →
-    EdgeRow states ts new low high lower upper first count base
-row_kept {lower = lower} {base = base} r g = record { lows = λ l b. g (base + l) (omega arith) ∙ r.lows l b; highs = λ h b. g (base + lower + h) (omega arith) ∙ r.highs h b }
+row_same : {states ts row new : List ℕ} {low high lower upper first count : ℕ} → EdgeRow states ts row low high lower upper first count → ((i : ℕ) → i < lower + upper → get_or new i 0 ≡ get_or row i 0) →
+    EdgeRow states ts new low high lower upper first count
+row_same {lower = lower} r g = record { lows = λ l b. g l (omega arith) ∙ r.lows l b; highs = λ h b. g (lower + h) (omega arith) ∙ r.highs h b }
 
-pub rows_to_next : {states ts old u new : List ℕ} {k low high lower upper c base count : ℕ} → c < 8 → count ≡ min 64 (k - 64 * c) → RowsTo states ts old u k low high lower upper c base →
-    EdgeRow states ts new low high lower upper (64 * c) count base × ((i : ℕ) → i < base → get_or new i 0 ≡ get_or u i 0) → length new ≡ length u → RowsTo states ts old new k low high lower upper (c + 1) (base + (lower + upper))
-rows_to_next {states} {ts} {old} {u} {new} {k} {low} {high} {lower} {upper} {c} {base} {count} l e v r n = record {
-  place = omega (arith, v.place);
+-- A row that was lent comes back with other words.
+abbrev row_put : List ℕ → List ℕ → ℕ → ℕ → List ℕ
+row_put old row base width = take base old ++ (row ++ drop width (drop base old))
+
+module _ (old row : List ℕ) (base width : ℕ) (long : length row ≡ width) (room : base + width ≤ length old) where
+  front : length (take base old) ≡ base
+  front = length-take-le base old (omega arith)
+
+  row_long : length (row_put old row base width) ≡ length old
+  row_long = simp (length-append, length-drop, front, long) (omega (arith, room))
+
+  row_before : (i : ℕ) → i < base → get_or (row_put old row base width) i 0 ≡ get_or old i 0
+  row_before i b = get_or_append_left (take base old) (row ++ drop width (drop base old)) 0 i (omega (arith, front)) ∙ get_or-take base old i 0 b
+
+  row_within : (i : ℕ) → i < width → get_or (row_put old row base width) (base + i) 0 ≡ get_or row i 0
+  row_within i b = rw front at (get_or-append-add (take base old) (row ++ drop width (drop base old)) i 0) ∙ get_or_append_left row (drop width (drop base old)) 0 i (omega (arith, long))
+
+pub rows_to_next : {states ts old u row : List ℕ} {k low high lower upper c count : ℕ} → c < 8 → count ≡ min 64 (k - 64 * c) → RowsTo states ts old u k low high lower upper c →
+    EdgeRow states ts row low high lower upper (64 * c) count → length row ≡ lower + upper → (lower + upper) * c + (lower + upper) ≤ length u →
+    RowsTo states ts old (row_put u row ((lower + upper) * c) (lower + upper)) k low high lower upper (c + 1)
+rows_to_next {states} {ts} {old} {u} {row} {k} {low} {high} {lower} {upper} {c} {count} few e v r long room = record {
   within = omega arith;
-  long = n ∙ v.long;
+  long = row_long u row base width long room ∙ v.long;
   rows = λ d o y. either d o y (dec_lt d c);
 }
   where
-    either : (d : ℕ) → d < c + 1 → 64 * d < k → Dec (d < c) → EdgeRow states ts new low high lower upper (64 * d) (min 64 (k - 64 * d)) ((lower + upper) * d)
-    either d o y (yes x) = row_kept (v.rows d x y) (λ i b. r.1 i (let f : d + 1 ≤ c = omega arith in let g = mul-le-mul_left (lower + upper) f in omega (arith, g, v.place)))
-    either d o y (no x) = let f : d ≡ c = omega arith in let p = v.place in rw (f, ← e, ← p) r.0
+    width : ℕ
+    width = lower + upper
+
+    base : ℕ
+    base = width * c
+
+    either : (d : ℕ) → d < c + 1 → 64 * d < k → Dec (d < c) → EdgeRow states ts (drop (width * d) (row_put u row base width)) low high lower upper (64 * d) (min 64 (k - 64 * d))
+    either d o y (yes x) = row_same (v.rows d x y) (λ i b. get_or-drop (width * d) (row_put u row base width) i 0 ∙ row_before u row base width long room (width * d + i) (let f : d + 1 ≤ c = omega arith in let g = mul-le-mul_left width f in omega (arith, g)) ∙ sym (get_or-drop (width * d) u i 0))
+    either d o y (no x) = let f : d ≡ c = omega arith in rw (f, ← e) (row_same r (λ i b. get_or-drop base (row_put u row base width) i 0 ∙ row_within u row base width long room i b))
 
 -- The meet of the two sets of a row misses no edge.
 both_true : (a b : Bool) → (a && b) ≡ false → a ≡ true → b ≡ true → ⊥
 both_true a b e f g = let z : true ≡ false = sym (rw (f, g)) ∙ e in Rattle.tables.proofs.Sweeping.false_true (sym z)
 
-row_of : {states ts sets : List ℕ} {n k low high lower upper c base : ℕ} → Tests ts k → Parted states n lower low high → n ≡ upper * lower → EdgeRow states ts sets low high lower upper (64 * c) (min 64 (k - 64 * c)) base →
+row_of : {states ts : List ℕ} (sets : List ℕ) {n k low high lower upper c : ℕ} (base : ℕ) → Tests ts k → Parted states n lower low high → n ≡ upper * lower → EdgeRow states ts (drop base sets) low high lower upper (64 * c) (min 64 (k - 64 * c)) →
     (j : ℕ) → j < n → 64 * c < k → Row ts (get_or states j 0) k c (bit_and (get_or sets (base + j % lower) 0) (get_or sets (base + lower + j / lower) 0))
-row_of {states} {ts} {sets} {n} {k} {low} {high} {lower} {upper} {c} {base} t p e r j l b = record {
+row_of {states} {ts} sets {n} {k} {low} {high} {lower} {upper} {c} base t p e r j l b = record {
   chosen = λ q. lows q && highs q;
   count = min 64 (k - 64 * c);
   few = omega arith;
   inside = omega arith;
   whole = λ q d g. omega arith;
-  is = rw (r.lows (j % lower) (mod-lt j p.lower_some), r.highs (j / lower) ((div-lt_iff_lt-mul p.lower_some).1 (omega (arith, l, e)))) (set_meet lows highs 0 (min 64 (k - 64 * c)));
+  is = rw (sym (get_or-drop base sets (j % lower) 0), add_assoc base lower (j / lower), sym (get_or-drop base sets (lower + j / lower) 0), r.lows (j % lower) (mod-lt j p.lower_some), r.highs (j / lower) ((div-lt_iff_lt-mul p.lower_some).1 (omega (arith, l, e)))) (set_meet lows highs 0 (min 64 (k - 64 * c)));
   missed = λ q d f g. let o : 64 * c + q < k = omega arith in both_true (lows q) (highs q) f
       (edge_suits ts (64 * c) q low (get_or states (j % lower) 0) (get_or states j 0) (t.plain (64 * c + q) o) p.low_plain g (p.below j l))
       (edge_suits ts (64 * c) q high (get_or states (j / lower * lower) 0) (get_or states j 0) (t.plain (64 * c + q) o) p.high_plain g (p.above j l));
@@ -213,13 +218,13 @@ row_of {states} {ts} {sets} {n} {k} {low} {high} {lower} {upper} {c} {base} t p 
     highs : ℕ → Bool
     highs q = part_suits (edge_need ts (64 * c) q) high (get_or states (j / lower * lower) 0) 0 16
 
-pub incoming_of : {states ts old sets : List ℕ} {n k low high lower upper c base : ℕ} → Tests ts k → Parted states n lower low high → n ≡ upper * lower →
-    (1 ≤ length old → (d : ℕ) → 64 * d < k → (lower + upper) * d + lower + upper ≤ length old) → RowsTo states ts old sets k low high lower upper c base → k ≤ 64 * c → Incoming states ts n k lower upper sets
-incoming_of {lower = lower} {upper = upper} t p e room v l = record {
+pub incoming_of : {states ts old sets : List ℕ} {n k low high lower upper c : ℕ} → Tests ts k → Parted states n lower low high → n ≡ upper * lower →
+    (1 ≤ length old → (d : ℕ) → 64 * d < k → (lower + upper) * d + lower + upper ≤ length old) → RowsTo states ts old sets k low high lower upper c → k ≤ 64 * c → Incoming states ts n k lower upper sets
+incoming_of {sets = sets} {lower = lower} {upper = upper} t p e room v l = record {
   lower_some = p.lower_some;
   upper_whole = omega (arith, e);
   room = λ a d b. rw v.long (room (rw (← v.long) a) d b);
-  row = λ a j d b y. row_of t p e (v.rows d (omega arith) y) j b y;
+  row = λ a j d b y. row_of sets ((lower + upper) * d) t p e (v.rows d (omega arith) y) j b y;
 }
 
 -- No sets, or no states.

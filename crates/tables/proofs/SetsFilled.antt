@@ -1,6 +1,6 @@
 -- Filling the sets of the actions that the bytes of a state permit: actions are entered by what they need of each digit, and each set is
 -- the meet of what two digits permit. Assumes nothing.
-use Rattle.std.proofs.Common.{◌≡◌, ℕ, suc, ◌+◌, ◌*◌, ◌/◌, ◌%◌, ◌^◌, ◌<◌, ◌≤◌, false, cond, eqb, ltb, leb, List, length, get_or, set, sym, refl, ap, ◌∙◌, ap₂, add-zero, pow-suc, zero-add, arith, le→leb, leb→le, length-set, get_or-set_other, get_or-set_same, ext_get_or, ltb-false, ltb-true, lt-ltb, eq-eqb, ne_eqb}
+use Rattle.std.proofs.Common.{◌≡◌, ℕ, suc, ◌+◌, ◌*◌, ◌/◌, ◌%◌, ◌^◌, ◌<◌, ◌≤◌, false, cond, eqb, ltb, leb, List, length, get_or, set, sym, refl, ap, ◌∙◌, ap₂, add-zero, zero-add, arith, le→leb, leb→le, length-set, get_or-set_other, get_or-set_same, ext_get_or, ltb-false, ltb-true, lt-ltb, eq-eqb, ne_eqb}
 use native.Mathlib.Nat.{pow-le-pow_right}
 use native.Mathlib.Decide.{ℕ_discrete}
 use lib.Bits.{bit_and, bit_or}
@@ -67,39 +67,24 @@ spread_most : (bytes : ℕ) → spread bytes ≤ 8
 unfolding spread
 spread_most bytes = by_test (leb bytes 2) (λ e. rw e (omega arith)) (λ e. by_test (leb bytes 4) (λ f. rw (e, f) (omega arith)) (λ f. rw (e, f) (omega arith)))
 
--- Numbers below m are entered, and `bit` is that of number m.
-pub record Slotting (needs : ℕ → ℕ → ℕ) (digits : ℕ) (slots : List ℕ) (bit m : ℕ) : Type 0 where
+-- Numbers below m are entered.
+pub record Slotting (needs : ℕ → ℕ → ℕ) (digits : ℕ) (slots : List ℕ) (m : ℕ) : Type 0 where
   pub long : length slots ≡ 272
   pub slot_at : (v k : ℕ) → v < digits → k < 17 → get_or slots (17 * v + k) 0 ≡ set_from (λ j. eqb k (needs j v)) 0 m
-  pub power : m < 64 → bit ≡ 2 ^ m
 
 module _ (needs : ℕ → ℕ → ℕ) (digits : ℕ) where
-  pub slotting_starts : (slots : List ℕ) → length slots ≡ 272 → ((i : ℕ) → get_or slots i 0 ≡ 0) → Slotting needs digits slots 1 0
+  pub slotting_starts : (slots : List ℕ) → length slots ≡ 272 → ((i : ℕ) → get_or slots i 0 ≡ 0) → Slotting needs digits slots 0
   unfolding set_from
-  slotting_starts slots l z = record { long = l; slot_at = λ v k h g. z (17 * v + k); power = λ h. refl }
+  slotting_starts slots l z = record { long = l; slot_at = λ v k h g. z (17 * v + k) }
 
-  -- The same, where the bit is made anew for each number.
-  pub slotting_next : {slots new : List ℕ} {m : ℕ} (few : m < 64) → Slotting needs digits slots (2 ^ m) m → length new ≡ length slots
-      → {need value : ℕ} (of : (v : ℕ) → needs m v ≡ need_at need value v) → Entered slots new need value (1 * 2 ^ m % 18446744073709551616) digits → Slotting needs digits new (2 ^ (m + 1)) (m + 1)
+  pub slotting_next : {slots new : List ℕ} {m : ℕ} (few : m < 64) → Slotting needs digits slots m → length new ≡ length slots
+      → {need value : ℕ} (of : (v : ℕ) → needs m v ≡ need_at need value v) → Entered slots new need value (1 * 2 ^ m % 18446744073709551616) digits → Slotting needs digits new (m + 1)
   slotting_next {slots} {new} {m} few s kept of g = let l : m ≤ 63 = omega arith in let p = pow-le-pow_right {n = 2} (omega arith) l in let one : 1 * 2 ^ m % 18446744073709551616 ≡ 2 ^ m = omega arith in record {
     long = kept ∙ s.long;
     slot_at = λ v k h i. (rw one at g).slots v k h i ∙ rw (s.slot_at v k h i, ← of v) (sym (set_more (λ j. eqb k (needs j v)) m));
-    power = λ h. refl;
   }
 
-  module _ {slots new : List ℕ} {bit m : ℕ} (s : Slotting needs digits slots bit m) (few : m < 64) (kept : length new ≡ length slots)
-      {need value : ℕ} (of : (v : ℕ) → needs m v ≡ need_at need value v) (g : Entered slots new need value bit digits) where
-    slot-after : (v k : ℕ) → v < digits → k < 17 → get_or new (17 * v + k) 0 ≡ set_from (λ j. eqb k (needs j v)) 0 (m + 1)
-    slot-after v k h i = g.slots v k h i ∙ rw (s.slot_at v k h i, s.power few, ← of v) (sym (set_more (λ j. eqb k (needs j v)) m))
-
-    power_after : m + 1 < 64 → bit % 9223372036854775808 * 2 ≡ 2 ^ (m + 1)
-    power_after h = let l : m + 1 ≤ 63 = omega arith in let e : m + 1 ≡ suc m = omega arith in let p = pow-suc 2 m in let q = pow-le-pow_right {n = 2} (omega arith) l in
-        let b = s.power few in let r : 2 ^ suc m ≤ 9223372036854775808 = rw e at q in rw (b, e) (omega arith)
-
-    pub slotting_goes_on : Slotting needs digits new (bit % 9223372036854775808 * 2) (m + 1)
-    slotting_goes_on = record { long = kept ∙ s.long; slot_at = slot-after; power = power_after }
-
-pub slotted : {needs : ℕ → ℕ → ℕ} {slots : List ℕ} {digits bit m : ℕ} (n : ℕ) → Slotting needs digits slots bit m → m ≤ n → n ≤ m → SlotsOf needs n digits slots
+pub slotted : {needs : ℕ → ℕ → ℕ} {slots : List ℕ} {digits m : ℕ} (n : ℕ) → Slotting needs digits slots m → m ≤ n → n ≤ m → SlotsOf needs n digits slots
 slotted {m = m} n s l h = let e : m ≡ n = omega arith in record { slot_at = rw e at s.slot_at }
 
 -- What action m needs is in two words.

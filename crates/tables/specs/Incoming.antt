@@ -73,15 +73,14 @@ unfoldable pub part_suits : (ℕ → ℕ) → ℕ → ℕ → ℕ → ℕ → Bo
 part_suits need part word v zero = true
 part_suits need part word v (suc n) = digit_suits need part word v && part_suits need part word (v + 1) n
 
--- The sets of a part are filled from place `base` on, and nothing before it is changed.
-pub record PartFilled (states slots old new : List ℕ) (all part step n base : ℕ) : Type 0 where
-  pub here : (h : ℕ) → h < n → slice_index new (base + h) ≡ digits_meet slots part (slice_index states (h * step)) all 0 16
-  pub before : (i : ℕ) → i < base → slice_index new i ≡ slice_index old i
+-- The sets of a part, for states `step` apart.
+pub record PartFilled (states slots : List ℕ) (all part step : ℕ) (sets : List ℕ) : Type 0 where
+  pub here : (h : ℕ) → h < length sets → slice_index sets h ≡ digits_meet slots part (slice_index states (h * step)) all 0 16
 
--- The row of the edges from `first` on, `count` of them, stands at place `base`: the sets of the lower part, then those of the upper part.
-pub record EdgeRow (states ts sets : List ℕ) (low high lower upper first count base : ℕ) : Type 0 where
-  pub lows : (l : ℕ) → l < lower → slice_index sets (base + l) ≡ set_from (λ q. part_suits (edge_need ts first q) low (slice_index states l) 0 16) 0 count
-  pub highs : (h : ℕ) → h < upper → slice_index sets (base + lower + h) ≡ set_from (λ q. part_suits (edge_need ts first q) high (slice_index states (h * lower)) 0 16) 0 count
+-- The row of the edges from `first` on, `count` of them: the sets of the lower part, then those of the upper part.
+pub record EdgeRow (states ts row : List ℕ) (low high lower upper first count : ℕ) : Type 0 where
+  pub lows : (l : ℕ) → l < lower → slice_index row l ≡ set_from (λ q. part_suits (edge_need ts first q) low (slice_index states l) 0 16) 0 count
+  pub highs : (h : ℕ) → h < upper → slice_index row (lower + h) ≡ set_from (λ q. part_suits (edge_need ts first q) high (slice_index states (h * lower)) 0 16) 0 count
 
 -- The sets of every state, if there are any: a row for each 64 edges, the sets of the lower part and behind them those of the upper part.
 pub record Incoming (states ts : List ℕ) (n k lower upper : ℕ) (sets : List ℕ) : Type 0 where

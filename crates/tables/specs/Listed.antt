@@ -1,5 +1,5 @@
 -- The abstract states of a pattern as they are listed before a worklist goes through them, and the room that it needs. Assumes nothing.
-use Rattle.std.specs.Prelude.{◌≡◌, ℕ, ◌-◌, ◌*◌, ◌<◌, ◌≤◌, List, ◌++◌, length, take, replicate, slice_index}
+use Rattle.std.specs.Prelude.{◌≡◌, ℕ, ◌-◌, ◌*◌, ◌/◌, ◌<◌, ◌≤◌, List, ◌++◌, length, take, replicate, slice_index}
 use Rattle.planning.specs.Table.{state_at}
 use Rattle.tables.specs.Packed.{pack_by, low}
 use Rattle.tables.specs.Steps.{weights_from, Space, space}
@@ -31,3 +31,15 @@ pub record Roomy (p : Patterned) (tests edges sets : List ℕ) : Type 0 where
   pub tests_room : 2 * edges_most p ≤ length tests
   pub edges_room : 4 * edges_most p ≤ length edges
   pub sets_room : SetsRoom (states_of p) (edges_most p) (length sets)
+
+-- Numbers of words with room for the states, for twice as many words of tests as there are edges, for the edges, and for their sets.
+pub record RoomFor (p : Patterned) (states tests edges sets : ℕ) : Type 0 where
+  pub states_room : states_of p ≤ states
+  pub states_some : 1 ≤ states
+  pub states_few : states ≤ 4096
+  pub tests_room : edges_most p ≤ tests / 2
+  pub tests_few : tests ≤ 1024
+  pub edges_room : 4 * (tests / 2) ≤ edges
+  pub edges_few : edges ≤ 2048
+  pub sets_room : SetsRoom (states_of p) (tests / 2) sets
+  pub sets_few : sets ≤ 8704

@@ -1,8 +1,7 @@
 // The table of one pattern. Arrays are cleared, which is most of what a small table costs: there are several sizes of them.
-ghost use Rattle.std.specs.Prelude.{◌≡◌, ◌*◌, ◌/◌, ◌≤◌, length};
+ghost use Rattle.std.specs.Prelude.{◌≡◌, ◌≤◌, length};
 ghost use Rattle.tables.specs.Patterned.{states_of, TableOf};
-ghost use Rattle.tables.specs.Edges.{outcomes_from};
-ghost use Rattle.tables.specs.Incoming.{SetsRoom};
+ghost use Rattle.tables.specs.Listed.{RoomFor, edges_most};
 
 use crate::pattern::Pattern;
 use crate::proved_worklist::edges::edge_count;
@@ -20,7 +19,7 @@ fn build_within<const STATES: usize, const TESTS: usize, const EDGES: usize, con
     pattern: &Pattern,
     entries: &mut [u16],
 )
-    requires { (length entries.old ≡ states_of pattern.now) × (length entries.old ≤ STATES) × (1 ≤ STATES) × (STATES ≤ 4096) × (outcomes_from pattern.now.task pattern.now.mask 0 pattern.now.actions ≤ TESTS / 2) × (TESTS ≤ 1024) × (4 * (TESTS / 2) ≤ EDGES) × (EDGES ≤ 2048) × (SetsRoom (length entries.old) (TESTS / 2) SETS) × (SETS ≤ 8704) }
+    requires { (length entries.old ≡ states_of pattern.now) × (RoomFor pattern.now STATES TESTS EDGES SETS) }
     ensures { TableOf pattern.now entries.new }
 {
     let mut states = [0u64; STATES];
@@ -56,7 +55,7 @@ fn build_goals(pattern: &Pattern, entries: &mut [u16])
 
 // The table, with arrays of the least size that will do.
 fn build_sized(pattern: &Pattern, edges: usize, entries: &mut [u16])
-    requires { (length entries.old ≡ states_of pattern.now) × (outcomes_from pattern.now.task pattern.now.mask 0 pattern.now.actions ≤ edges) × (edges ≤ 512) }
+    requires { (length entries.old ≡ states_of pattern.now) × (edges_most pattern.now ≤ edges) × (edges ≤ 512) }
     ensures { TableOf pattern.now entries.new }
 {
     if pattern.live == 0 {

@@ -10,6 +10,7 @@ ghost use Rattle.tables.specs.Patterned.{states_of};
 ghost use Rattle.tables.specs.Listed.{space_in, edges_most};
 ghost use Rattle.tables.specs.Made.{LaneOf, back_of, Same, WordsOf, words_at, Untouched, Spanned, ActionPut};
 
+use crate::compiled_task::{kept, need, outcome_count, set, value, weight};
 use crate::places::Members;
 use crate::proved_worklist::states::States;
 use crate::sweep::index_of;
@@ -77,10 +78,9 @@ fn is_twin(task: &[u64; 1282], mask: u64, m: usize, o: usize) -> bool
     requires { (m < 64) × (o < 8) }
     ensures { result ≡ true → (p : ℕ) × (p < o) × Same task.now mask m p o }
 {
-    let kept = task[20 * m + 4 + 2 * o] & mask;
-    let sets = task[20 * m + 5 + 2 * o] & mask;
-    (0..o).any(|p| task[20 * m + 4 + 2 * p] & mask == kept
-        && task[20 * m + 5 + 2 * p] & mask == sets)
+    let keeps = kept(task, m, o) & mask;
+    let sets = set(task, m, o) & mask;
+    (0..o).any(|p| kept(task, m, p) & mask == keeps && set(task, m, p) & mask == sets)
 }
 
 // How the index changes on the way back, modulo 65,536.
@@ -114,18 +114,18 @@ fn edge_of(states: &States, m: usize, o: usize) -> Option<EdgeWords>
     if is_twin(task, mask, m, o) {
         return None;
     }
-    let need = task[20 * m];
-    let value = task[20 * m + 1];
-    let kept = task[20 * m + 4 + 2 * o] & mask;
-    let sets = task[20 * m + 5 + 2 * o] & mask;
-    let names = mask - kept;
+    let need = need(task, m);
+    let value = value(task, m);
+    let keeps = kept(task, m, o) & mask;
+    let sets = set(task, m, o) & mask;
+    let names = mask - keeps;
     let way = way_back(index_of(weights, value & names), index_of(weights, sets));
-    let weight = task[20 * m + 3].min(u64::from(u16::MAX));
+    let weight = weight(task, m).min(u64::from(u16::MAX));
     let one = lane_of(weights, sizes, names - (need & names));
     let two = lane_of(weights, sizes, one.rest);
     Some(EdgeWords {
-        mask: names | (need & kept),
-        value: sets | (value & kept),
+        mask: names | (need & keeps),
+        value: sets | (value & keeps),
         back: way + 65536 * weight + 4294967296 * m as u64,
         lanes: one.lane + 4294967296 * two.lane,
         free: two.rest,
@@ -167,8 +167,7 @@ fn put_action(
     ensures { ActionPut states.now.pattern.now.task states.now.pattern.now.mask states.now.weights.now states.now.pattern.now.sizes tests.old edges.old tests.new edges.new first m result }
 {
     let pattern = states.pattern;
-    let task = pattern.task;
-    let n = task[20 * m + 2] as usize;
+    let n = outcome_count(pattern.task, m);
     let mut e = first;
     for o in 0..n {
         if let Some(words) = edge_of(states, m, o) {
@@ -200,7 +199,7 @@ pub(crate) fn edge_count(task: &[u64; 1282], mask: u64, actions: usize, live: u6
 {
     let mut c = 0usize;
     for m in Members(live) {
-        c += task[20 * m + 2] as usize;
+        c += outcome_count(task, m);
     }
     c
 }

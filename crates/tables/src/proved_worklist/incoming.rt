@@ -2,35 +2,37 @@
 // edges. The meet of the two sets misses no edge that leads into the state; going along another edge does no harm. A table of few states has
 // no sets, and its edges are tested one by one.
 ghost use Rattle.std.specs.Prelude.{◌≡◌, ℕ, ◌+◌, ◌-◌, ◌*◌, ◌/◌, ◌<◌, ◌≤◌, min, true, length, slice_index};
-ghost use Rattle.tables.specs.Sets.{set_from, SlotsOf};
+ghost use Rattle.tables.specs.Sets.{SlotsOf};
 ghost use Rattle.tables.specs.Incoming.{Row, Tests, Halved, Incoming, edge_need, digits_meet, PartFilled, EdgeRow};
 
 use crate::applying::enter;
 use crate::proved_worklist::edges::Graph;
 use crate::sets::set_of;
 
-// Enters the edges from `first` on, `count` of them, in the slots of what their tests ask of each digit, and
-// hands back the set of all of them.
-fn enter_edges(tests: &[u64], first: usize, count: usize, slots: &mut [u64]) -> u64
-    requires { (length slots.old ≡ 272) × (count ≤ 64) × (first + count ≤ 512) × (2 * (first + count) ≤ length tests.now) × ((i : ℕ) → slice_index slots.old i ≡ 0) }
-    ensures { (SlotsOf (edge_need tests.now first) count 16 slots.new) × (result ≡ set_from (λ q. true) 0 count) }
-{
-    let mut all = 0u64;
-    let mut bit = 1u64;
-    for q in 0..count {
-        let at = 2 * (first + q);
-        enter(slots, tests[at], tests[at + 1], bit, 16);
-        all = all | bit;
-        bit = bit % 9223372036854775808 * 2;
-    }
-    all
+// The edges of a row, entered in the slots of what their tests ask of each digit, and the set of all of them.
+#[derive(Drop)]
+struct EdgeSlots {
+    slots: [u64; 272],
+    all: u64,
 }
 
-// Those of a set of edges whose tests the digits of a word within a part pass.
-fn meet_digits(slots: &[u64; 272], all: u64, part: u64, word: u64) -> u64
-    ensures { result ≡ digits_meet slots.now part word all 0 16 }
+// Enters the edges from `first` on, `count` of them.
+fn enter_edges(tests: &[u64], first: usize, count: usize, slots: &mut [u64; 272])
+    requires { (count ≤ 64) × (first + count ≤ 512) × (2 * (first + count) ≤ length tests.now) × ((i : ℕ) → slice_index slots.old i ≡ 0) }
+    ensures { SlotsOf (edge_need tests.now first) count 16 slots.new }
 {
-    let mut set = all;
+    for q in 0..count {
+        let at = 2 * (first + q);
+        enter(slots, tests[at], tests[at + 1], 1 << q, 16);
+    }
+}
+
+// Those of the edges whose tests the digits of a word within a part pass.
+fn meet_digits(edges: &EdgeSlots, part: u64, word: u64) -> u64
+    ensures { result ≡ digits_meet edges.now.slots part word edges.now.all 0 16 }
+{
+    let slots = &edges.slots;
+    let mut set = edges.all;
     let mut rest = part;
     let mut w = word;
     for v in 0..16 {
@@ -46,24 +48,13 @@ fn meet_digits(slots: &[u64; 272], all: u64, part: u64, word: u64) -> u64
     set
 }
 
-// The sets of a part from place `base` on: for each of n states, `step` apart.
-fn fill_part(
-    states: &[u64],
-    slots: &[u64; 272],
-    all: u64,
-    part: u64,
-    step: usize,
-    n: usize,
-    base: usize,
-    sets: &mut [u64],
-)
-    requires { (1 ≤ step) × (n * step ≤ length states.now) × (base + n ≤ length sets.old) }
-    ensures { PartFilled states.now slots.now sets.old sets.new all part step n base }
+// The sets of a part, for states `step` apart.
+fn fill_part(edges: &EdgeSlots, states: &[u64], part: u64, step: usize, sets: &mut [u64])
+    requires { (1 ≤ step) × (length sets.old * step ≤ length states.now) }
+    ensures { PartFilled states.now edges.now.slots edges.now.all part step sets.new }
 {
-    let mut at = 0usize;
-    for h in 0..n {
-        sets[base + h] = meet_digits(slots, all, part, states[at]);
-        at += step;
+    for (h, set) in sets.iter_mut().enumerate() {
+        *set = meet_digits(edges, part, states[h * step]);
     }
 }
 
@@ -78,32 +69,18 @@ pub(crate) struct Halves<'a> {
 }
 
 // The row of the edges from `first` on, `count` of them.
-fn fill_row(
-    halves: &Halves,
-    tests: &[u64],
-    first: usize,
-    count: usize,
-    base: usize,
-    sets: &mut [u64],
-)
-    requires { (count ≤ 64) × (first + count ≤ 512) × (2 * (first + count) ≤ length tests.now) × (Halved halves.now.words.now halves.now.lower halves.now.upper halves.now.low halves.now.high) × (1 ≤ halves.now.upper) × (base + halves.now.lower + halves.now.upper ≤ length sets.old) }
-    ensures { (EdgeRow halves.now.words.now tests.now sets.new halves.now.low halves.now.high halves.now.lower halves.now.upper first count base) × ((i : ℕ) → i < base → slice_index sets.new i ≡ slice_index sets.old i) }
+fn fill_row(halves: &Halves, tests: &[u64], first: usize, count: usize, row: &mut [u64])
+    requires { (count ≤ 64) × (first + count ≤ 512) × (2 * (first + count) ≤ length tests.now) × (Halved halves.now.words.now halves.now.lower halves.now.upper halves.now.low halves.now.high) × (1 ≤ halves.now.upper) × (length row.old ≡ halves.now.lower + halves.now.upper) }
+    ensures { EdgeRow halves.now.words.now tests.now row.new halves.now.low halves.now.high halves.now.lower halves.now.upper first count }
 {
-    let words = halves.words;
-    let lower = halves.lower;
-    let mut slots = [0u64; 272];
-    let all = enter_edges(tests, first, count, &mut slots);
-    fill_part(words, &slots, all, halves.low, 1, lower, base, sets);
-    fill_part(
-        words,
-        &slots,
-        all,
-        halves.high,
-        lower,
-        halves.upper,
-        base + lower,
-        sets,
-    );
+    let mut edges = EdgeSlots {
+        slots: [0; 272],
+        all: set_of(count, |_| true),
+    };
+    enter_edges(tests, first, count, &mut edges.slots);
+    let (lows, highs) = row.split_at_mut(halves.lower);
+    fill_part(&edges, halves.words, halves.low, 1, lows);
+    fill_part(&edges, halves.words, halves.high, halves.lower, highs);
 }
 
 // Every row, if there is room for sets at all.
@@ -121,7 +98,8 @@ pub(crate) fn fill_sets(halves: &Halves, tests: &[u64], k: usize, sets: &mut [u6
     for c in 0..k.div_ceil(64) {
         let first = 64 * c;
         let count = (k - first).min(64);
-        fill_row(halves, tests, first, count, width * c, sets);
+        let base = width * c;
+        fill_row(halves, tests, first, count, &mut sets[base..base + width]);
     }
 }
 

@@ -9,19 +9,19 @@ pub invariant_of-listed : goal.invariant_of-listed
 invariant_of-listed g c = rw (← c.pattern.view_is) (record { listed = record { weights_are = c.weights_of-weights.ensures; words_are = c.fill_states.ensures; long = search rules } })
 
 pub settle-requires : goal.settle-requires
-settle-requires g c = let p = rw (← c.pattern.view_is) at c.requires in
+settle-requires g c = let p = rw (← c.pattern.view_is) at c.requires in let r = p.1 in
     rw (← c.pattern.view_is) (
       p.0,
       c.parts_of-parts.ensures,
       record {
-        few = omega (arith, p.4, p.5);
+        few = omega (arith, r.tests_room, r.tests_few);
         tests_room = search rules;
         edges_room = search rules;
-        sets_room = record { rows = rw (length-replicate {A = ℕ} g.row.SETS 0) (λ some lower d l f u b. rw (← p.0) (p.8.rows some lower d l f (rw p.0 u) (omega (arith, b, p.4)))) };
+        sets_room = record { rows = rw (length-replicate {A = ℕ} g.row.SETS 0) (λ some lower d l f u b. r.sets_room.rows some lower d l f u (omega (arith, b, r.tests_room))) };
       },
-      p.1,
-      p.2,
-      p.3,
+      omega (arith, p.0, r.states_room),
+      r.states_some,
+      r.states_few,
     )
 
 pub returns : goal.returns
