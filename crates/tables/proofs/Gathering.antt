@@ -1,22 +1,27 @@
 -- Sets that are gathered one number at a time, and what is left of one. Assumes nothing.
-use Rattle.std.proofs.Common.{◌≡◌, ℕ, ◌+◌, ◌-◌, ◌*◌, ◌%◌, ◌^◌, ◌<◌, ◌≤◌, Bool, sym, refl, ◌∙◌, arith}
+use Rattle.std.proofs.Common.{◌≡◌, ℕ, suc, ◌+◌, ◌-◌, ◌*◌, ◌%◌, ◌<◌, ◌≤◌, Bool, refl, ◌∙◌, arith}
 use native.Mathlib.Nat.{pow-le-pow_right}
-use lib.Bits.{bit_and, bit_or, and_le_r, or_zero_r}
+use lib.Bits.{bit_and, bit_or, and_le_r, or_zero_r, or_block}
 use mir.Val.{bool_byte}
 use Rattle.planning.proofs.Test.{by_test}
 use Rattle.tables.specs.Sets.{set_from}
-use Rattle.tables.proofs.SetWords.{set_more}
+use Rattle.tables.proofs.SetWords.{set_below}
 
 -- No number yet.
-pub set_none : (f : ℕ → Bool) → 0 ≡ set_from f 0 0
+pub set_none : (f : ℕ → Bool) (m : ℕ) → 0 ≡ set_from f m 0
 unfolding set_from
-set_none f = refl
+set_none f m = refl
 
--- One number more, at the place that it has in the word.
-pub set_joins : (f : ℕ → Bool) (n set : ℕ) (b : Bool) → n < 64 → b ≡ f n → set ≡ set_from f 0 n → bit_or set (bool_byte b * 2 ^ n % 18446744073709551616) ≡ set_from f 0 (n + 1)
-set_joins f n set b l e h = rw h (by_test b
-    (λ t. let p = pow-le-pow_right {n = 2} (omega arith) (let z : n ≤ 63 = omega arith in z) in let v : 1 * 2 ^ n % 18446744073709551616 ≡ 2 ^ n = omega arith in rw (t, v) (sym (set_more f n ∙ rw (← e, t) refl)))
-    (λ t. let v : 0 * 2 ^ n % 18446744073709551616 ≡ 0 = omega arith in rw (t, v) (or_zero_r (set_from f 0 n) ∙ sym (set_more f n ∙ rw (← e, t) refl))))
+-- A 1 in the place that a shift leaves free.
+or_one : (a : ℕ) → bit_or (a * 2) 1 ≡ a * 2 + 1
+or_one a = let o = or_block 1 a 0 0 1 (omega arith) (omega arith) in let z : a * 2 + 0 ≡ a * 2 = omega arith in rw (z, or_zero_r a) at o
+
+-- One number more at the lower end.
+pub set_joins : (f : ℕ → Bool) (q n set : ℕ) (b : Bool) → 0 < q → q ≤ n → n ≤ 64 → b ≡ f (q - 1) → set ≡ set_from f q (n - q) → bit_or (set * 2 % 18446744073709551616) (bool_byte b) ≡ set_from f (q - 1) (n - (q - 1))
+unfolding set_from
+set_joins f q n set b some l few e h = let k : n - (q - 1) ≡ suc (n - q) = omega arith in let m : q - 1 + 1 ≡ q = omega arith in
+    let p = pow-le-pow_right {n = 2} (omega arith) (let z : n - q ≤ 63 = omega arith in z) in let w = set_below f q (n - q) in let v : set * 2 % 18446744073709551616 ≡ set * 2 = omega arith in
+    rw (k, m, ← h, ← e, v) (by_test b (λ t. rw t (or_one set)) (λ t. rw t (or_zero_r (set * 2) ∙ omega arith)))
 
 -- What is left of a set is less.
 pub set-falls : (w : ℕ) → (w ≡ 0 → ⊥) → bit_and w (w - 1) < w

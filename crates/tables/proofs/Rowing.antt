@@ -1,6 +1,6 @@
 -- Sets of edges by the digits of a part of the index: what the slots say, that the meet of two sets misses no edge, and how they are filled.
 -- Assumes nothing.
-use Rattle.std.proofs.Common.{◌≡◌, ℕ, zero, suc, ◌+◌, ◌-◌, ◌*◌, ◌/◌, ◌%◌, ◌^◌, ◌<◌, ◌≤◌, min, Bool, true, false, cond, ◌&&◌, ◌||◌, eqb, List, ◌++◌, length, take, drop, get_or, set, sym, refl, ap, ◌∙◌, ⊎_elim, mul-le-mul_right, mod-lt, div-lt_iff_lt-mul, mul-le-mul, mul-le-mul_left, div-mul-le_self, arith, add_assoc, length-append, length-drop, length-take-le, get_or-set_other, get_or-set_same, eq-eqb}
+use Rattle.std.proofs.Common.{◌≡◌, ℕ, zero, suc, ◌+◌, ◌-◌, ◌*◌, ◌/◌, ◌%◌, ◌^◌, ◌<◌, ◌≤◌, min, Bool, true, false, cond, ◌&&◌, ◌||◌, eqb, List, ◌++◌, length, take, drop, get_or, set, sym, refl, ap, ◌∙◌, ⊎_elim, mod-lt, div-lt_iff_lt-mul, mul-le-mul, mul-le-mul_left, div-mul-le_self, arith, add_assoc, length-append, length-drop, length-take-le, get_or-set_other, get_or-set_same, eq-eqb}
 use mathlib.Core.Bool.{and-true, and_assoc, or-true}
 use native.Mathlib.Nat.{div-add-mod}
 use lib.Arith.{digits_div}
