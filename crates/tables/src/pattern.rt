@@ -1,4 +1,5 @@
 // A pattern of a compiled task: what the build of its table works on, however it is made, and what that rests on.
+// Stays: the entries beside a pattern, as beside a `Space`.
 ghost use Rattle.std.specs.Prelude.{◌≡◌};
 ghost use Rattle.tables.specs.Patterned.{Chosen, PatternOf, states_of};
 

@@ -1,4 +1,6 @@
 // What the build of one pattern's table works on.
+// Stays: the entries beside a space, with a clause on their number: most functions lower entries that are lent to them, and a struct that lends them on
+// says in each contract that they are the same ones before and after (as `Worklist` does), which is longer than the clause.
 ghost use Rattle.std.specs.Prelude.{◌≡◌, ℕ, ◌<◌, ◌≤◌, not, length, slice_index};
 ghost use Rattle.tables.specs.Packed.{outcome_count};
 ghost use Rattle.tables.specs.Sets.{set_from};
