@@ -1,8 +1,7 @@
 // Examining a state that opens and examining an action's outcomes call each other, and the depth left falls by the action's weight. What is decided
 // without examining another state is a leaf beside them (`look`), asked before the call. The count of examinations is carried in every ending, and every
 // result is remembered. Asks for what `Examinable` names, of a state that opens for `Openable`, and gives what `Examines` names.
-ghost use Rattle.std.specs.Prelude.{◌≡◌, ◌-◌, ◌<◌, bit_and};
-ghost use Rattle.std.specs.Int.Count.{count_trailing_zeros};
+ghost use Rattle.std.specs.Prelude.{◌≡◌, ◌<◌};
 ghost use Rattle.search.specs.Examination.{plan_size, plan_head, plans_size, plans_head};
 ghost use Rattle.search.specs.Value.{Estimated};
 ghost use Rattle.search.specs.Packed.{guided_opening, guided_examination, guided_outcomes, guided_value};
@@ -14,6 +13,7 @@ use crate::compiled::{is_beyond, is_goal, left_after, outcome_count, successor};
 use crate::instance::Instance;
 use crate::memory::{Slot, note, recall};
 use tables::applying::applying;
+use tables::sets::Members;
 
 // How an examination begins.
 #[derive(Clone, Copy)]
@@ -71,22 +71,6 @@ fn number_of(m: usize) -> u8
     m as u8
 }
 
-// The lowest number in a set that is not empty, and the set without it.
-// Stays: `as`: a count of bits has no `From` into a place.
-fn lowest(set: u64) -> usize
-    requires { set ≡ 0 → ⊥ }
-    ensures { result ≡ count_trailing_zeros 64 set }
-{
-    u64::trailing_zeros(set) as usize
-}
-
-fn without_lowest(set: u64) -> u64
-    requires { set ≡ 0 → ⊥ }
-    ensures { (result ≡ bit_and set (set - 1)) × (result < set) }
-{
-    set & (set - 1)
-}
-
 // What is known of a state without examining another: it is spent, a goal or cut, or remembered. Else it opens.
 fn look(instance: &Instance, memory: &[Slot], v: Visit) -> Option<Ending>
     requires { Examinable instance.now memory.now v.s v.value v.d v.count }
@@ -107,16 +91,14 @@ fn look(instance: &Instance, memory: &[Slot], v: Visit) -> Option<Ending>
 }
 
 // Examines a state that opens: the actions that apply are tried by number, and the first that succeeds wins.
-// Stays: a `while` over the actions that are left: the loop's fact is one about the set that is left, and an iterator of its members is no plainer.
 #[cycle(examine_outcomes)]
 fn examine(instance: &Instance, memory: &mut [Slot], v: Visit) -> Ending
     requires { Openable instance.now memory.old v.s v.value v.d v.count }
     ensures { Examines plan_size plan_head (guided_examination instance.now) instance.now.guide.budget (guided_examination instance.now v.d v.s v.count) v.count memory.new result }
 {
     let mut c = v.count + 1;
-    let mut set = applying(instance.sets, v.s, (instance.guide.variables + 1) / 2);
-    while set != 0 {
-        let m = lowest(set);
+    let set = applying(instance.sets, v.s, (instance.guide.variables + 1) / 2);
+    for m in Members(set) {
         match outcomes(instance, memory, m, Visit { count: c, ..v }) {
             Ending::Stopped(e) => {
                 return Ending::Stopped(e);
@@ -130,7 +112,6 @@ fn examine(instance: &Instance, memory: &mut [Slot], v: Visit) -> Ending
                 return Ending::Succeeded(e, n + 1, first);
             }
         }
-        set = without_lowest(set);
     }
     note(memory, v.s, v.d, c - v.count, 0, 0);
     Ending::Failed(c)

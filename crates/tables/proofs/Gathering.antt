@@ -1,7 +1,7 @@
--- Sets that are gathered one number at a time, and what is left of one. Assumes nothing.
+-- Sets that are gathered one number at a time. Assumes nothing.
 use Rattle.std.proofs.Common.{◌≡◌, ℕ, suc, ◌+◌, ◌-◌, ◌*◌, ◌%◌, ◌<◌, ◌≤◌, Bool, refl, ◌∙◌, arith}
 use native.Mathlib.Nat.{pow-le-pow_right}
-use lib.Bits.{bit_and, bit_or, and_le_r, or_zero_r, or_block}
+use lib.Bits.{bit_or, or_zero_r, or_block}
 use mir.Val.{bool_byte}
 use Rattle.planning.proofs.Test.{by_test}
 use Rattle.tables.specs.Sets.{set_from}
@@ -22,7 +22,3 @@ unfolding set_from
 set_joins f q n set b some l few e h = let k : n - (q - 1) ≡ suc (n - q) = omega arith in let m : q - 1 + 1 ≡ q = omega arith in
     let p = pow-le-pow_right {n = 2} (omega arith) (let z : n - q ≤ 63 = omega arith in z) in let w = set_below f q (n - q) in let v : set * 2 % 18446744073709551616 ≡ set * 2 = omega arith in
     rw (k, m, ← h, ← e, v) (by_test b (λ t. rw t (or_one set)) (λ t. rw t (or_zero_r (set * 2) ∙ omega arith)))
-
--- What is left of a set is less.
-pub set-falls : (w : ℕ) → (w ≡ 0 → ⊥) → bit_and w (w - 1) < w
-set-falls w h = let l = and_le_r w (w - 1) in omega arith

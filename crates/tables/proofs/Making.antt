@@ -4,13 +4,12 @@ use native.Mathlib.Decide.{dec_lt}
 use lib.Bits.{bit_and, bit_or}
 use lib.Count.{count_trailing_zeros}
 use Rattle.tables.specs.Packed.{pre_mask, pre_value, outcome_count, action_weight, keep_mask, set_value}
-use Rattle.tables.specs.Sets.{set_from}
 use Rattle.tables.specs.Steps.{weigh, Space, idles}
 use Rattle.tables.specs.Edges.{edge_action, edge_end, Edge, Beside, EdgesOf, outcomes_from, named, freed, test_mask, test_value, Regular}
 use Rattle.tables.specs.Incoming.{Tests}
 use Rattle.tables.specs.Made.{LaneOf, Same, back_of, WordsOf, words_at, EdgeIs, Untouched, Served, Group, Spanned, ActionPut}
 use Rattle.tables.specs.declared.proved_worklist.edges.EdgeWords.{EdgeWords}
-use Rattle.tables.proofs.SetWords.{Left, left_all, Next, none_left}
+use Rattle.tables.proofs.SetWords.{Left, Next, none_left}
 use Rattle.tables.proofs.Sweeping.{false_true}
 use Rattle.tables.proofs.Counting.{next_of, outcomes_next}
 use Rattle.tables.proofs.WaysBack.{edge_plain, edge_free_lem, served_edge}
@@ -174,18 +173,6 @@ pub record Building (x : Space) (sizes : List ℕ) (room rest : ℕ) (ts es : Li
   pub edges_room : 4 * room ≤ length es
   pub each : (e : ℕ) → e < c → Inside x sizes ts es c e
   pub covers : (m o : ℕ) → m < from → idles x.task x.mask m ≡ false → o < outcome_count x.task m → (e : ℕ) × (e < c) × Served x.task x.mask x.weights sizes ts es e m (outcome_count x.task m) o
-
-pub building_start : {x : Space} {sizes : List ℕ} {room live : ℕ} {ts es : List ℕ} → live ≡ set_from (λ m. not (idles x.task x.mask m)) 0 x.actions → outcomes_from x.task x.mask 0 x.actions ≤ room →
-    2 * room ≤ length ts → 4 * room ≤ length es → Building x sizes room live ts es 0
-building_start {x} {sizes} {room} {live} e l a b = record {
-  from = 0;
-  left = left_all (λ m. not (idles x.task x.mask m)) x.actions live e;
-  fits = let z : x.actions - 0 ≡ x.actions = omega arith in rw z (omega (arith, l));
-  tests_room = a;
-  edges_room = b;
-  each = λ e b. absurd (omega arith);
-  covers = λ m o b. absurd (omega arith);
-}
 
 module _ {x : Space} {sizes : List ℕ} {room rest : ℕ} {ts es : List ℕ} {c : ℕ} (few : x.actions ≤ 64) (v : Building x sizes room rest ts es c) where
   here : (rest ≡ 0 → ⊥) → Next (λ m. not (idles x.task x.mask m)) v.from x.actions rest

@@ -7,7 +7,8 @@ ghost use Rattle.tables.specs.Certified.{counts, Judged, Said, Exact, Certified}
 
 use crate::applying::{applying, fill_sets};
 use crate::compiled_task::{kept, need, outcome_count, set, value, weight};
-use crate::places::{Members, variables};
+use crate::places::variables;
+use crate::sets::Members;
 use crate::space::Space;
 use crate::sweep::{Guess, at_goal, index_of, raise, worst_entry};
 

@@ -23,7 +23,7 @@ mod proved_worklist;
 mod queue;
 mod ranking;
 pub mod record_tables;
-mod sets;
+pub mod sets;
 mod space;
 pub mod spread;
 mod sweep;

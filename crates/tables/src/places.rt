@@ -2,32 +2,10 @@
 // bit 16 on l + 64 u, where l numbers the values of the pattern's first variables (its lower part, at most 64 states) and u those of the others
 // (its upper part). Each of the three is a sum of digits times weights, so a place is one too, and an outcome adds the same number to the places of
 // all states that it changes in the same way, modulo 2^32. A pattern of at most 4,096 states has at most six variables in either part.
-ghost use Rattle.std.specs.Iterator.{at_most};
-ghost use Rattle.tables.specs.Sets.{TakesLowest};
+use crate::sets::Members;
 
 // The lowest bit of every variable's digit.
 pub(crate) const DIGITS: u64 = 1229782938247303441;
-
-// The members of a set of bits, from the lowest on.
-#[derive(Drop)]
-pub(crate) struct Members(pub(crate) u64);
-
-impl Iterator for Members {
-    type Item = usize;
-
-    ghost next_gives = { λ s r t. TakesLowest s.0 r t.0 };
-
-    ghost remaining = { λ s. at_most s.0 };
-
-    fn next(&mut self) -> Option<usize> {
-        let rest = self.0;
-        if rest == 0 {
-            return None;
-        }
-        self.0 = rest & (rest - 1);
-        Some((rest.trailing_zeros() % 64) as usize)
-    }
-}
 
 // The variables of a set of digits, each by the lowest bit of its digit.
 pub(crate) fn variables(digits: u64) -> Members {

@@ -6,8 +6,7 @@ ghost use Rattle.tables.specs.Spaces.{space_of};
 ghost use Rattle.tables.specs.Steps.{weigh, is_goal, permitted, after, idles, worst, raised, outcome_entry, Below, offer, lowers, relaxed, started, Readable, RowSwept, Swept, Settled};
 
 use crate::compiled_task::{goal_need, goal_value, kept, need, outcome_count, set, value, weight};
-use crate::places::Members;
-use crate::sets::set_of;
+use crate::sets::{Members, set_of};
 use crate::space::Space;
 
 // Entry j, and infinite past the end.

@@ -4,7 +4,8 @@
 use crate::edges::{Edge, Sources};
 use crate::incoming::{Lookup, Row};
 use crate::offsets::Offsets;
-use crate::places::{Members, put};
+use crate::places::put;
+use crate::sets::Members;
 
 fn index_in(place: u32) -> usize {
     (place % 65536) as usize

@@ -11,8 +11,8 @@ ghost use Rattle.tables.specs.Listed.{space_in, edges_most};
 ghost use Rattle.tables.specs.Made.{LaneOf, back_of, Same, WordsOf, words_at, Untouched, Spanned, ActionPut};
 
 use crate::compiled_task::{kept, need, outcome_count, set, value, weight};
-use crate::places::Members;
 use crate::proved_worklist::states::States;
+use crate::sets::Members;
 use crate::sweep::index_of;
 use std::marker::Model;
 

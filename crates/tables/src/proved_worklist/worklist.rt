@@ -8,13 +8,13 @@ ghost use Rattle.tables.specs.Patterned.{states_of};
 ghost use Rattle.tables.specs.Listed.{SplitAt, Roomy, space_in};
 ghost use Rattle.tables.specs.Visits.{RowDone, Visited, GoalsWait, Level};
 
-use crate::places::Members;
 use crate::proved_worklist::edges::{Graph, make_edges};
 use crate::proved_worklist::incoming::{Halves, edges_into, fill_sets, upper_part};
 use crate::proved_worklist::parts::Parts;
 use crate::proved_worklist::queue::Ring;
 use crate::proved_worklist::states::States;
 use crate::proved_worklist::visits::Worklist;
+use crate::sets::Members;
 use crate::sweep::start;
 
 // Whether no state that waits can lower an entry: none is more than 1 above the least that waits.

@@ -9,45 +9,45 @@ use Rattle.search.proofs.Examining.{examining_begins, action_known, action_asks,
 use Rattle.search.proofs.examine.+examine_outcomes.Goals.{outcomes-in-Some+in-Succeeded, outcomes-in-None+in-Succeeded-examine}
 use Rattle.search.proofs.examine.+examine_outcomes.Goals as goal
 
-pub examine-loop-set-init : goal.examine-loop-set-init
-examine-loop-set-init t c = (examining_begins c.requires c.applying-set.ensures, refl)
+pub examine-loop-m-init : goal.examine-loop-m-init
+examine-loop-m-init t c = (rw c.into_iter-m-iterator.ensures.into_iter_gives (examining_begins c.requires c.applying-set.ensures), refl)
 
 pub examine-outcomes-requires : goal.examine-outcomes-requires
-examine-outcomes-requires t c = (omega (arith, c.decreases), action_asks c.requires c.loop-set.invariant.0 c.loop-set-test.true c.lowest-m.ensures)
+examine-outcomes-requires t c = (omega (arith, c.decreases), action_asks c.requires c.loop-m.invariant.0 c.in-Some.ensures.steps.0 c.in-Some.ensures.steps.1)
 
 pub examine-returns-in-Stopped : goal.examine-returns-in-Stopped
-examine-returns-in-Stopped t c = action_stops c.requires c.loop-set.invariant.0 c.loop-set-test.true c.lowest-m.ensures c.outcomes.ensures _ c.in-Stopped.is
+examine-returns-in-Stopped t c = action_stops c.requires c.loop-m.invariant.0 c.in-Some.ensures.steps.0 c.in-Some.ensures.steps.1 c.outcomes.ensures _ c.in-Stopped.is
 
 pub examine-number_of-first-requires : goal.examine-number_of-first-requires
-examine-number_of-first-requires t c = omega (arith, action_known c.requires c.loop-set.invariant.0 c.loop-set-test.true c.lowest-m.ensures, c.args.instance.now.guided.ready.few_actions)
+examine-number_of-first-requires t c = omega (arith, action_known c.requires c.loop-m.invariant.0 c.in-Some.ensures.steps.0 c.in-Some.ensures.steps.1, c.args.instance.now.guided.ready.few_actions)
 
 pub examine-overflow_sub-e : goal.examine-overflow_sub-e
-examine-overflow_sub-e t c = let w = win_counted c.requires c.loop-set.invariant.0 c.loop-set-test.true c.lowest-m.ensures c.outcomes.ensures _ _ _ c.in-Succeeded.is in omega (arith, w.0)
+examine-overflow_sub-e t c = let w = win_counted c.requires c.loop-m.invariant.0 c.in-Some.ensures.steps.0 c.in-Some.ensures.steps.1 c.outcomes.ensures _ _ _ c.in-Succeeded.is in omega (arith, w.0)
 
 pub examine-overflow_add-n : goal.examine-overflow_add-n
-examine-overflow_add-n t c = let w = win_counted c.requires c.loop-set.invariant.0 c.loop-set-test.true c.lowest-m.ensures c.outcomes.ensures _ _ _ c.in-Succeeded.is in omega (arith, w.1, w.2)
+examine-overflow_add-n t c = let w = win_counted c.requires c.loop-m.invariant.0 c.in-Some.ensures.steps.0 c.in-Some.ensures.steps.1 c.outcomes.ensures _ _ _ c.in-Succeeded.is in omega (arith, w.1, w.2)
 
 pub examine-note-requires : goal.examine-note-requires
-examine-note-requires t c = let w = win_counted c.requires c.loop-set.invariant.0 c.loop-set-test.true c.lowest-m.ensures c.outcomes.ensures _ _ _ c.in-Succeeded.is in let x = c.requires.examinable in
+examine-note-requires t c = let w = win_counted c.requires c.loop-m.invariant.0 c.in-Some.ensures.steps.0 c.in-Some.ensures.steps.1 c.outcomes.ensures _ _ _ c.in-Succeeded.is in let x = c.requires.examinable in
     (c.outcomes.ensures.remembers.long, x.shallow, omega (arith, w.2), omega (arith, w.1, w.2))
 
 pub examine-overflow_add-result : goal.examine-overflow_add-result
-examine-overflow_add-result t c = let w = win_counted c.requires c.loop-set.invariant.0 c.loop-set-test.true c.lowest-m.ensures c.outcomes.ensures _ _ _ c.in-Succeeded.is in omega (arith, w.1, w.2)
+examine-overflow_add-result t c = let w = win_counted c.requires c.loop-m.invariant.0 c.in-Some.ensures.steps.0 c.in-Some.ensures.steps.1 c.outcomes.ensures _ _ _ c.in-Succeeded.is in omega (arith, w.1, w.2)
 
 pub examine-returns-in-Succeeded : goal.examine-returns-in-Succeeded
-examine-returns-in-Succeeded t c = action_wins c.requires c.loop-set.invariant.0 c.loop-set-test.true c.lowest-m.ensures c.outcomes.ensures _ _ _ c.in-Succeeded.is c.number_of-first.ensures c.note.ensures
+examine-returns-in-Succeeded t c = action_wins c.requires c.loop-m.invariant.0 c.in-Some.ensures.steps.0 c.in-Some.ensures.steps.1 c.outcomes.ensures _ _ _ c.in-Succeeded.is c.number_of-first.ensures c.note.ensures
 
-pub examine-loop-set-preserved : goal.examine-loop-set-preserved
-examine-loop-set-preserved t c = (action_fails c.requires c.loop-set.invariant.0 c.loop-set-test.true c.lowest-m.ensures c.outcomes.ensures _ c.in-Failed.is c.without_lowest-set.ensures.0, c.outcomes.auto.memory ∙ c.loop-set.invariant.1)
+pub examine-loop-m-preserved : goal.examine-loop-m-preserved
+examine-loop-m-preserved t c = (action_fails c.requires c.loop-m.invariant.0 c.in-Some.ensures.steps.0 c.in-Some.ensures.steps.1 c.outcomes.ensures _ c.in-Failed.is c.in-Some.ensures.steps.2, c.outcomes.auto.memory ∙ c.loop-m.invariant.1)
 
 pub examine-overflow_sub-c : goal.examine-overflow_sub-c
-examine-overflow_sub-c t c = omega (arith, c.loop-set.invariant.0.counted)
+examine-overflow_sub-c t c = omega (arith, c.loop-m.invariant.0.counted)
 
 pub examine-note-requires-2 : goal.examine-note-requires-2
-examine-note-requires-2 t c = let x = c.requires.examinable in let i = c.loop-set.invariant.0 in (i.remembers.long, x.shallow, omega (arith, i.within, c.args.instance.now.guided.ready.small_budget), omega arith)
+examine-note-requires-2 t c = let x = c.requires.examinable in let i = c.loop-m.invariant.0 in (i.remembers.long, x.shallow, omega (arith, i.within, c.args.instance.now.guided.ready.small_budget), omega arith)
 
 pub examine-returns : goal.examine-returns
-examine-returns t c = examining_ends c.requires c.loop-set.invariant.0 c.loop-set-test.false c.note-2.ensures
+examine-returns t c = examining_ends c.requires c.loop-m.invariant.0 c.in-None.ensures.steps c.note-2.ensures
 
 pub outcomes-returns-then-is_beyond : goal.outcomes-returns-then-is_beyond
 outcomes-returns-then-is_beyond t c = action_refused c.requires (ltb-true _ _ (sym c.is_beyond.ensures ∙ c.if-is_beyond.true))

@@ -12,11 +12,8 @@ decreases-examine l = l.v.d * 2 + 1
 abbrev pub decreases-outcomes : goal.decreases-outcomes
 decreases-outcomes l = l.v.d * 2
 
-abbrev pub invariant-examine-loop-set : goal.invariant-examine-loop-set
-invariant-examine-loop-set l = Examining l.instance l.v.s l.v.d l.v.count l.set l.c l.memory × (length l.memory ≡ length l.initial.memory)
-
-abbrev pub decreases-examine-loop-set : goal.decreases-examine-loop-set
-decreases-examine-loop-set l = l.set
+abbrev pub invariant-examine-loop-m : goal.invariant-examine-loop-m
+invariant-examine-loop-m l = Examining l.instance l.v.s l.v.d l.v.count (l.m-iterator.0) l.c l.memory × (length l.memory ≡ length l.initial.memory)
 
 abbrev pub invariant-outcomes-loop-k : goal.invariant-outcomes-loop-k
 invariant-outcomes-loop-k l = Following l.instance l.v.s l.v.d l.m l.v.count l.left l.k-end l.k l.c l.n l.memory × (length l.memory ≡ length l.initial.memory)
