@@ -44,9 +44,12 @@ pub fn limit(rec: &[u8]) -> u8
 pub fn budget(rec: &[u8]) -> u32
     ensures { result ≡ budget_of rec.now }
 {
-    let low = u32::from(cell(rec, AT_BUDGET)) + 256 * u32::from(cell(rec, AT_BUDGET + 1));
-    let third = u32::from(cell(rec, AT_BUDGET + 2));
-    low + 65536 * third + 16777216 * u32::from(cell(rec, AT_BUDGET + 3))
+    u32::from_le_bytes([
+        cell(rec, AT_BUDGET),
+        cell(rec, AT_BUDGET + 1),
+        cell(rec, AT_BUDGET + 2),
+        cell(rec, AT_BUDGET + 3),
+    ])
 }
 
 pub fn size_of(rec: &[u8], v: u8) -> u8

@@ -11,7 +11,7 @@ ghost use Rattle.task_record.specs.Columns.{ActionColumn, MemberColumn, FrontPas
 
 use crate::blocks::misfit;
 use crate::cells::{action_count, pattern_count, variable_count};
-use crate::layout::{ACTION_SIZE, AT_ACTIONS, AT_GOAL, AT_PATTERNS, AT_START, UNNAMED};
+use crate::layout::{AT_GOAL, AT_PATTERNS, AT_START, UNNAMED, at_action};
 use crate::measured::{LongRecord, Measured};
 
 // A state's cell: below the size, or 255 where the size is 0.
@@ -161,46 +161,23 @@ fn rows_fit(c: &[u8], sizes: &[u8; 16], a: usize, count: u8) -> bool
     }
 }
 
-// The same of an action that is not used.
-fn unnamed_fault(c: &[u8], a: usize) -> u8
-    requires { (a + 128 < length c.now) × (a ≤ 65536) }
-    ensures { result ≡ 0 → (j : ℕ) → j < 9 → 255 ≤ slice_index c.now (a + 16 * j) }
-{
-    let mut low = UNNAMED;
-    for j in 0..9usize {
-        low &= c[a + 16 * j];
-    }
-    UNNAMED - low
-}
-
-fn nine_unnamed(c: &[u8], a: usize) -> bool
-    requires { (a + 144 ≤ length c.now) × (a ≤ 65000) }
-    ensures { result ≡ true → (v : ℕ) → v < 16 → (j : ℕ) → j < 9 → 255 ≤ slice_index c.now (a + v + 16 * j) }
-{
-    let mut bad = 0u8;
-    for v in 0..16usize {
-        bad |= unnamed_fault(c, a + v);
-    }
-    bad == 0
-}
-
-fn used_fits(record: &Measured, m: usize) -> bool
+fn used_fits(record: &Measured, m: u8) -> bool
     requires { (m < action_count record.now.rec.now) × (m < 64) }
     ensures { result ≡ true → first_from (cell_ok record.now.rec.now) (at_action m) action_size ≡ at_action (m + 1) }
 {
-    let a = AT_ACTIONS + ACTION_SIZE * m;
+    let a = at_action(m);
     rows_fit(record.rec, &record.sizes, a + 1, record.rec[a])
 }
 
-fn unused_fits(record: &Measured, m: usize) -> bool
+fn unused_fits(record: &Measured, m: u8) -> bool
     requires { (action_count record.now.rec.now ≤ m) × (m < 64) }
     ensures { result ≡ true → first_from (cell_ok record.now.rec.now) (at_action m) action_size ≡ at_action (m + 1) }
 {
-    let a = AT_ACTIONS + ACTION_SIZE * m;
+    let a = at_action(m);
     if record.rec[a] != 0 {
         return false;
     }
-    nine_unnamed(record.rec, a + 1)
+    nine_fit::<0>(record.rec, &record.sizes, a + 1)
 }
 
 // Stays: by `all` over the used actions and over the others the check of a record takes 1.02 of the instructions, and up to 1.04.
@@ -208,7 +185,7 @@ pub(crate) fn actions_fit(record: &Measured) -> bool
     requires { action_count record.now.rec.now ≤ 64 }
     ensures { result ≡ true → first_from (cell_ok record.now.rec.now) (at_action 0) (record_size - at_action 0) ≡ record_size }
 {
-    let used = usize::from(action_count(record.rec));
+    let used = action_count(record.rec);
     for m in 0..used {
         if !used_fits(record, m) {
             return false;

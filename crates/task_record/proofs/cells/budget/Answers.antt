@@ -5,4 +5,4 @@ use Rattle.task_record.proofs.cells.budget.Goals as goal
 
 pub returns : goal.returns
 unfolding budget_of
-returns c = let a = c.cell.ensures in let b = c.cell-2.ensures in let d = c.cell-3.ensures in let e = c.cell-4.ensures in omega arith
+returns c = let a = c.cell.ensures in let b = c.cell-2.ensures in let d = c.cell-3.ensures in let e = c.cell-4.ensures in omega (arith, c.from_le_bytes.ensures)

@@ -14,7 +14,7 @@ loop-m-init c =
 pub used_fits-requires : goal.used_fits-requires
 used_fits-requires c =
     let pre = c.requires in
-    let action-count = c.action_count in
+    let action-count = c.action_count-used in
     let loop-test = c.loop-m-test in
     let t = loop-test.true in let n = action-count.ensures in
     (omega arith, omega arith)
@@ -38,17 +38,17 @@ loop-m-preserved c =
 pub loop-m-2-init : goal.loop-m-2-init
 loop-m-2-init c =
     let pre = c.requires in
-    let action-count = c.action_count in
+    let action-count = c.action_count-used in
     let loop = c.loop-m in
     let loop-test = c.loop-m-test in
     let t = loop-test.false in let n = action-count.ensures in let few = pre in
-    let e : loop.m ≡ c.from-used.result = omega arith in
+    let e : loop.m ≡ c.action_count-used.result = omega arith in
     (omega arith, omega arith, rw e at loop.invariant.1)
 
 pub unused_fits-requires : goal.unused_fits-requires
 unused_fits-requires c =
     let pre = c.requires in
-    let action-count = c.action_count in
+    let action-count = c.action_count-used in
     let loop2-test = c.loop-m-2-test in
     let t = loop2-test.true in let n = action-count.ensures in
     (omega arith, omega arith)
