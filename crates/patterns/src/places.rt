@@ -1,6 +1,7 @@
 // The abstract states of a pattern, counted and numbered in one pass over the variables. Sizes, pattern and state are slices with a cell for
 // each variable.
-// Stays: cells by the variable's number: by `zip` of the slices (proved) the value of a state takes 1.02 of the instructions, and up to 1.06 of the time.
+// Stays: cells by the variable's number: by `zip` of the slices (proved) the value of a state takes 1.02 of the instructions, and up to
+// 1.06 of the time, and no operation may become slower.
 ghost use Rattle.std.specs.Prelude.{◌≡◌, ◌≤◌, ◌<◌, IfSome, IfNone, length};
 ghost use Rattle.planning.specs.Finite.{All};
 ghost use Rattle.planning.specs.Table.{index, state_count};

@@ -92,6 +92,7 @@ impl<'a> Members<'a> {
     }
 
     // The patterns that an outcome affects: those of the variables that it names, all sixteen cells at once.
+    // Stays: the bound of m as a clause, here and below: the index needs it, and a type for it would be made of the number at every call.
     fn outcome_set(&self, m: u8, k: u8) -> u8
         requires { (m < action_count self.now) × (k < outcome_count self.now m) }
         ensures { result ≡ set_from (λ p. affects (cells_at self.now (at_pattern p)) (cells_at self.now (at_outcome m k))) 0 (pattern_count self.now) }
@@ -129,7 +130,7 @@ impl<'a> Members<'a> {
     }
 
     // Whether each action affects at most one pattern, without the numbers of a conflict.
-    // Stays: by `all` over the actions the value of a state takes 1.04 to 1.09 of the time where there are 64 of them.
+    // Stays: by `all` over the actions the value of a state takes 1.04 to 1.09 of the time where there are 64 of them, and it may not become slower.
     fn is_additive(&self) -> bool
         ensures { result ≡ true → verdict (task_of self.now) (patterns_of self.now) ≡ additive }
     {

@@ -40,6 +40,7 @@ fn choose(y: u8, x: u8) -> u8
 }
 
 // The state after an outcome: what the cells name is changed.
+// Stays: a loop: by `array::from_fn` the closure captures both arrays, and `search` finds no proof that a call read these very arrays.
 pub(crate) fn applied(cells: [u8; 16], state: [u8; 16]) -> [u8; 16]
     ensures { result ≡ apply cells state }
 {

@@ -18,6 +18,7 @@ pub struct PlannerAnswer {
 }
 
 // Number and second number of a refusal.
+// Stays: a function, and a literal for a pass, not `From`: `from_gives` would state the numbers a second time, and callers name this promise.
 #[tactic(auto, unfolding(planning::specs::Numbers::refusal, crate::specs::ForC::five_numbers))]
 pub fn refuse(refusal: Refusal) -> PlannerAnswer
     ensures { result ≡ five_numbers (refusal_numbers refusal) }

@@ -49,10 +49,9 @@ impl Frame {
         ensures { result ≡ rest_frame self.now }
     {
         Frame {
-            state: self.state,
             next: self.next + ROW_SIZE,
-            depth: self.depth,
             left: self.left - 1,
+            ..*self
         }
     }
 }

@@ -42,8 +42,8 @@ first_filled n m used unused few low up =
     record {
       whole = length-append (replicate {A = ℕ} m used) (drop m (replicate 16 unused)) ∙ omega (arith, front, length-drop m (replicate {A = ℕ} 16 unused), length-replicate {A = ℕ} 16 unused);
       cell = λ v h.
-        by_test (ltb v n)
-        (λ t. let l = up v h (ltb-true v n t) in rw t (get_or_append_left (replicate {A = ℕ} m used) (drop m (replicate 16 unused)) 0 v (omega (arith, l, front)) ∙ get_or-replicate m v used 0 l))
-        (λ t. let g = ltb-false v n t in
-        rw t (get_or-append_right (replicate m used) (drop m (replicate 16 unused)) m v 0 front (omega (arith, g)) ∙ get_or-drop m (replicate {A = ℕ} 16 unused) (v - m) 0 ∙ get_or-replicate 16 (m + (v - m)) unused 0 (omega (arith, g, h))));
+          by_test (ltb v n)
+          (λ t. let l = up v h (ltb-true v n t) in rw t (get_or_append_left (replicate {A = ℕ} m used) (drop m (replicate 16 unused)) 0 v (omega (arith, l, front)) ∙ get_or-replicate m v used 0 l))
+          (λ t. let g = ltb-false v n t in
+          rw t (get_or-append_right (replicate m used) (drop m (replicate 16 unused)) m v 0 front (omega (arith, g)) ∙ get_or-drop m (replicate {A = ℕ} 16 unused) (v - m) 0 ∙ get_or-replicate 16 (m + (v - m)) unused 0 (omega (arith, g, h))));
     }

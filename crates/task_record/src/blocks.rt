@@ -21,6 +21,7 @@ pub(crate) struct Windows {
 
 impl Windows {
     // Whether the sixteen cells from offset `a` on fit. It does not stop at a fault, so that it becomes one vector compare.
+    // Stays: the bound of `a` as a clause, here and below: the index needs it, and a type for it would be made of the offset at every call.
     fn pass(&self, c: &[u8], a: usize) -> bool
         requires { a + 16 ≤ length c.now }
         ensures { result ≡ all_below (block_fits c.now self.now.shift self.now.top a) 16 }

@@ -68,6 +68,8 @@ pub(crate) fn state_fits(c: &[u8], sizes: &[u8; 16]) -> bool
     bad == 0
 }
 
+// Stays: bounds of an offset and of an action's number as clauses, here and below: each is the bound of a single number that the function's own
+// index needs, and a type for it would be made of the number at every call and say no more.
 // A column of the eight patterns, of which the first `used` are used: at most 1, and 0 where the size is 0.
 fn member_fault(c: &[u8], size: u8, a: usize, used: usize) -> u8
     requires { (a + 112 < length c.now) × (a ≤ 65536) × (used ≤ 8) }
@@ -180,7 +182,8 @@ fn unused_fits(record: &Measured, m: u8) -> bool
     nine_fit::<0>(record.rec, &record.sizes, a + 1)
 }
 
-// Stays: by `all` over the used actions and over the others the check of a record takes 1.02 of the instructions, and up to 1.04.
+// Stays: by `all` over the used actions and over the others the check of a record takes 1.02 of the instructions, and up to 1.04, and
+// it may not become slower.
 pub(crate) fn actions_fit(record: &Measured) -> bool
     requires { action_count record.now.rec.now ≤ 64 }
     ensures { result ≡ true → first_from (cell_ok record.now.rec.now) (at_action 0) (record_size - at_action 0) ≡ record_size }

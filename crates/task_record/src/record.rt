@@ -101,6 +101,7 @@ fn scan_patterns(record: &LongRecord) -> Result<(), usize>
 }
 
 // The blocks of action m that are used, the precondition's among them, if its number of outcomes is right.
+// Stays: `m < 64` as a clause, here and below: a bound that the offset needs; a type for it would be made of the number at every call.
 fn used_blocks(rec: &[u8], m: u8) -> Option<usize>
     requires { m < 64 }
     ensures { result ≡ used_blocks rec.now m }
@@ -173,6 +174,7 @@ fn is_sound(record: &LongRecord) -> bool
 }
 
 // The answer of every call that is lent a record, tested before all else.
+// Stays: `as`, here and in `judge_state`: a length has no `From` into a word, and `try_from` has a case that never happens.
 pub fn check_record(rec: &[u8]) -> Result<(), Refusal>
     ensures value { result ≡ record_check rec.now }
     ensures numbers { record_numbers result ≡ record_by_lines rec.now }
