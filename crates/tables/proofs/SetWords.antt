@@ -160,3 +160,17 @@ none_in f m (suc n) z (suc j) l = let e : m + 1 + j ≡ m + suc j = omega arith 
 pub none_left : (f : ℕ → Bool) (k n w : ℕ) → Left f k n w → w ≡ 0 → (j : ℕ) → k ≤ j → j < n → f j ≡ false
 none_left f k n w e z j a b = let p : 0 < 2 ^ k = pow_pos k in
     let q : k + (j - k) ≡ j = omega arith in rw q at (none_in f k (n - k) (product-zero (set_from f k (n - k)) (2 ^ k) p (sym e ∙ z)) (j - k) (omega arith))
+
+-- A set that is run through for its members alone: what is left of it begins somewhere.
+pub record Rest (f : ℕ → Bool) (n w : ℕ) : Type 0 where
+  pub from : ℕ
+  pub left : Left f from n w
+
+pub rest_all : (f : ℕ → Bool) (n w : ℕ) → w ≡ set_from f 0 n → Rest f n w
+rest_all f n w e = record { from = 0; left = left_all f n w e }
+
+pub rest_known : {f : ℕ → Bool} {n w : ℕ} → n ≤ 64 → Rest f n w → (w ≡ 0 → ⊥) → count_trailing_zeros 64 w < n
+rest_known {f} {n} {w} few r some = (next_left f r.from n w few r.left some).within
+
+pub rest_next : {f : ℕ → Bool} {n w : ℕ} → n ≤ 64 → Rest f n w → (w ≡ 0 → ⊥) → Rest f n (bit_and w (w - 1))
+rest_next {f} {n} {w} few r some = record { from = count_trailing_zeros 64 w + 1; left = (next_left f r.from n w few r.left some).left }

@@ -27,9 +27,9 @@ pub(crate) fn enter(slots: &mut [u64], need: u64, value: u64, bit: u64, digits: 
     let mut x = value;
     for v in 0..digits {
         let at = 17 * v + lowest_need(n, x);
-        slots[at] = slots[at] | bit;
-        n = n / 16;
-        x = x / 16;
+        slots[at] |= bit;
+        n /= 16;
+        x /= 16;
     }
 }
 

@@ -62,8 +62,8 @@ fn build_within<const STATES: usize>(pattern: &Pattern, entries: &mut [u16])
     ensures { TableOf pattern.now entries.new }
 {
     let mut states = [0u64; STATES];
-    fill_states(pattern.sizes, pattern.picked, pattern.n, &mut states);
-    let weights = weights_of(pattern.sizes, pattern.picked, pattern.n);
+    fill_states(pattern, &mut states);
+    let weights = weights_of(pattern);
     let space = Space {
         task: pattern.task,
         mask: pattern.mask,

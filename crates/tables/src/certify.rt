@@ -80,11 +80,9 @@ impl Step {
 
 // The steps of the outcomes of every action that counts.
 fn fill_steps(x: &Space<'_>, steps: &mut [[Step; 8]; 64]) {
-    for m in 0..x.actions {
-        if (x.live >> m) % 2 == 1 {
-            for o in 0..outcome_count(x.task, m) {
-                steps[m][o] = Step::new(x.task, x.mask, x.weights, m, o);
-            }
+    for m in Members(x.live) {
+        for o in 0..outcome_count(x.task, m) {
+            steps[m][o] = Step::new(x.task, x.mask, x.weights, m, o);
         }
     }
 }

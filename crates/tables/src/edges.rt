@@ -116,7 +116,7 @@ impl Changes {
     fn common(&self, need: u64) -> u64 {
         let mut common = !need;
         for change in self.list.as_slice() {
-            common = common & change.moved;
+            common &= change.moved;
         }
         common
     }

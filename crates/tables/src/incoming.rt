@@ -15,8 +15,8 @@ impl Known {
         for b in variables(edge.digits) {
             let v = b / 4 % 16;
             let x = ((edge.values >> b % 64) % 16) as usize;
-            self.values[v][x] = self.values[v][x] | bit;
-            self.variables[v] = self.variables[v] | bit;
+            self.values[v][x] |= bit;
+            self.variables[v] |= bit;
         }
     }
 
@@ -84,9 +84,9 @@ impl Row {
         let mut simple = 0u64;
         for (e, edge) in self.edges.iter().enumerate().take(count) {
             known.join(edge, 1 << e);
-            all = all | 1 << e;
+            all |= 1 << e;
             if edge.is_simple() {
-                simple = simple | 1 << e;
+                simple |= 1 << e;
             }
         }
         self.simple = simple;

@@ -70,14 +70,14 @@ impl Columns {
             let size = sizes[v];
             if columns.rows == 1 && product(states, size) <= 64 {
                 columns.all[v] = Column::new(weights[v], states, low_bit, size);
-                columns.lower = columns.lower | 15 << b % 64;
+                columns.lower |= 15 << b % 64;
                 states = product(states, size);
-                low_bit = low_bit << 1;
+                low_bit <<= 1;
             } else {
                 let part = 64usize.wrapping_mul(columns.rows);
                 columns.all[v] = Column::new(weights[v], part, high_bit, size);
                 columns.rows = product(columns.rows, size);
-                high_bit = high_bit << 1;
+                high_bit <<= 1;
             }
         }
         columns
@@ -107,7 +107,7 @@ impl Columns {
     pub(crate) fn key_of(&self, set: u64) -> u16 {
         let mut key = 0u16;
         for b in variables(set) {
-            key = key | self.at(b).bit;
+            key |= self.at(b).bit;
         }
         key
     }

@@ -1,8 +1,11 @@
 // The abstract states of a pattern: the weights that give their indices, and their words by index.
-ghost use Rattle.std.specs.Prelude.{◌≡◌, ℕ, ◌+◌, ◌-◌, ◌*◌, ◌%◌, ◌<◌, ◌≤◌, ◌++◌, length, take, replicate, if◌then◌else◌, nat_eq, slice_index};
+ghost use Rattle.std.specs.Prelude.{◌≡◌, ℕ, ◌+◌, ◌-◌, ◌*◌, ◌%◌, ◌<◌, ◌≤◌, ◌++◌, min, length, take, replicate, if◌then◌else◌, nat_eq, slice_index};
 ghost use Rattle.planning.specs.Table.{state_count, state_at};
 ghost use Rattle.tables.specs.Packed.{pack_by, low};
+ghost use Rattle.tables.specs.Patterned.{states_of};
 ghost use Rattle.tables.specs.Steps.{weights_from, Sized, Extended};
+
+use crate::pattern::Pattern;
 
 // The weight of a variable: that of the next one in the pattern, 0 outside it.
 fn weight_in(b: u8, w: usize) -> u16
@@ -26,15 +29,14 @@ pub(crate) fn next_weight(b: u8, w: usize, z: u8) -> usize
     w
 }
 
-pub(crate) fn weights_of(sizes: [u8; 16], pattern: [u8; 16], n: usize) -> [u16; 16]
-    requires { Sized sizes pattern n }
-    ensures { result ≡ weights_from 1 (take n sizes) pattern ++ replicate (16 - n) 0 }
+pub(crate) fn weights_of(pattern: &Pattern) -> [u16; 16]
+    ensures { result ≡ weights_from 1 (take pattern.now.variables pattern.now.sizes) pattern.now.picked ++ replicate (16 - pattern.now.variables) 0 }
 {
     let mut r = [0u16; 16];
     let mut w = 1usize;
-    for v in 0..n {
-        r[v] = weight_in(pattern[v], w);
-        w = next_weight(pattern[v], w, sizes[v]);
+    for v in 0..pattern.n {
+        r[v] = weight_in(pattern.picked[v], w);
+        w = next_weight(pattern.picked[v], w, pattern.sizes[v]);
     }
     r
 }
@@ -68,15 +70,16 @@ fn extend(states: &mut [u64], w: usize, end: usize, place: u64)
     }
 }
 
-// The words of the abstract states: the first is 0, and each variable of the pattern makes as many more as it has values.
-pub(crate) fn fill_states(sizes: [u8; 16], pattern: [u8; 16], n: usize, states: &mut [u64])
-    requires { (Sized sizes pattern n) × (state_count (take n sizes) pattern ≤ length states.old) × (slice_index states.old 0 ≡ 0) }
-    ensures { (i : ℕ) → i < state_count (take n sizes) pattern → slice_index states.new i ≡ pack_by low (state_at (take n sizes) pattern i) }
+// The words of the abstract states, of which no pattern has more than 4,096: the first is 0, and each variable of the pattern makes as many more as it
+// has values.
+pub(crate) fn fill_states(pattern: &Pattern, states: &mut [u64])
+    requires { (min (states_of pattern.now) 4096 ≤ length states.old) × (slice_index states.old 0 ≡ 0) }
+    ensures { (i : ℕ) → i < states_of pattern.now → slice_index states.new i ≡ pack_by low (state_at (take pattern.now.variables pattern.now.sizes) pattern.now.picked i) }
 {
     let mut w = 1usize;
     let mut place = 1u64;
-    for v in 0..n {
-        let next = next_weight(pattern[v], w, sizes[v]);
+    for v in 0..pattern.n {
+        let next = next_weight(pattern.picked[v], w, pattern.sizes[v]);
         extend(states, w, next, place);
         w = next;
         place = next_place(place);

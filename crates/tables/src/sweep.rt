@@ -44,8 +44,8 @@ pub(crate) fn index_of(weights: &[u16; 16], s: u64) -> usize
         if rest == 0 {
             return sum;
         }
-        sum = sum + four_digits(weights, 4 * g, rest);
-        rest = rest / 65536;
+        sum += four_digits(weights, 4 * g, rest);
+        rest /= 65536;
     }
     sum
 }
@@ -76,10 +76,8 @@ fn entry_after(x: &Space<'_>, entries: &[u16], m: usize, o: usize, s: u64, guess
     ensures { result ≡ outcome_entry x.now.task.now x.now.mask x.now.weights.now entries.now m s o }
 {
     let z = state_after(x, m, o, s);
-    if guess < entries.len() {
-        if x.states[guess] == z {
-            return entries[guess];
-        }
+    if guess < entries.len() && x.states[guess] == z {
+        return entries[guess];
     }
     entry_at(entries, index_of(x.weights, z))
 }
@@ -257,7 +255,7 @@ pub(crate) fn start(task: &[u64; 1282], mask: u64, states: &[u64], entries: &mut
     requires { length entries.old ≤ length states.now }
     ensures { entries.new ≡ started task.now mask states.now (length entries.old) }
 {
-    for next in 0..entries.len() {
-        entries[next] = first_entry(task, mask, states[next]);
+    for (i, entry) in entries.iter_mut().enumerate() {
+        *entry = first_entry(task, mask, states[i]);
     }
 }

@@ -155,7 +155,7 @@ impl Worklist<'_> {
             };
             self.tail = work.visit_others(graph.first, others, offsets, place, cost);
         }
-        if graph.beyond.len() > 0 {
+        if !graph.beyond.is_empty() {
             let work = Worklist {
                 entries: self.entries,
                 queue: self.queue,

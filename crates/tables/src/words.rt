@@ -18,10 +18,7 @@ pub(crate) struct Words {
 fn strange(x: u8) -> u8
     ensures { (result == 0) ≡ plain_cell x }
 {
-    if x == UNNAMED {
-        return 0;
-    }
-    if x < 16 {
+    if x == UNNAMED || x < 16 {
         return 0;
     }
     1
@@ -34,7 +31,7 @@ fn all_plain(cells: &[u8]) -> bool
 {
     let mut bad = 0u8;
     for x in cells {
-        bad = bad | strange(*x);
+        bad |= strange(*x);
     }
     bad == 0
 }
@@ -76,17 +73,15 @@ pub(crate) fn words_of(cells: &[u8]) -> Words
     requires { length cells.now ≤ 16 }
     ensures { (result.keep ≡ pack_by leaving cells.now) × (result.value ≡ pack_by setting cells.now) }
 {
-    if cells.len() == 16 {
-        if all_plain(cells) {
-            let x = eight(cells, 0);
-            let y = eight(cells, 8);
-            let keep = squeeze(x / 16) + 4294967296 * squeeze(y / 16);
-            let low = squeeze(x) + 4294967296 * squeeze(y);
-            return Words {
-                keep,
-                value: low - keep,
-            };
-        }
+    if cells.len() == 16 && all_plain(cells) {
+        let x = eight(cells, 0);
+        let y = eight(cells, 8);
+        let keep = squeeze(x / 16) + 4294967296 * squeeze(y / 16);
+        let low = squeeze(x) + 4294967296 * squeeze(y);
+        return Words {
+            keep,
+            value: low - keep,
+        };
     }
     Words {
         keep: pack(DigitRule::Leaving, cells),

@@ -26,9 +26,9 @@ fn build_within<const STATES: usize, const TESTS: usize, const EDGES: usize, con
     let mut tests = [0u64; TESTS];
     let mut edges = [0u64; EDGES];
     let mut sets = [0u64; SETS];
-    fill_states(pattern.sizes, pattern.picked, pattern.n, &mut states);
-    let weights = weights_of(pattern.sizes, pattern.picked, pattern.n);
-    let parts = parts_of(pattern.sizes, pattern.picked, pattern.n, pattern.mask);
+    fill_states(pattern, &mut states);
+    let weights = weights_of(pattern);
+    let parts = parts_of(pattern);
     let listed = States {
         pattern,
         weights: &weights,
@@ -49,7 +49,7 @@ fn build_goals(pattern: &Pattern, entries: &mut [u16])
     ensures { TableOf pattern.now entries.new }
 {
     let mut words = [0u64; 4096];
-    fill_states(pattern.sizes, pattern.picked, pattern.n, &mut words);
+    fill_states(pattern, &mut words);
     start(pattern.task, pattern.mask, &words, entries);
 }
 

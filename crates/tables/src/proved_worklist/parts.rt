@@ -2,9 +2,10 @@
 ghost use Rattle.std.specs.Prelude.{◌≡◌, ◌*◌, ◌%◌, ◌^◌, ◌<◌, ◌≤◌, take};
 ghost use Rattle.planning.specs.Table.{state_count};
 ghost use Rattle.tables.specs.Packed.{pack_by, picking};
-ghost use Rattle.tables.specs.Steps.{Sized};
+ghost use Rattle.tables.specs.Patterned.{states_of};
 ghost use Rattle.tables.specs.Incoming.{Split};
 
+use crate::pattern::Pattern;
 use crate::ranking::{next_weight, state_count};
 
 // So many states, of the variables with these digits.
@@ -15,19 +16,18 @@ pub(crate) struct Parts {
 }
 
 // How many variables make the lower part: as many as have at most 64 states. The others have at most 1,024.
-fn lower_variables(sizes: [u8; 16], pattern: [u8; 16], n: usize) -> usize
-    requires { Sized sizes pattern n }
-    ensures { (result ≤ n) × (state_count (take result sizes) pattern ≤ 64) × (state_count (take n sizes) pattern ≤ 1024 * state_count (take result sizes) pattern) }
+fn lower_variables(pattern: &Pattern) -> usize
+    ensures { (result ≤ pattern.now.variables) × (state_count (take result pattern.now.sizes) pattern.now.picked ≤ 64) × (states_of pattern.now ≤ 1024 * state_count (take result pattern.now.sizes) pattern.now.picked) }
 {
     let mut w = 1usize;
-    for v in 0..n {
-        let next = next_weight(pattern[v], w, sizes[v]);
+    for v in 0..pattern.n {
+        let next = next_weight(pattern.picked[v], w, pattern.sizes[v]);
         if next > 64 {
             return v;
         }
         w = next;
     }
-    n
+    pattern.n
 }
 
 // The digits of the first v variables.
@@ -40,14 +40,14 @@ fn digits_below(mask: u64, v: usize) -> u64
     mask % 16u64.pow(v as u32)
 }
 
-pub(crate) fn parts_of(sizes: [u8; 16], pattern: [u8; 16], n: usize, mask: u64) -> Parts
-    requires { (Sized sizes pattern n) × (mask ≡ pack_by picking pattern) }
-    ensures { Split sizes pattern n mask result.lower result.low }
+// The mask, by whose digits they are told apart, is the pattern's own.
+pub(crate) fn parts_of(pattern: &Pattern) -> Parts
+    ensures masked { pattern.now.mask ≡ pack_by picking pattern.now.picked }
+    ensures split { Split pattern.now.sizes pattern.now.picked pattern.now.variables pattern.now.mask result.lower result.low }
 {
-    let v = lower_variables(sizes, pattern, n);
-    let lower = state_count(sizes, pattern, v);
+    let v = lower_variables(pattern);
     Parts {
-        lower: lower,
-        low: digits_below(mask, v),
+        lower: state_count(pattern.sizes, pattern.picked, v),
+        low: digits_below(pattern.mask, v),
     }
 }

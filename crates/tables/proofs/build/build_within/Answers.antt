@@ -9,8 +9,7 @@ enough : (g : given.Over) (c : After-pattern g) → length c.args.entries.now �
 enough g c = let p = rw (← c.pattern.view_is) at c.requires in omega (arith, p.0, p.1, c.pattern.invariant.sized.states_few)
 
 pub fill_states-requires : goal.fill_states-requires
-fill_states-requires g c = let p = rw (← c.pattern.view_is) at c.requires in let e = enough g (goal.at.fill_states-requires g c).After-pattern in
-    (c.pattern.invariant.sized, rw (← p.0) (search rules), search rules)
+fill_states-requires g c = rw (← c.requires.0) (search rules, search rules)
 
 pub invariant_of-space-clause-actions_few : goal.invariant_of-space-clause-actions_few
 invariant_of-space-clause-actions_few g c = c.pattern.invariant.readable.actions_few
@@ -29,8 +28,8 @@ invariant_of-space-clause-long g c = let e = enough g (goal.at.invariant_of-spac
 
 pub invariant_of-space-clause-placed : goal.invariant_of-space-clause-placed
 invariant_of-space-clause-placed g c = let x = c.pattern.inside in let i = c.pattern.invariant in let p = rw (← c.pattern.view_is) at c.requires in
-    λ k b. (parts_indexed x.task.now x.actions x.n x.mask x.sizes x.picked c.weights_of-weights.result _ c.args.entries.now i.masked c.weights_of-weights.ensures c.fill_states.ensures i.sized (omega (arith, p.0, enough g (goal.at.invariant_of-space-clause-placed g c).After-pattern, c.fill_states.auto.states))).place k (omega (arith, b, p.0))
+    λ k b. (parts_indexed x.task.now x.actions x.n x.mask x.sizes x.picked c.weights_of-weights.result _ c.args.entries.now i.masked (rw (← c.pattern.view_is) at c.weights_of-weights.ensures) (rw (← c.pattern.view_is) at c.fill_states.ensures) i.sized (omega (arith, p.0, enough g (goal.at.invariant_of-space-clause-placed g c).After-pattern, c.fill_states.auto.states))).place k (omega (arith, b, p.0))
 
 pub returns : goal.returns
 returns g c = let x = c.pattern.inside in let i = c.pattern.invariant in let p = rw (← c.pattern.view_is) at c.requires in
-    rw (← c.pattern.view_is) (parts_build x.task.now x.actions x.n x.mask x.sizes x.picked c.weights_of-weights.result _ _ i.masked c.weights_of-weights.ensures c.fill_states.ensures (c.build_over.auto.entries ∙ p.0) c.build_over.ensures)
+    rw (← c.pattern.view_is) (parts_build x.task.now x.actions x.n x.mask x.sizes x.picked c.weights_of-weights.result _ _ i.masked (rw (← c.pattern.view_is) at c.weights_of-weights.ensures) (rw (← c.pattern.view_is) at c.fill_states.ensures) (c.build_over.auto.entries ∙ p.0) c.build_over.ensures)

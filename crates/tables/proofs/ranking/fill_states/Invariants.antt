@@ -4,4 +4,4 @@ use Rattle.tables.proofs.Spacing.{Filling}
 use Rattle.tables.proofs.ranking.fill_states.Given as goal
 
 abbrev pub invariant-loop-v : goal.invariant-loop-v
-invariant-loop-v l = Filling l.sizes l.pattern l.n l.states l.w l.place l.v × (length l.states ≡ length l.initial.states)
+invariant-loop-v l = Filling l.pattern.sizes l.pattern.picked l.pattern.variables l.states l.w l.place l.v × (length l.states ≡ length l.initial.states)

@@ -7,26 +7,17 @@ use Rattle.tables.proofs.ranking.weights_of.Goals as goal
 
 pub loop-v-init : goal.loop-v-init
 unfolding weights_from state_count
-loop-v-init c = let h : length c.args.sizes ≡ 16 = search rules in record { at = omega arith; long = h; count = refl; weights = refl }
-
-pub bounds-pattern-v : goal.bounds-pattern-v
-bounds-pattern-v c = let s = c.requires.variables_few in omega arith
+loop-v-init c = let h : length c.pattern.inside.sizes ≡ 16 = search rules in rw (← c.pattern.view_is) (record { at = omega arith; long = h; count = refl; weights = refl })
 
 pub weight_in-requires : goal.weight_in-requires
-weight_in-requires c = let a = c.args in let l = c.loop-v in weighing_small a.sizes a.pattern a.n l.r l.w l.v c.requires l.invariant
-
-pub bounds-r-v : goal.bounds-r-v
-bounds-r-v c = let s = c.requires.variables_few in omega arith
-
-pub bounds-sizes-v : goal.bounds-sizes-v
-bounds-sizes-v c = let s = c.requires.variables_few in omega arith
+weight_in-requires c = let p = c.pattern.inside in let l = c.loop-v in weighing_small p.sizes p.picked p.n l.r l.w l.v c.pattern.invariant.sized (rw (← c.pattern.view_is) at l.invariant)
 
 pub next_weight-w-requires : goal.next_weight-w-requires
-next_weight-w-requires c = let a = c.args in let l = c.loop-v in weighing_small a.sizes a.pattern a.n l.r l.w l.v c.requires l.invariant
+next_weight-w-requires c = let p = c.pattern.inside in let l = c.loop-v in weighing_small p.sizes p.picked p.n l.r l.w l.v c.pattern.invariant.sized (rw (← c.pattern.view_is) at l.invariant)
 
 pub loop-v-preserved : goal.loop-v-preserved
-loop-v-preserved c = let a = c.args in let l = c.loop-v in
-    rw (c.next_weight-w.ensures, c.weight_in.ensures) (weighing_step a.sizes a.pattern a.n l.r l.w l.v c.requires c.loop-v-test.true l.invariant)
+loop-v-preserved c = let p = c.pattern.inside in let l = c.loop-v in
+    rw (← c.pattern.view_is, c.next_weight-w.ensures, c.weight_in.ensures) (weighing_step p.sizes p.picked p.n l.r l.w l.v c.pattern.invariant.sized c.loop-v-test.true (rw (← c.pattern.view_is) at l.invariant))
 
 pub returns : goal.returns
-returns c = let a = c.args in let l = c.loop-v in weighing_end a.sizes a.pattern a.n l.r l.w l.v c.loop-v-test.false l.invariant
+returns c = let p = c.pattern.inside in let l = c.loop-v in rw (← c.pattern.view_is) (weighing_end p.sizes p.picked p.n l.r l.w l.v c.loop-v-test.false (rw (← c.pattern.view_is) at l.invariant))

@@ -6,13 +6,13 @@ use Rattle.tables.proofs.Building.{parts_settled}
 use Rattle.tables.proofs.proved_worklist.build.build_within.Goals as goal
 
 pub invariant_of-listed : goal.invariant_of-listed
-invariant_of-listed g c = rw (← c.pattern.view_is) (record { listed = record { weights_are = c.weights_of-weights.ensures; words_are = c.fill_states.ensures; long = search rules } })
+invariant_of-listed g c = record { listed = record { weights_are = c.weights_of-weights.ensures; words_are = c.fill_states.ensures; long = search rules } }
 
 pub settle-requires : goal.settle-requires
-settle-requires g c = let p = rw (← c.pattern.view_is) at c.requires in let r = p.1 in
-    rw (← c.pattern.view_is) (
+settle-requires g c = let p = c.requires in let r = p.1 in
+    (
       p.0,
-      c.parts_of-parts.ensures,
+      c.parts_of-parts.ensures.split,
       record {
         few = omega (arith, r.tests_room, r.tests_few);
         tests_room = search rules;
@@ -25,5 +25,5 @@ settle-requires g c = let p = rw (← c.pattern.view_is) at c.requires in let r 
     )
 
 pub returns : goal.returns
-returns g c = let i = c.pattern.inside in let p = rw (← c.pattern.view_is) at c.requires in
-    rw (← c.pattern.view_is) (parts_settled i.task.now i.actions i.n i.mask i.sizes i.picked c.weights_of-weights.result _ _ c.pattern.invariant.masked c.weights_of-weights.ensures c.fill_states.ensures _ (ap (started i.task.now i.mask _) p.0) (rw (← c.pattern.view_is) at c.settle.ensures))
+returns g c = let i = c.args.pattern.now in
+    parts_settled i.task i.actions i.variables i.mask i.sizes i.picked c.weights_of-weights.result _ _ c.parts_of-parts.ensures.masked c.weights_of-weights.ensures c.fill_states.ensures _ (ap (started i.task i.mask _) c.requires.0) c.settle.ensures

@@ -4,7 +4,4 @@ use Rattle.tables.proofs.Spacing.{Weighed}
 use Rattle.tables.proofs.proved_worklist.parts.lower_variables.Given as goal
 
 abbrev pub invariant-loop-v : goal.invariant-loop-v
-invariant-loop-v l = Weighed l.sizes l.pattern l.n l.w l.v × (l.w ≤ 64)
-
-abbrev pub decreases-loop-v : goal.decreases-loop-v
-decreases-loop-v l = l.n - l.v
+invariant-loop-v l = Weighed l.pattern.sizes l.pattern.picked l.pattern.variables l.w l.v × (l.w ≤ 64)

@@ -2,8 +2,9 @@
 use Rattle.tables.proofs.Parting.{sized_fewer, split_at}
 use Rattle.tables.proofs.proved_worklist.parts.parts_of.Goals as goal
 
-pub state_count-lower-requires : goal.state_count-lower-requires
-state_count-lower-requires c = sized_fewer _ c.lower_variables-v.ensures.0 c.requires.0
+pub state_count-requires : goal.state_count-requires
+state_count-requires c = let v = rw (← c.pattern.view_is) at c.lower_variables-v.ensures in sized_fewer _ v.0 c.pattern.invariant.sized
 
-pub returns : goal.returns
-returns c = let v = c.lower_variables-v in split_at c.args.sizes c.args.pattern c.args.n v.result c.state_count-lower.result c.args.mask c.digits_below.result c.requires.0 v.ensures.0 c.requires.1 c.state_count-lower.ensures c.digits_below.ensures v.ensures.1 v.ensures.2
+pub returns-clause-split : goal.returns-clause-split
+returns-clause-split c = let p = c.pattern.inside in let v = rw (← c.pattern.view_is) at c.lower_variables-v.ensures in
+    rw (← c.pattern.view_is) (split_at p.sizes p.picked p.n c.lower_variables-v.result c.state_count.result p.mask c.digits_below.result c.pattern.invariant.sized v.0 c.pattern.invariant.masked c.state_count.ensures c.digits_below.ensures v.1 v.2)
