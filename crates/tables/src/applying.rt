@@ -2,6 +2,7 @@
 // sets are met. A word has room for 64 actions: with more no set is filled, and the sets stay as lent. The number of bytes may be any, and 2,
 // 4 or 8 are looked at. `applying` is public for the innermost loop of the search and is no entry of the product: it answers for any 2,048
 // words, any state and any number of bytes what its equation says, and a search has its sets from `record_tables::prepare`.
+// Stays: `as` of a digit or a byte: a word has no `From` into an index, and `try_from` has a case that never happens.
 ghost use Rattle.std.specs.Prelude.{◌≡◌, ℕ, ◌+◌, ◌*◌, ◌/◌, ◌%◌, ◌<◌, ◌≤◌, length, bit_and, slice_index};
 ghost use Rattle.tables.specs.Sets.{lowest_need, action_need, spread, meet_from, Entered, SlotsOf, RowFilled, RowsFilled, sets_filled};
 

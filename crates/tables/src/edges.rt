@@ -1,4 +1,5 @@
 // Edges of a pattern's abstraction: an outcome of an action, seen from the states that it leads to.
+// Stays: `as` of a count: it has no `From` into a byte, and `try_from` has a case that never happens.
 ghost use Rattle.std.specs.Prelude.{◌<◌, ◌≤◌};
 
 use crate::compiled_task::{kept, need, outcome_count, set, value};

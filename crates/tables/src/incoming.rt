@@ -1,4 +1,5 @@
 // Which edges lead to a state: sets of edges by its lower and by its upper part, 64 edges to a row. The edges that lead to it are those in both sets.
+// Stays: `as` of a digit, a part of a place and a sum: a word has no `From` into an index or what is narrower, and `try_from` has a case that never happens.
 use crate::edges::Edge;
 use crate::places::{Columns, product, put, variables};
 
@@ -109,6 +110,7 @@ impl Row {
 
 // Rows of edges and how many edges there are. For each row and each upper part the set of the edges that lead to a state with it, `stride` upper parts.
 // How many states there are, and how many actions with counters.
+// Stays: the number of edges beside the rows: there is no heap, and the rows are lent by who knows how many there may be.
 #[derive(Drop)]
 pub(crate) struct Graph<'a> {
     rows: &'a mut [Row],

@@ -3,7 +3,7 @@
 // abstract states of a pattern (`ranking`), a candidate for its table from the goals backwards (`worklist`, and what that needs: `places`,
 // `offsets`, `edges`, `incoming`, `visits`, `queue`), the test of a candidate (`certify`), passes that need none (`sweep`), the table of
 // one pattern (`build`), the same by one worklist that is itself proved (`proved_worklist`), what both have in common (`builder`,
-// `pattern`), all tables of a record (`record_tables`), how many states of a pattern have each cost (`spread`).
+// `pattern`), what the first works on (`space`), all tables of a record (`record_tables`), how many states of a pattern have each cost (`spread`).
 #![tactic(auto)]
 
 pub mod applying;

@@ -1,8 +1,10 @@
 // Lists of offsets: for a set of variables, what each of its values adds to a place. A list has the number of its set of variables, by their bits: 0 to
 // 63 for a set of the lower part, from 64 on for one of the upper part. Together these lists have fewer than 6,300 offsets.
+// Stays: `as` of places and numbers of lists: neither has a `From` into what is narrower, and `try_from` has a case that never happens.
 use crate::places::{Columns, product, put, variables};
 
 // Where a list begins among the offsets, and where it ends. A list that was not made yet is empty.
+// Stays: no Option: a list that was not made reads as one of no offsets, and where an Option is read it would be turned into that at once.
 #[derive(Clone, Copy, PartialEq, Eq)]
 pub(crate) struct Span {
     begin: u16,
@@ -32,6 +34,7 @@ pub(crate) struct Numbers {
 }
 
 // The numbered lists, the end of all that are kept, and the offsets in them.
+// Stays: the end beside the offsets: there is no heap, and the room is lent by who knows how much there may be.
 #[derive(Drop)]
 pub(crate) struct Offsets<'a> {
     spans: [Span; 128],

@@ -36,7 +36,7 @@ impl<'a> Model for Pattern<'a> {
 impl<'a> Pattern<'a> {
     // Pattern p of a record.
     // Stays: the mask from the sixteen cells at hand, and not by `mask_of`, whose loop over cells of any number is not unrolled: 34 instructions more for a
-    // table of 8 states.
+    // table of 8 states, and a build may not become slower.
     pub(crate) fn of(
         record: &SoundRecord,
         task: &'a [u64; 1282],

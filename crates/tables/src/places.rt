@@ -2,6 +2,7 @@
 // bit 16 on l + 64 u, where l numbers the values of the pattern's first variables (its lower part, at most 64 states) and u those of the others
 // (its upper part). Each of the three is a sum of digits times weights, so a place is one too, and an outcome adds the same number to the places of
 // all states that it changes in the same way, modulo 2^32. A pattern of at most 4,096 states has at most six variables in either part.
+// Stays: `as` of a part's weight and of a digit: neither has a `From` into 32 bits, and `try_from` has a case that never happens.
 use crate::sets::Members;
 
 // The lowest bit of every variable's digit.

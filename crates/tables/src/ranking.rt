@@ -1,4 +1,5 @@
 // The abstract states of a pattern: the weights that give their indices, and their words by index.
+// Stays: `as` of a weight: an index has no `From` into what is narrower, and `try_from` has a case that never happens.
 ghost use Rattle.std.specs.Prelude.{◌≡◌, ℕ, ◌+◌, ◌-◌, ◌*◌, ◌%◌, ◌<◌, ◌≤◌, ◌++◌, min, length, take, replicate, if◌then◌else◌, nat_eq, slice_index};
 ghost use Rattle.planning.specs.Table.{state_count, state_at};
 ghost use Rattle.tables.specs.Packed.{pack_by, low};
@@ -42,6 +43,8 @@ pub(crate) fn weights_of(pattern: &Pattern) -> [u16; 16]
 }
 
 // The number of abstract states: the weight of a variable after the last.
+// Stays: sizes, pattern and n with their clause, and no `Pattern`: `spread` counts the states of patterns that it makes none of, and `parts_of` those of fewer
+// variables.
 pub(crate) fn state_count(sizes: [u8; 16], pattern: [u8; 16], n: usize) -> usize
     requires { Sized sizes pattern n }
     ensures { result ≡ state_count (take n sizes) pattern }

@@ -1,5 +1,6 @@
 // The spread of a pattern's table: how many of its abstract states have each cost, counted in a lent row. It shows whether a pattern tells
 // states apart.
+// Stays: `as` of a length: it has no `From` into a word, and `try_from` has a case that never happens.
 ghost use Rattle.std.specs.Prelude.{◌≡◌, suc, ◌+◌, ◌<◌, ◌≤◌, min, [], map, length, take};
 ghost use Rattle.planning.specs.Table.{cost_of, EntriesBelow, most_cost, Small};
 ghost use Rattle.planning.specs.Spread.{row_size, spread};

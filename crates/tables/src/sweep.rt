@@ -1,4 +1,6 @@
 // Passes over the entries of a pattern's table: each entry falls to what an action says of it, until no action says less of any.
+// Stays: `as` of a digit: a word has no `From` into an index, and `try_from` has a case that never happens.
+// Stays: `m < x.actions` in the clauses, as `m < 64` in `compiled_task`; and task, mask and m side by side, since a `Space` and a `Pattern` lend them alike.
 ghost use Rattle.std.specs.Prelude.{◌≡◌, ℕ, ◌+◌, ◌*◌, ◌/◌, ◌%◌, ◌<◌, ◌≤◌, true, not, length, if◌then◌else◌, slice_index, slice_index_or};
 ghost use Rattle.tables.specs.Packed.{outcome_count};
 ghost use Rattle.tables.specs.Sets.{set_from};
@@ -84,7 +86,7 @@ fn entry_after(x: &Space<'_>, entries: &[u16], m: usize, o: usize, s: u64, guess
 
 // Guesses of the indices to which the outcomes of an action lead.
 // Stays: no closure, since a closure has to take any number. With the place of a step cut to 8 in it, tables of 4,096 states took 1.03 to 1.05 times the
-// instructions.
+// instructions; a build may not become slower.
 pub(crate) trait Guess {
     fn index_after(&self, o: usize) -> usize
         requires { o < 8 };
@@ -179,7 +181,8 @@ fn sweep_action(x: &Space<'_>, entries: &mut [u16], m: usize) -> bool
 
 // Whether an outcome names no variable of the pattern. It leads from each abstract state to itself, so the action never says less of an
 // entry.
-// Stays: a loop, and no `any` over the outcomes: with it a turn has 9 instructions in place of 6, and tables of a few states took up to 1.03 times as many.
+// Stays: a loop, and no `any` over the outcomes: with it a turn has 9 instructions in place of 6, and tables of a few states took up to 1.03 times as many; a build
+// may not become slower.
 fn may_idle(task: &[u64; 1282], mask: u64, m: usize) -> bool
     requires { (m < 64) × (outcome_count task.now m ≤ 8) }
     ensures { result ≡ idles task.now mask m }

@@ -1,6 +1,7 @@
 // Visits: what follows for the states before a settled one. A state is settled when its entry is finite; it then stands in the queue, in the order of
 // the entries. An action with several outcomes has a counter at every state of those that lead to settled states: since states are settled in the
 // order of their entries, the outcome that completes the count is the worst one. Nothing of that is in a contract.
+// Stays: `as` of a number of 32 bits: it has no `From` into an index, and `try_from` has a case that never happens.
 use crate::edges::{Edge, Sources};
 use crate::incoming::{Lookup, Row};
 use crate::offsets::Offsets;
@@ -12,9 +13,10 @@ fn index_in(place: u32) -> usize {
 }
 
 // The entries; the places of the settled states in their order, and how many there are; and the counters.
+// Stays: the number of settled states beside the queue: there is no heap, and the queue is lent by who knows how many states there are.
 // Stays: the simple edges have a loop of their own that is inlined into the queue's, and other edges are visited by calls that take the worklist by
 // value. With one loop over all edges of a borrowed worklist its fields are read again after each store, and the candidate of a table of 4,096 states
-// took 1.05 to 1.6 times the instructions.
+// took 1.05 to 1.6 times the instructions; a build may not become slower.
 #[derive(Drop)]
 pub(crate) struct Worklist<'a> {
     pub(crate) entries: &'a mut [u16],

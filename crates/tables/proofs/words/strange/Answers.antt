@@ -7,8 +7,8 @@ use Rattle.tables.proofs.words.strange.Goals.{then-x-eq-UNNAMED-via-then-x-eq-UN
 pub returns-then-x-eq-UNNAMED : goal.returns-then-x-eq-UNNAMED
 unfolding plain_cell
 returns-then-x-eq-UNNAMED c = elim c.then-x-eq-UNNAMED.branch [
-  then-x-eq-UNNAMED-via-then-x-eq-UNNAMED w ↦ simp (eq-eqb _ _ w.if-x-eq-UNNAMED.true) |
-  then-x-eq-UNNAMED-via-else-x-eq-UNNAMED+then-x-lt16 w ↦ simp (ne_eqb _ _ w.if-x-eq-UNNAMED.false, lt-ltb _ _ w.if-x-lt16.true)
+  | then-x-eq-UNNAMED-via-then-x-eq-UNNAMED w ↦ simp (eq-eqb _ _ w.if-x-eq-UNNAMED.true)
+  | then-x-eq-UNNAMED-via-else-x-eq-UNNAMED+then-x-lt16 w ↦ simp (ne_eqb _ _ w.if-x-eq-UNNAMED.false, lt-ltb _ _ w.if-x-lt16.true)
 ]
 
 pub returns : goal.returns

@@ -9,20 +9,19 @@ pub invariant_of-listed : goal.invariant_of-listed
 invariant_of-listed g c = record { listed = record { weights_are = c.weights_of-weights.ensures; words_are = c.fill_states.ensures; long = search rules } }
 
 pub settle-requires : goal.settle-requires
-settle-requires g c = let p = c.requires in let r = p.1 in
-    (
-      p.0,
-      c.parts_of-parts.ensures.split,
-      record {
-        few = omega (arith, r.tests_room, r.tests_few);
-        tests_room = search rules;
-        edges_room = search rules;
-        sets_room = record { rows = rw (length-replicate {A = ℕ} g.row.SETS 0) (λ some lower d l f u b. r.sets_room.rows some lower d l f u (omega (arith, b, r.tests_room))) };
-      },
-      omega (arith, p.0, r.states_room),
-      r.states_some,
-      r.states_few,
-    )
+settle-requires g c = let p = c.requires in let r = p.1 in (
+  p.0,
+  c.parts_of-parts.ensures.split,
+  record {
+    few = omega (arith, r.tests_room, r.tests_few);
+    tests_room = search rules;
+    edges_room = search rules;
+    sets_room = record { rows = rw (length-replicate {A = ℕ} g.row.SETS 0) (λ some lower d l f u b. r.sets_room.rows some lower d l f u (omega (arith, b, r.tests_room))) };
+  },
+  omega (arith, p.0, r.states_room),
+  r.states_some,
+  r.states_few,
+)
 
 pub returns : goal.returns
 returns g c = let i = c.args.pattern.now in
