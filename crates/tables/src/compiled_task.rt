@@ -1,10 +1,10 @@
 // Reading the words of a compiled task: of each of 64 actions its precondition, the number of its outcomes, its weight and its 8 outcomes, and the goal.
-// Of this crate only here, and where the words are written (`compile`, `compile_record`), is a word known by its place. The search has its own five in
-// `compiled`: a public function asks nothing of its caller, and one that answers for any number would test the number at every read.
+// Of this crate only here, and where the words are written (`compile`, `compile_record`), is a word known by its place. The search has its own five
+// in `search::compiled`: a public function asks nothing of its caller, and one that answers for any number would test the number at every read.
 // Stays: an array, and no struct around it, since `prepare` hands the words out and every statement speaks of them: with a struct each would have
 // one name more between. `as` of a word into a number of outcomes, since a word has no `From` into it, and `try_from` has a case that never happens.
-// Stays: `m < 64` and `o < 8` in the clauses: each bounds a single number as the function's own index needs it; a type for the number would be made of it at
-// every call, and say no more.
+// Stays: `m < 64` and `o < 8` in the clauses: each bounds a single number as the function's own index needs it; a type for the number would be made of it
+// at every call, and say no more.
 ghost use Rattle.std.specs.Prelude.{◌≡◌, ◌<◌};
 ghost use Rattle.tables.specs.Packed.{pre_mask, pre_value, outcome_count, action_weight, keep_mask, set_value, goal_mask, goal_value};
 

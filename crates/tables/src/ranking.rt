@@ -43,8 +43,8 @@ pub(crate) fn weights_of(pattern: &Pattern) -> [u16; 16]
 }
 
 // The number of abstract states: the weight of a variable after the last.
-// Stays: sizes, pattern and n with their clause, and no `Pattern`: `spread` counts the states of patterns that it makes none of, and `parts_of` those of fewer
-// variables.
+// Stays: sizes, pattern and n with their clause, and no `Pattern`: `spread` counts the states of patterns that it makes none of, and `parts_of` those of
+// fewer variables.
 pub(crate) fn state_count(sizes: [u8; 16], pattern: [u8; 16], n: usize) -> usize
     requires { Sized sizes pattern n }
     ensures { result ≡ state_count (take n sizes) pattern }

@@ -181,8 +181,8 @@ fn sweep_action(x: &Space<'_>, entries: &mut [u16], m: usize) -> bool
 
 // Whether an outcome names no variable of the pattern. It leads from each abstract state to itself, so the action never says less of an
 // entry.
-// Stays: a loop, and no `any` over the outcomes: with it a turn has 9 instructions in place of 6, and tables of a few states took up to 1.03 times as many; a build
-// may not become slower.
+// Stays: a loop, and no `any` over the outcomes: with it a turn has 9 instructions in place of 6, and tables of a few states took up to 1.03 times as many;
+// a build may not become slower.
 fn may_idle(task: &[u64; 1282], mask: u64, m: usize) -> bool
     requires { (m < 64) × (outcome_count task.now m ≤ 8) }
     ensures { result ≡ idles task.now mask m }

@@ -25,6 +25,7 @@ fn strange(x: u8) -> u8
 }
 
 // Whether every cell is a value or 255. It does not stop at a fault, so that it becomes one vector compare.
+// Stays: a loop, and no `all`, which stops at the first fault.
 fn all_plain(cells: &[u8]) -> bool
     requires { length cells.now ≡ 16 }
     ensures { result ≡ all_below (λ i. plain_cell (slice_index cells.now i)) 16 }
@@ -37,6 +38,7 @@ fn all_plain(cells: &[u8]) -> bool
 }
 
 // Four cells as the bytes of a number.
+// Stays: a sum: `from_le_bytes` asks for an array, in which each cell would be named as it is here.
 fn four(c: &[u8], at: usize) -> u64
     requires { (at + 4 ≤ length c.now) × (at ≤ 16) }
     ensures { (result ≡ bytes_of (take 4 (drop at c.now))) × (result < 4294967296) }

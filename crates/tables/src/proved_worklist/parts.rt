@@ -40,7 +40,7 @@ fn digits_below(mask: u64, v: usize) -> u64
     mask % 16u64.pow(v as u32)
 }
 
-// The mask, by whose digits they are told apart, is the pattern's own.
+// The parts of a pattern, told apart by the digits of its mask, which are those of its variables.
 pub(crate) fn parts_of(pattern: &Pattern) -> Parts
     ensures masked { pattern.now.mask ≡ pack_by picking pattern.now.picked }
     ensures split { Split pattern.now.sizes pattern.now.picked pattern.now.variables pattern.now.mask result.lower result.low }

@@ -1,5 +1,5 @@
 -- `tables::proved_worklist::parts::lower_variables` meets its contract. The loop's invariant: w is the number of states of the variables below v, at most 64. Assumes nothing.
-use Rattle.std.proofs.Common.{◌-◌, ◌≤◌}
+use Rattle.std.proofs.Common.{◌≤◌}
 use Rattle.tables.proofs.Spacing.{Weighed}
 use Rattle.tables.proofs.proved_worklist.parts.lower_variables.Given as goal
 
