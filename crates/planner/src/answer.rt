@@ -28,6 +28,7 @@ pub(crate) fn reply(kind: u64, first: u64, second: u64, third: u64) -> PlannerAn
 }
 
 // What a call answers where it refuses nothing.
+// Stays: a trait in place of `From`, since none may be written here: `PlannerAnswer` is of another crate, and so is each type below.
 pub(crate) trait Told {
     ghost numbers: { Self → Numbers };
 

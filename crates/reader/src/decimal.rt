@@ -1,4 +1,4 @@
-// Decimal numbers: `number` is the one leaf that reads them, in one pass. Assumes nothing.
+// Decimal numbers: `number` reads one of up to seven digits, in one pass; those at the front of a good line `quick_items` reads. Assumes nothing.
 ghost use Rattle.std.specs.Prelude.{◌≡◌, cond, not, ◌&&◌, ◌||◌, ◌≤◌, leb, eqb, length, get_or, Some, None};
 ghost use Rattle.reader.specs.Text.{digits, value, number_of};
 

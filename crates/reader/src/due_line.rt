@@ -1,14 +1,14 @@
 // What the line that is due must be: its key, and what stands behind it, with its place in the record. Assumes nothing.
-ghost use Rattle.std.specs.Prelude.{◌≡◌, List, ℕ, true, false, length, drop, MatchResult};
+ghost use Rattle.std.specs.Prelude.{◌≡◌, List, ℕ, true, false, length, drop, cond, MatchResult};
 ghost use Rattle.reader.specs.Text.{has_key};
-ghost use Rattle.reader.specs.Grammar.{number_line, budget_line, list_line, take_line};
-ghost use Rattle.reader.specs.Held.{held};
+ghost use Rattle.reader.specs.Grammar.{faulty, take_line};
+ghost use Rattle.reader.specs.Held.{held, take_text};
 ghost use Rattle.reader.specs.declared.order.Due.{Due};
 
 use crate::grammar::LineFault;
 use crate::lists::Kind;
 use crate::order::Due;
-use crate::places::{Field, field_of};
+use crate::places::Field;
 use task_record::layout::{
     AT_ACTION_COUNT, AT_GOAL, AT_LIMIT, AT_PATTERN_COUNT, AT_SIZES, AT_START, AT_VARIABLES,
     at_action, at_outcome, at_pattern, at_precondition,
@@ -20,6 +20,15 @@ pub enum Holds {
     Number(Field),
     Budget,
     List(Kind, usize),
+}
+
+impl Holds {
+    // A number from low to high, for the cell at an offset.
+    fn number(low: u8, high: u8, at: usize) -> Holds
+        ensures { result ≡ Holds.Number (record { low = low; high = high; at = at }) }
+    {
+        Holds::Number(Field::new(low, high, at))
+    }
 }
 
 // What stands behind the key of a line.
@@ -35,63 +44,40 @@ fn after_key<'a>(line: &'a [u8], key: &[u8]) -> Result<&'a [u8], LineFault>
     line.strip_prefix(key).ok_or(LineFault::Unexpected)
 }
 
-#[tactic(auto, unfolding(crate::specs::Grammar::number_line))]
-fn with_number<'a>(
-    line: &'a [u8],
-    key: &[u8],
-    low: u8,
-    high: u8,
-    at: usize,
-) -> Result<Value<'a>, LineFault>
-    ensures { (r : List ℕ) (due : Due) → number_line r due line.now key.now low high at ≡ held r due result }
+// A line with a key: what stands behind it must be `holds`.
+fn value_behind<'a>(line: &'a [u8], key: &[u8], holds: Holds) -> Result<Value<'a>, LineFault>
+    ensures { (r : List ℕ) (due : Due) → cond (has_key key.now line.now) (take_text r due holds (drop (length key.now) line.now)) (faulty LineFault.Unexpected) ≡ held r due result }
 {
     let text = after_key(line, key)?;
-    Ok(Value {
-        text,
-        holds: Holds::Number(field_of(low, high, at)),
-    })
-}
-
-#[tactic(auto, unfolding(crate::specs::Grammar::list_line))]
-fn with_list<'a>(line: &'a [u8], key: &[u8], kind: Kind, at: usize) -> Result<Value<'a>, LineFault>
-    ensures { (r : List ℕ) (due : Due) → list_line r due line.now key.now kind at ≡ held r due result }
-{
-    let text = after_key(line, key)?;
-    Ok(Value {
-        text,
-        holds: Holds::List(kind, at),
-    })
-}
-
-#[tactic(auto, unfolding(crate::specs::Grammar::budget_line))]
-fn with_budget<'a>(line: &'a [u8], key: &[u8]) -> Result<Value<'a>, LineFault>
-    ensures { (r : List ℕ) (due : Due) → budget_line r due line.now key.now ≡ held r due result }
-{
-    let text = after_key(line, key)?;
-    Ok(Value {
-        text,
-        holds: Holds::Budget,
-    })
+    Ok(Value { text, holds })
 }
 
 // The value of a line, which must be the one that is due.
-#[tactic(auto, unfolding(crate::specs::Bytes::bytes, crate::specs::Grammar::take_line))]
+#[tactic(auto, unfolding(crate::specs::Bytes::bytes, crate::specs::Grammar::take_line, crate::specs::Grammar::number_line, crate::specs::Grammar::list_line, crate::specs::Grammar::budget_line))]
 pub(crate) fn value_of(due: Due, line: &[u8]) -> Result<Value<'_>, LineFault>
     ensures { (r : List ℕ) → take_line r due line.now ≡ held r due result }
 {
     match due {
-        Due::Vars => with_number(line, b"vars=", 1, 16, AT_VARIABLES),
-        Due::Size(i) => with_number(line, b"size=", 2, 16, AT_SIZES + usize::from(i)),
-        Due::Moves => with_number(line, b"moves=", 0, 64, AT_ACTION_COUNT),
-        Due::Need(m) => with_list(line, b"need=", Kind::Pairs, at_precondition(m)),
-        Due::Outcomes(m) => with_number(line, b"outcomes=", 1, 8, at_action(m)),
-        Due::Eff(m, k) => with_list(line, b"eff=", Kind::Pairs, at_outcome(m, k)),
-        Due::Goal => with_list(line, b"goal=", Kind::Pairs, AT_GOAL),
-        Due::Start => with_list(line, b"start=", Kind::Values, AT_START),
-        Due::Patterns => with_number(line, b"patterns=", 0, 8, AT_PATTERN_COUNT),
-        Due::Pattern(p) => with_list(line, b"pattern=", Kind::Members, at_pattern(p)),
-        Due::Limit => with_number(line, b"limit=", 0, 32, AT_LIMIT),
-        Due::Budget => with_budget(line, b"budget="),
+        Due::Vars => value_behind(line, b"vars=", Holds::number(1, 16, AT_VARIABLES)),
+        Due::Size(i) => value_behind(
+            line,
+            b"size=",
+            Holds::number(2, 16, AT_SIZES + usize::from(i)),
+        ),
+        Due::Moves => value_behind(line, b"moves=", Holds::number(0, 64, AT_ACTION_COUNT)),
+        Due::Need(m) => value_behind(line, b"need=", Holds::List(Kind::Pairs, at_precondition(m))),
+        Due::Outcomes(m) => value_behind(line, b"outcomes=", Holds::number(1, 8, at_action(m))),
+        Due::Eff(m, k) => value_behind(line, b"eff=", Holds::List(Kind::Pairs, at_outcome(m, k))),
+        Due::Goal => value_behind(line, b"goal=", Holds::List(Kind::Pairs, AT_GOAL)),
+        Due::Start => value_behind(line, b"start=", Holds::List(Kind::Values, AT_START)),
+        Due::Patterns => value_behind(line, b"patterns=", Holds::number(0, 8, AT_PATTERN_COUNT)),
+        Due::Pattern(p) => value_behind(
+            line,
+            b"pattern=",
+            Holds::List(Kind::Members, at_pattern(p)),
+        ),
+        Due::Limit => value_behind(line, b"limit=", Holds::number(0, 32, AT_LIMIT)),
+        Due::Budget => value_behind(line, b"budget=", Holds::Budget),
         Due::End => Err(LineFault::Unexpected),
     }
 }

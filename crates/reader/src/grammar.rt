@@ -9,8 +9,8 @@ ghost use Rattle.reader.specs.declared.order.Due.{Due};
 
 use crate::decimal::number;
 use crate::due_line::{Holds, Value, value_of};
-use crate::lists::{Gathered, Kind, is_whole, read_list};
-use crate::order::{Due, next_due};
+use crate::lists::{Gathered, Kind, read_list};
+use crate::order::Due;
 use crate::places::Field;
 use crate::store::{cell_at, put, put_cells};
 use task_record::layout::{AT_BUDGET, AT_VARIABLES};
@@ -87,7 +87,7 @@ fn take_list(rec: &mut [u8], kind: Kind, at: usize, list: &Gathered) -> Result<(
     if !list.form {
         return Err(LineFault::Form);
     }
-    if !list.list || !is_whole(cell_at(rec, AT_VARIABLES), kind, list.next) {
+    if !list.list || !kind.is_whole(cell_at(rec, AT_VARIABLES), list.next) {
         return Err(LineFault::List);
     }
     put_cells(rec, at, &list.cells);
@@ -113,5 +113,5 @@ pub(crate) fn take_line(rec: &mut [u8], due: Due, line: &[u8]) -> Result<Due, Li
 {
     let value = value_of(due, line)?;
     take_value(rec, value)?;
-    Ok(next_due(rec, due))
+    Ok(due.next(rec))
 }

@@ -25,6 +25,7 @@ pub enum Kind {
 }
 
 // What the pieces so far say: whether each had the form, whether each kept the list's rules, the lowest variable that may come, the cells.
+// Stays: a flag for each kind of fault in place of the fault that goes first, since the definition of a list's text speaks of both.
 #[derive(Clone, Copy)]
 pub struct Gathered {
     pub form: bool,
@@ -73,21 +74,34 @@ pub(crate) fn allowed(rec: &[u8], next: usize, v: usize, x: usize) -> bool
     next <= v && v < cell_at(rec, AT_VARIABLES) && x < cell_at(rec, AT_SIZES + v)
 }
 
-// The cell of a variable that a list does not name.
-pub(crate) fn unnamed_of(kind: Kind) -> u8
-    ensures { result ≡ unnamed kind }
-{
-    match kind {
-        Kind::Pairs => UNNAMED,
-        Kind::Values => UNNAMED,
-        Kind::Members => 0,
+impl Kind {
+    // The cell of a variable that a list does not name.
+    pub(crate) fn unnamed(self) -> u8
+        ensures { result ≡ unnamed self }
+    {
+        match self {
+            Kind::Pairs => UNNAMED,
+            Kind::Values => UNNAMED,
+            Kind::Members => 0,
+        }
     }
-}
 
-pub(crate) fn is_values(kind: Kind) -> bool
-    ensures { result ≡ is_values kind }
-{
-    matches!(kind, Kind::Values)
+    pub(crate) fn is_values(self) -> bool
+        ensures { result ≡ is_values self }
+    {
+        matches!(self, Kind::Values)
+    }
+
+    // Whether a list of values has one for each of n variables.
+    pub(crate) fn is_whole(self, n: usize, next: usize) -> bool
+        ensures { result ≡ whole_list n self next }
+    {
+        match self {
+            Kind::Pairs => true,
+            Kind::Values => next == n,
+            Kind::Members => true,
+        }
+    }
 }
 
 impl Gathered {
@@ -99,11 +113,12 @@ impl Gathered {
             form: true,
             list: true,
             next: 0,
-            cells: [unnamed_of(kind); ROW_SIZE],
+            cells: [kind.unnamed(); ROW_SIZE],
         }
     }
 
     // One piece more.
+    // Stays: `as` at a value, since an index has no `From` into a byte, and `try_from` would have a case that never comes.
     fn add(&mut self, rec: &[u8], piece: Option<Pair>)
         ensures { self.new ≡ pair_step rec.now self.old piece }
     {
@@ -130,25 +145,12 @@ pub(crate) fn read_list(rec: &[u8], kind: Kind, text: &[u8]) -> Gathered
     ensures { result ≡ list_of rec.now kind text.now }
 {
     let mut gathered = Gathered::new(kind);
-    if text.is_empty() {
-        if !is_values(kind) {
-            return gathered;
-        }
+    if text.is_empty() && !kind.is_values() {
+        return gathered;
     }
     for piece in text.split(|b| *b == COMMA) {
         let item = item_of(kind, gathered.next, piece);
         gathered.add(rec, item);
     }
     gathered
-}
-
-// Whether a list of values has one for each of n variables.
-pub(crate) fn is_whole(n: usize, kind: Kind, next: usize) -> bool
-    ensures { result ≡ whole_list n kind next }
-{
-    match kind {
-        Kind::Pairs => true,
-        Kind::Values => next == n,
-        Kind::Members => true,
-    }
 }

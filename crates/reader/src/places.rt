@@ -18,15 +18,19 @@ pub struct Row {
     ghost in_record: { at + 16 ≤ record_size },
 }
 
-pub(crate) fn field_of(low: u8, high: u8, at: usize) -> Field
-    ensures { result ≡ record { low = low; high = high; at = at } }
-{
-    Field { low, high, at }
+impl Field {
+    pub(crate) fn new(low: u8, high: u8, at: usize) -> Field
+        ensures { result ≡ record { low = low; high = high; at = at } }
+    {
+        Field { low, high, at }
+    }
 }
 
-pub(crate) fn row_at(at: usize) -> Row
-    requires { (24 ≤ at) × (at + 16 ≤ record_size) }
-    ensures { result.at ≡ at }
-{
-    Row { at }
+impl Row {
+    pub(crate) fn new(at: usize) -> Row
+        requires { (24 ≤ at) × (at + 16 ≤ record_size) }
+        ensures { result.at ≡ at }
+    {
+        Row { at }
+    }
 }

@@ -6,7 +6,7 @@ ghost use Rattle.reader.specs.Lists.{is_values};
 ghost use Rattle.reader.specs.Quick.{ListAt, ListLine, NumberLine};
 
 use crate::draft::Draft;
-use crate::lists::{Kind, is_values, is_whole, unnamed_of};
+use crate::lists::Kind;
 use crate::pieces::{COMMA, LINE_BREAK};
 use crate::places::{Field, Row};
 use crate::quick_items::{quick_item, short_number};
@@ -31,16 +31,17 @@ fn behind<'a>(s: &'a [u8], key: &[u8]) -> Option<&'a [u8]>
 fn is_empty(s: &[u8], kind: Kind) -> bool
     ensures { result ≡ true → (0 < length s.now) × (get_or s.now 0 0 ≡ 10) × (is_values kind ≡ false) }
 {
-    s.first() == Some(&LINE_BREAK) && !is_values(kind)
+    s.first() == Some(&LINE_BREAK) && !kind.is_values()
 }
 
 // A list up to the end of its line.
+// Stays: `as` at a value, since an index has no `From` into a byte, and `try_from` would have a case that never comes.
 #[inline(always)]
 fn quick_list<'a>(s: &'a [u8], rec: &mut Draft, kind: Kind, row: Row) -> Option<&'a [u8]>
     ensures { IfSome result (λ e. ListAt s.now kind rec.old row.at rec.new e.now) }
 {
     let n = rec.variables();
-    rec.fill_row(row, unnamed_of(kind));
+    rec.fill_row(row, kind.unnamed());
     if is_empty(s, kind) {
         return Some(&s[1..]);
     }
@@ -58,7 +59,7 @@ fn quick_list<'a>(s: &'a [u8], rec: &mut Draft, kind: Kind, row: Row) -> Option<
         let c = after[0];
         rec.store(row.at + v, x as u8);
         if c == LINE_BREAK {
-            if is_whole(n, kind, v + 1) {
+            if kind.is_whole(n, v + 1) {
                 return Some(&after[1..]);
             }
             return None;

@@ -1,5 +1,7 @@
 // The lines of a good text in their order, each read once. Every function answers what stands behind its lines, or nothing where it does not know
 // them for good; then the record may hold anything. Assumes nothing.
+// Stays: what is left of the text is an argument and the answer, beside the record: in a cursor with both it would be left somewhere in a line that
+// is not known, so each clause would speak of the text twice, before and after, and it would stand behind a reference, not in a register.
 ghost use Rattle.std.specs.Prelude.{◌≡◌, true, ◌+◌, ◌<◌, ◌≤◌, length, get_or, IfSome};
 ghost use Rattle.task_record.specs.Layout.{at_action};
 ghost use Rattle.reader.specs.Text.{lines_of, number_of};
@@ -11,7 +13,7 @@ use crate::draft::Draft;
 use crate::lists::Kind;
 use crate::order::Due;
 use crate::pieces::LINE_BREAK;
-use crate::places::{field_of, row_at};
+use crate::places::{Field, Row};
 use crate::quick_lines::{quick_list_line, quick_number_line};
 use task_record::layout::{
     AT_ACTION_COUNT, AT_GOAL, AT_LIMIT, AT_PATTERN_COUNT, AT_SIZES, AT_START, AT_VARIABLES,
@@ -26,7 +28,7 @@ fn quick_sizes<'a>(s: &'a [u8], rec: &mut Draft) -> Option<&'a [u8]>
     let mut rest = s;
     let n = rec.variables();
     for i in 0..n {
-        rest = quick_number_line(rest, rec, b"size=", field_of(2, 16, AT_SIZES + i))?;
+        rest = quick_number_line(rest, rec, b"size=", Field::new(2, 16, AT_SIZES + i))?;
     }
     Some(rest)
 }
@@ -39,7 +41,7 @@ fn quick_outcomes<'a>(s: &'a [u8], rec: &mut Draft, m: u8) -> Option<&'a [u8]>
     let mut rest = s;
     let count = rec.cell(at_action(m));
     for k in 0..count {
-        rest = quick_list_line(rest, rec, b"eff=", Kind::Pairs, row_at(at_outcome(m, k)))?;
+        rest = quick_list_line(rest, rec, b"eff=", Kind::Pairs, Row::new(at_outcome(m, k)))?;
     }
     Some(rest)
 }
@@ -49,8 +51,8 @@ fn quick_action<'a>(s: &'a [u8], rec: &mut Draft, m: u8) -> Option<&'a [u8]>
     requires { m < 64 }
     ensures { IfSome result (λ e. (get_or rec.new 1 0 ≡ get_or rec.old 1 0) × Leads (Due.Need m) rec.old s.now (action_from rec.new (m + 1)) rec.new e.now) }
 {
-    let a = quick_list_line(s, rec, b"need=", Kind::Pairs, row_at(at_precondition(m)))?;
-    let b = quick_number_line(a, rec, b"outcomes=", field_of(1, 8, at_action(m)))?;
+    let a = quick_list_line(s, rec, b"need=", Kind::Pairs, Row::new(at_precondition(m)))?;
+    let b = quick_number_line(a, rec, b"outcomes=", Field::new(1, 8, at_action(m)))?;
     quick_outcomes(b, rec, m)
 }
 
@@ -75,7 +77,13 @@ fn quick_patterns<'a>(s: &'a [u8], rec: &mut Draft) -> Option<&'a [u8]>
     let mut rest = s;
     let count = rec.cell(AT_PATTERN_COUNT);
     for p in 0..count {
-        rest = quick_list_line(rest, rec, b"pattern=", Kind::Members, row_at(at_pattern(p)))?;
+        rest = quick_list_line(
+            rest,
+            rec,
+            b"pattern=",
+            Kind::Members,
+            Row::new(at_pattern(p)),
+        )?;
     }
     Some(rest)
 }
@@ -84,9 +92,9 @@ fn quick_patterns<'a>(s: &'a [u8], rec: &mut Draft) -> Option<&'a [u8]>
 fn quick_front<'a>(s: &'a [u8], rec: &mut Draft) -> Option<&'a [u8]>
     ensures { IfSome result (λ e. Leads Due.Vars rec.old s.now Due.Goal rec.new e.now) }
 {
-    let a = quick_number_line(s, rec, b"vars=", field_of(1, 16, AT_VARIABLES))?;
+    let a = quick_number_line(s, rec, b"vars=", Field::new(1, 16, AT_VARIABLES))?;
     let b = quick_sizes(a, rec)?;
-    let c = quick_number_line(b, rec, b"moves=", field_of(0, 64, AT_ACTION_COUNT))?;
+    let c = quick_number_line(b, rec, b"moves=", Field::new(0, 64, AT_ACTION_COUNT))?;
     quick_actions(c, rec)
 }
 
@@ -94,17 +102,17 @@ fn quick_front<'a>(s: &'a [u8], rec: &mut Draft) -> Option<&'a [u8]>
 fn quick_states<'a>(s: &'a [u8], rec: &mut Draft) -> Option<&'a [u8]>
     ensures { IfSome result (λ e. Leads Due.Goal rec.old s.now Due.Patterns rec.new e.now) }
 {
-    let a = quick_list_line(s, rec, b"goal=", Kind::Pairs, row_at(AT_GOAL))?;
-    quick_list_line(a, rec, b"start=", Kind::Values, row_at(AT_START))
+    let a = quick_list_line(s, rec, b"goal=", Kind::Pairs, Row::new(AT_GOAL))?;
+    quick_list_line(a, rec, b"start=", Kind::Values, Row::new(AT_START))
 }
 
 // The lines from the number of patterns to the limit.
 fn quick_tail<'a>(s: &'a [u8], rec: &mut Draft) -> Option<&'a [u8]>
     ensures { IfSome result (λ e. Leads Due.Patterns rec.old s.now Due.Budget rec.new e.now) }
 {
-    let a = quick_number_line(s, rec, b"patterns=", field_of(0, 8, AT_PATTERN_COUNT))?;
+    let a = quick_number_line(s, rec, b"patterns=", Field::new(0, 8, AT_PATTERN_COUNT))?;
     let b = quick_patterns(a, rec)?;
-    quick_number_line(b, rec, b"limit=", field_of(0, 32, AT_LIMIT))
+    quick_number_line(b, rec, b"limit=", Field::new(0, 32, AT_LIMIT))
 }
 
 // The lines before the last.

@@ -3,10 +3,17 @@ ghost use Rattle.std.specs.Prelude.{◌≡◌, ◌+◌, ◌<◌, ◌≤◌, leng
 ghost use Rattle.std.proofs.lemmas.List.Edits.{sets};
 
 // The cell at an offset.
+pub(crate) fn byte_at(r: &[u8], k: usize) -> u8
+    ensures { result ≡ get_or r.now k 0 }
+{
+    r.get(k).copied().unwrap_or(0)
+}
+
+// The same, as an index.
 pub(crate) fn cell_at(r: &[u8], k: usize) -> usize
     ensures { (result ≡ get_or r.now k 0) × (result < 256) }
 {
-    r.get(k).copied().map_or(0, usize::from)
+    usize::from(byte_at(r, k))
 }
 
 // One cell.

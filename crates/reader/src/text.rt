@@ -8,7 +8,7 @@ ghost use Rattle.reader.specs.Answers.{read_numbers, text_by_lines};
 use crate::blank::{Record, clear_record};
 use crate::draft::Draft;
 use crate::grammar::take_line;
-use crate::order::{Due, is_end};
+use crate::order::Due;
 use crate::pieces::{LINE_BREAK, cut};
 use crate::quick_text::is_good;
 use crate::store::put_cells;
@@ -30,7 +30,7 @@ fn read_lines(text: &[u8], rec: &mut [u8]) -> Result<(), Refusal>
         line += 1;
         rest = after;
     }
-    if is_end(due) {
+    if due.is_end() {
         return Ok(());
     }
     Err(Refusal::UnexpectedLine(line))
@@ -50,6 +50,7 @@ fn read_slowly(text: &[u8], local: &mut Record, record: &mut [u8]) -> Result<(),
 }
 
 // Reads a text into a record: at once where every line is as most texts write it, else line by line from the start, which tells what is wrong.
+// Stays: `as` at the record's length, since an index has no `From` into a word, and `try_from` would have a case that never comes.
 pub fn read_text(text: &[u8], record: &mut [u8]) -> Result<(), Refusal>
     ensures value { (result ≡ read_answer text.now «record».old) × («record».new ≡ read_leaves text.now «record».old) }
     ensures numbers { read_numbers result ≡ text_by_lines text.now «record».old }

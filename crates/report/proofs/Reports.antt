@@ -120,16 +120,16 @@ module _ (r tabs plan : List ℕ) (d c k : ℕ) (e : Ok (Found d c k) ≡ search
 
 -- The other answers.
 module _ (r : List ℕ) (lent n : ℕ) where
-  pub over-told : (c : ℕ) → Ok (Over c) ≡ search_answer r lent n → record_lines lent n r ≡ value_line (start_value r) ++ over_lines c
-  unfolding record_lines answer_lines start_value
+  pub over-told : (c : ℕ) → Ok (Over c) ≡ search_answer r lent n → record_lines lent n r ≡ value_line (start_value r) ++ (line (bytes "answer=over") ++ number_line (bytes "count=") c)
+  unfolding record_lines answer_lines over_lines start_value
   over-told c e = rw (← e)
 
   pub spent-told : (d c : ℕ) → Ok (Spent d c) ≡ search_answer r lent n → record_lines lent n r ≡ value_line (start_value r) ++ spent_lines d c
   unfolding record_lines answer_lines start_value
   spent-told d c e = rw (← e)
 
-  pub none_told : (c : ℕ) → Ok (None c) ≡ search_answer r lent n → record_lines lent n r ≡ value_line (start_value r) ++ none_lines c
-  unfolding record_lines answer_lines start_value
+  pub none_told : (c : ℕ) → Ok (None c) ≡ search_answer r lent n → record_lines lent n r ≡ value_line (start_value r) ++ (line (bytes "answer=none") ++ number_line (bytes "count=") c)
+  unfolding record_lines answer_lines none_lines start_value
   none_told c e = rw (← e)
 
   pub refusal-told : (x : Refusal) → Err x ≡ search_answer r lent n → record_lines lent n r ≡ refused_lines x

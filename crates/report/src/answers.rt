@@ -1,11 +1,14 @@
 // The lines of an answer: a refusal, the value of the start, and what the search found. Asks that places stay small.
-// Stays: a bound on the place before each (`at ≤ 53`, one line), since a sum that cannot wrap needs one.
-ghost use Rattle.std.specs.Prelude.{◌≡◌, ◌+◌, ◌*◌, ◌≤◌, length, Ok};
+// Stays: a bound on the place before each (`at ≤ 53`, one line), since a sum that cannot wrap needs one. It is no invariant of `Lines`: one that
+// holds after every line too would leave each to ask for the room of its own bytes.
+ghost use Rattle.std.specs.Prelude.{◌≡◌, ◌++◌, ◌+◌, ◌*◌, ◌≤◌, length, Ok};
 ghost use Rattle.planning.specs.Extended.{ℕ∞};
 ghost use Rattle.task_record.specs.Layout.{at_start};
 ghost use Rattle.task_record.specs.TaskOf.{cells_at};
 ghost use Rattle.patterns.specs.Value.{value_of, state_value};
-ghost use Rattle.report.specs.Report.{refusal_lines, value_line, found_lines, spent_lines, over_lines, none_lines};
+ghost use Rattle.reader.specs.Bytes.{bytes};
+ghost use Rattle.report.specs.Lines.{line, number_line};
+ghost use Rattle.report.specs.Report.{refusal_lines, value_line, found_lines, spent_lines};
 ghost use Rattle.report.specs.Writing.{Puts};
 
 use crate::lines::Lines;
@@ -68,21 +71,12 @@ pub(crate) fn put_spent(lines: &mut Lines<'_>, round: u64, count: u64)
     lines.put_number_line(b"count=", count)
 }
 
-pub(crate) fn put_over(lines: &mut Lines<'_>, count: u64)
-    requires { lines.old.at ≤ 53 }
-    ensures written { Puts (over_lines count) lines.old lines.new }
+// Behind a word, how many states were expanded: the lines where the search says no more.
+pub(crate) fn put_count(lines: &mut Lines<'_>, word: &[u8], count: u64)
+    requires { (lines.old.at ≤ 53) × (length word.now ≤ 32) }
+    ensures written { Puts (line word.now ++ number_line (bytes "count=") count) lines.old lines.new }
     ensures short { lines.new.at ≤ lines.old.at + 86 }
 {
-    lines.put_line(b"answer=over");
-    lines.put_number_line(b"count=", count)
-}
-
-// Stays: one function with `put_over` would take the word that tells them apart, and its two lines are no fewer.
-pub(crate) fn put_none(lines: &mut Lines<'_>, count: u64)
-    requires { lines.old.at ≤ 53 }
-    ensures written { Puts (none_lines count) lines.old lines.new }
-    ensures short { lines.new.at ≤ lines.old.at + 86 }
-{
-    lines.put_line(b"answer=none");
+    lines.put_line(word);
     lines.put_number_line(b"count=", count)
 }

@@ -6,11 +6,13 @@ ghost use Rattle.report.specs.Writing.{Puts};
 
 use itoa::Buffer;
 
-const LINE_BREAK: u8 = 10;
+const LINE_BREAK: u8 = b'\n';
 
-const COMMA: u8 = 44;
+const COMMA: u8 = b',';
 
 // A lent buffer, and the place of the next byte, which may lie past its end: what does not fit is counted and not stored.
+// Stays: printed by hand, since a writer of the library answers each text with a result, and what it promises holds only where that is good; here
+// no line can fail, so that each would leave a case that never comes.
 #[derive(Drop)]
 pub(crate) struct Lines<'a> {
     out: &'a mut [u8],

@@ -5,7 +5,7 @@ ghost use Rattle.search.specs.Entry.{plan_after};
 ghost use Rattle.report.specs.Report.{record_lines, printed, tables_left, plan_left};
 ghost use Rattle.report.specs.Writing.{Puts, overwritten};
 
-use crate::answers::{put_found, put_none, put_over, put_refusal, put_spent, put_start_value};
+use crate::answers::{put_count, put_found, put_refusal, put_spent, put_start_value};
 use crate::lines::Lines;
 use reader::text::read_text;
 use search::entry::{SearchAnswer, search};
@@ -28,7 +28,7 @@ fn report_record(rec: &[u8], tables: &mut [u16], plan: &mut [u8], lines: &mut Li
         }
         Ok(SearchAnswer::Over(count)) => {
             put_start_value(lines, rec, tables);
-            put_over(lines, count)
+            put_count(lines, b"answer=over", count)
         }
         Ok(SearchAnswer::Spent(round, count)) => {
             put_start_value(lines, rec, tables);
@@ -36,7 +36,7 @@ fn report_record(rec: &[u8], tables: &mut [u16], plan: &mut [u8], lines: &mut Li
         }
         Ok(SearchAnswer::None(count)) => {
             put_start_value(lines, rec, tables);
-            put_none(lines, count)
+            put_count(lines, b"answer=none", count)
         }
     }
 }

@@ -42,7 +42,7 @@ pub(crate) fn number_at(numbers: &[usize], k: usize) -> usize {
 }
 
 // The numbers as bytes, as many as find room.
-// Stays: `as`, as in `cells`.
+// Stays: `as` at the low byte of a number, since a number has no `From` into a byte, and `try_from` would have a case that never comes.
 pub(crate) fn as_bytes<'a>(numbers: &[usize], room: &'a mut [u8]) -> &'a [u8] {
     let n = numbers.len().min(room.len());
     for (b, x) in room.iter_mut().zip(numbers) {

@@ -17,7 +17,7 @@ use Rattle.reader.specs.declared.lists.Gathered.{Gathered}
 use Rattle.reader.specs.declared.lists.Kind.{Kind}
 use Rattle.reader.proofs.Items.{listed_none, listed_some, listed_values}
 use Rattle.reader.proofs.Split.{split_pieces}
-use Rattle.reader.proofs.lists.read_list.Goals.{then-is_empty+else-not-is_values, else-is_empty}
+use Rattle.reader.proofs.lists.read_list.Goals.{else-is_empty-via-then-is_empty+else-not-is_values, else-is_empty-via-else-is_empty}
 use Rattle.reader.proofs.lists.read_list.Goals as goal
 
 module _ (r : List ℕ) (kind : Kind) where
@@ -46,9 +46,9 @@ pub loop-piece-init : goal.loop-piece-init
 loop-piece-init c =
     let a = c.args in
     list-begins a.rec.now a.kind a.text.now c.new-gathered.result c.new-gathered.ensures
-    (elim c.if-is_empty.branch [
-      | then-is_empty+else-not-is_values w ↦ ap (λ b. listed b a.text.now) (sym w.is_values.ensures ∙ w.if-not-is_values.false) ∙ listed_values a.text.now
-      | else-is_empty w ↦ listed_some (is_values a.kind) a.text.now (eqb-false _ _ (sym c.is_empty.ensures ∙ w.if-is_empty.false))
+    (elim c.else-is_empty.branch [
+      | else-is_empty-via-then-is_empty+else-not-is_values w ↦ ap (λ b. listed b a.text.now) (sym w.is_values.ensures ∙ w.if-not-is_values.false) ∙ listed_values a.text.now
+      | else-is_empty-via-else-is_empty w ↦ listed_some (is_values a.kind) a.text.now (eqb-false _ _ (sym c.is_empty.ensures ∙ w.if-is_empty.false))
     ])
 
 pub loop-piece-preserved : goal.loop-piece-preserved

@@ -20,7 +20,7 @@ cleared rec new row u kind e f = e ∙ ap (λ (u : ℕ). sets rec row (replicate
 
 pub returns-then-is_empty : goal.returns-then-is_empty
 returns-then-is_empty c = let a = c.args in let e = c.is_empty.ensures c.if-is_empty.true in
-    rw (part_rest a.s.now 1, cleared a.rec.now c.fill_row.new.self a.row.at c.unnamed_of.result a.kind c.fill_row.ensures.0 c.unnamed_of.ensures) (list_empty a.s.now a.kind a.rec.now a.row.at e.0 e.1 e.2)
+    rw (part_rest a.s.now 1, cleared a.rec.now c.fill_row.new.self a.row.at c.unnamed.result a.kind c.fill_row.ensures.0 c.unnamed.ensures) (list_empty a.s.now a.kind a.rec.now a.row.at e.0 e.1 e.2)
 
 pub loop-rest-init : goal.loop-rest-init
 loop-rest-init c = let a = c.args in
@@ -29,12 +29,12 @@ loop-rest-init c = let a = c.args in
 pub returns-then-is_whole : goal.returns-then-is_whole
 returns-then-is_whole c = let a = c.args in
     let o = c.loop-rest in
-    let l = o.invariant.1 a.rec.now (cleared a.rec.now c.fill_row.new.self a.row.at c.unnamed_of.result a.kind c.fill_row.ensures.0 c.unnamed_of.ensures) in
+    let l = o.invariant.1 a.rec.now (cleared a.rec.now c.fill_row.new.self a.row.at c.unnamed.result a.kind c.fill_row.ensures.0 c.unnamed.ensures) in
     let f = c.allows.ensures c.if-not-allows.false in
     let h = c.in_ok-item.ensures in
     let i = c.in_ok-item.item in
     let q = i.read in
-    let n = length-sets a.rec.now a.row.at (replicate 16 c.unnamed_of.result) in
+    let n = length-sets a.rec.now a.row.at (replicate 16 c.unnamed.result) in
     let z = ap length c.fill_row.ensures.0 in
     let k = fits_kept a.rec.now o.rec a.row.at l.cells o.next q.variable q.value l.stored a.row.behind_sizes f.1 f.0 in
     rw (part_rest i.rest.now 1, c.store.ensures.0)

@@ -33,7 +33,7 @@ unfolding bytes
 quick_outcomes-requires c =
     let a = c.args in
     let e = before-outcomes a.m a.s.now c.in_ok-a.a.now c.in_ok-b.b.now a.rec.now c.quick_list_line.new.rec c.quick_number_line.new.rec
-    (rw (c.row_at.ensures, c.at_precondition.ensures) at c.in_ok-a.ensures) (rw (c.field_of.ensures, c.at_action.ensures) at c.in_ok-b.ensures) in
+    (rw (c.new.ensures, c.at_precondition.ensures) at c.in_ok-a.ensures) (rw (c.new-2.ensures, c.at_action.ensures) at c.in_ok-b.ensures) in
     (c.requires, e.1.0, e.1.1)
 
 pub returns : goal.returns
@@ -43,6 +43,6 @@ returns c =
     let r = c.quick_number_line.new.rec in
     let b = c.in_ok-b.b.now in
     let e = before-outcomes a.m a.s.now c.in_ok-a.a.now b a.rec.now c.quick_list_line.new.rec r
-    (rw (c.row_at.ensures, c.at_precondition.ensures) at c.in_ok-a.ensures) (rw (c.field_of.ensures, c.at_action.ensures) at c.in_ok-b.ensures) in
+    (rw (c.new.ensures, c.at_precondition.ensures) at c.in_ok-a.ensures) (rw (c.new-2.ensures, c.at_action.ensures) at c.in_ok-b.ensures) in
     IfSome_then c.quick_outcomes.result c.quick_outcomes.ensures
     (λ x h. (h.0 ∙ e.0, leads_on (Need a.m) (Eff a.m 0) (action_from c.quick_outcomes.new.rec (a.m + 1)) a.rec.now r c.quick_outcomes.new.rec a.s.now b x.now e.2 h.1))

@@ -9,7 +9,7 @@ use Rattle.reader.proofs.quick_text.quick_front.Goals as goal
 
 pub quick_sizes-requires : goal.quick_sizes-requires
 unfolding bytes
-quick_sizes-requires c = (number_range c.args.s.now key_vars 1 16 c.args.rec.now 0 c.quick_number_line.new.rec c.in_ok-a.a.now (rw c.field_of.ensures at c.in_ok-a.ensures)).0
+quick_sizes-requires c = (number_range c.args.s.now key_vars 1 16 c.args.rec.now 0 c.quick_number_line.new.rec c.in_ok-a.a.now (rw c.new.ensures at c.in_ok-a.ensures)).0
 
 pub returns : goal.returns
 unfolding bytes
@@ -23,8 +23,8 @@ returns c =
     let a = c.in_ok-a.a.now in
     let b = c.in_ok-b.b.now in
     let d = c.in_ok-c.c.now in
-    let p = rw c.field_of.ensures at c.in_ok-a.ensures in
-    let q = rw c.field_of-2.ensures at c.in_ok-c.ensures in
+    let p = rw c.new.ensures at c.in_ok-a.ensures in
+    let q = rw c.new-2.ensures at c.in_ok-c.ensures in
     let e = vars_on Vars r₀ s s a r₀ r₁ (leads_here Vars r₀ s) p in
     let f = moves_on Vars r₀ s b d r₂ r₃ (leads_on Vars (Size 0) Moves r₀ r₁ r₂ s a b e c.in_ok-b.ensures) q in
     IfSome_then c.quick_actions.result c.quick_actions.ensures

@@ -17,6 +17,6 @@ loop-i-preserved c =
     let l = c.loop-i in
     let r = c.quick_number_line.new.rec in
     let e = c.in_ok-rest.rest.now in
-    let q = rw c.field_of.ensures at c.in_ok-rest.ensures in
+    let q = rw c.new.ensures at c.in_ok-rest.ensures in
     let z = number_kept l.rest.now key_size 2 16 l.rec (8 + l.i) r e q 0 (λ e. omega arith) ∙ l.invariant.0 in
     (z, rw z at (size_on (Size 0) a.rec.now a.s.now l.rest.now e l.rec r l.i (rw (lt-ltb l.i c.variables-n.result c.loop-i-test.true) at l.invariant.1) q))

@@ -14,6 +14,6 @@ returns c =
     let r₁ = c.quick_list_line.new.rec in
     let r₂ = c.quick_list_line-2.new.rec in
     let a = c.in_ok-a.a.now in
-    let p = rw c.row_at.ensures at c.in_ok-a.ensures in
-    IfSome_then c.quick_list_line-2.result (rw c.row_at-2.ensures at c.quick_list_line-2.ensures)
+    let p = rw c.new.ensures at c.in_ok-a.ensures in
+    IfSome_then c.quick_list_line-2.result (rw c.new-2.ensures at c.quick_list_line-2.ensures)
     (λ x h. start_on Goal r₀ s a x.now r₁ r₂ (goal_on Goal r₀ s s a r₀ r₁ (leads_here Goal r₀ s) p) h)

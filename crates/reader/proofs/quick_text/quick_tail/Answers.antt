@@ -16,7 +16,7 @@ returns c =
     let r₂ = c.quick_patterns.new.rec in
     let a = c.in_ok-a.a.now in
     let b = c.in_ok-b.b.now in
-    let p = patterns_on Patterns r₀ s s a r₀ r₁ (leads_here Patterns r₀ s) (rw c.field_of.ensures at c.in_ok-a.ensures) in
+    let p = patterns_on Patterns r₀ s s a r₀ r₁ (leads_here Patterns r₀ s) (rw c.new.ensures at c.in_ok-a.ensures) in
     let f = leads_on Patterns (pattern_from r₁ 0) Limit r₀ r₁ r₂ s a b p c.in_ok-b.ensures in
-    IfSome_then c.quick_number_line-2.result (rw c.field_of-2.ensures at c.quick_number_line-2.ensures)
+    IfSome_then c.quick_number_line-2.result (rw c.new-2.ensures at c.quick_number_line-2.ensures)
     (λ x h. limit_on Patterns r₀ s b x.now r₂ c.quick_number_line-2.new.rec f h)

@@ -4,6 +4,7 @@ use mathlib.Core.Path.{refl, sym, ◌∙◌}
 use native.Mathlib.Omega.{arith}
 use lib.ListN.{length-take}
 use lib.Seq.{length-take-le}
+use Rattle.reader.specs.Bytes.{bytes}
 use Rattle.report.proofs.Reports.{answer_told, start-value-told, found_within, found_short, found-told, over-told, spent-told, none_told, refusal-told, refusal_told}
 use Rattle.report.proofs.Stored.{puts_then}
 use Rattle.report.proofs.text.report_record.Goals as goal
@@ -36,9 +37,10 @@ returns-in-Ok-Found-clause-short c = let s = c.search.ensures in
     omega (arith, c.put_found.ensures.short, c.put_start_value.ensures.short, length-take c.in-Ok-Found.bytes c.search.new.plan, found_within c.args.rec.now c.args.tables.now c.args.plan.now _ _ _ e)
 
 pub returns-in-Ok-Over-clause-written : goal.returns-in-Ok-Over-clause-written
+unfolding bytes
 returns-in-Ok-Over-clause-written c = let s = c.search.ensures in
     let e = answer_told c.in-Ok-Over.field-0 _ _ _ c.in-Ok-Over.field-0-is c.in-Ok-Over.is s.answer in
-    rw (over-told _ _ _ _ e) (puts_then (c.put_start_value-in-Ok-Over.ensures.written _ (start-value-told _ _ _ _ e s.tables)) c.put_over.ensures.written)
+    rw (over-told _ _ _ _ e) (puts_then (c.put_start_value-in-Ok-Over.ensures.written _ (start-value-told _ _ _ _ e s.tables)) c.put_count.ensures.written)
 
 pub returns-in-Ok-Spent-clause-written : goal.returns-in-Ok-Spent-clause-written
 returns-in-Ok-Spent-clause-written c = let s = c.search.ensures in
@@ -46,6 +48,7 @@ returns-in-Ok-Spent-clause-written c = let s = c.search.ensures in
     rw (spent-told _ _ _ _ _ e) (puts_then (c.put_start_value-in-Ok-Spent.ensures.written _ (start-value-told _ _ _ _ e s.tables)) c.put_spent.ensures.written)
 
 pub returns-in-Ok-None-clause-written : goal.returns-in-Ok-None-clause-written
+unfolding bytes
 returns-in-Ok-None-clause-written c = let s = c.search.ensures in
     let e = answer_told c.in-Ok-None.field-0 _ _ _ c.in-Ok-None.field-0-is c.in-Ok-None.is s.answer in
-    rw (none_told _ _ _ _ e) (puts_then (c.put_start_value-in-Ok-None.ensures.written _ (start-value-told _ _ _ _ e s.tables)) c.put_none.ensures.written)
+    rw (none_told _ _ _ _ e) (puts_then (c.put_start_value-in-Ok-None.ensures.written _ (start-value-told _ _ _ _ e s.tables)) c.put_count-in-Ok-None.ensures.written)

@@ -4,4 +4,4 @@ use Rattle.reader.proofs.lists.Gathered.new.Goals as goal
 
 pub returns : goal.returns
 unfolding no_items
-returns c = rw c.unnamed_of.ensures
+returns c = rw c.unnamed.ensures
