@@ -23,6 +23,7 @@ fn misses(y: u8, x: u8) -> u8
 }
 
 // Whether the state has all the values that the cells name. It does not stop at a fault, so that it becomes one vector compare.
+// Stays: a loop of its own: `faultless` of task_record asks that its test can be called, and a public function asks nothing of its callers.
 pub(crate) fn met(cells: [u8; 16], state: [u8; 16]) -> bool
     ensures { result ≡ meets cells state }
 {

@@ -1,5 +1,5 @@
 // Sixteen cells tested at once against sixteen windows (specs/Window.antt).
-ghost use Rattle.std.specs.Prelude.{◌≡◌, ◌+◌, ◌-◌, ◌*◌, ◌<◌, ◌≤◌, length, if◌then◌else◌, ◌==◌, nat_lt, slice_index};
+ghost use Rattle.std.specs.Prelude.{◌≡◌, ℕ, Bool, true, ◌+◌, ◌-◌, ◌*◌, ◌<◌, ◌≤◌, length, if◌then◌else◌, ◌==◌, nat_lt, slice_index};
 ghost use Rattle.task_record.specs.Scan.{scan, all_below};
 ghost use Rattle.task_record.specs.Window.{fits, block_fits, row_fits, Sixteen};
 
@@ -10,6 +10,19 @@ pub(crate) fn misfit(x: u8, shift: u8, top: u8) -> u8
     ensures { (result == 0) ≡ fits x shift top }
 {
     x.wrapping_add(shift).saturating_sub(top)
+}
+
+// Whether each of sixteen tests answers 0. It does not stop at a fault, so that it becomes one vector compare.
+pub(crate) fn faultless<F: Fn(usize) -> u8>(fault: F) -> bool
+    requires callable { (v : ℕ) → v < 16 → F.pre fault v }
+    ensures passed { result ≡ true → (v : ℕ) → v < 16 → F.post fault v 0 }
+    ensures exact { (f : ℕ → Bool) → ((v b : ℕ) → v < 16 → F.post fault v b → (b == 0) ≡ f v) → result ≡ all_below f 16 }
+{
+    let mut bad = 0u8;
+    for v in 0..16usize {
+        bad |= fault(v);
+    }
+    bad == 0
 }
 
 // A window for each cell of a row.
@@ -26,11 +39,7 @@ impl Windows {
         requires { a + 16 ≤ length c.now }
         ensures { result ≡ all_below (block_fits c.now self.now.shift self.now.top a) 16 }
     {
-        let mut bad = 0u8;
-        for i in 0..16usize {
-            bad |= misfit(c[a + i], self.shift[i], self.top[i]);
-        }
-        bad == 0
+        faultless(|i| misfit(c[a + i], self.shift[i], self.top[i]))
     }
 
     // The same, with the offset of the first cell that does not fit.

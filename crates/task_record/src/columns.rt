@@ -1,6 +1,6 @@
 // Whether the parts of a record are inside their rules, without the offset of a fault. A column is the cells of one variable in several rows; it
-// answers a byte that is 0 only if all of them are right, so that sixteen columns are tried at once and their bytes gathered by `|`. What is
-// not found right here is looked through again by `record`, so the answer "no" promises nothing.
+// answers a byte that is 0 only if all of them are right, so that sixteen columns are tried at once (`faultless`). What is not
+// found right here is looked through again by `record`, so the answer "no" promises nothing.
 ghost use Rattle.std.specs.Prelude.{◌≡◌, ℕ, ◌+◌, ◌-◌, ◌*◌, ◌<◌, ◌≤◌, true, length, replicate, ◌==◌, bit_and, slice_index};
 ghost use Rattle.task_record.specs.Layout.{action_size, at_action, at_goal, at_pattern, at_sizes, at_start, record_size};
 ghost use Rattle.task_record.specs.Numbers.{size_of, variable_count, action_count, pattern_count};
@@ -9,7 +9,7 @@ ghost use Rattle.task_record.specs.Window.{fits, Sixteen};
 ghost use Rattle.task_record.specs.Record.{cell_ok};
 ghost use Rattle.task_record.specs.Columns.{ActionColumn, MemberColumn, FrontPassed, Ramp};
 
-use crate::blocks::misfit;
+use crate::blocks::{faultless, misfit};
 use crate::cells::{action_count, pattern_count, variable_count};
 use crate::layout::{AT_GOAL, AT_PATTERNS, AT_START, UNNAMED, at_action};
 use crate::measured::{LongRecord, Measured};
@@ -45,27 +45,21 @@ pub(crate) fn front_fits(record: &LongRecord, sizes: &[u8; 16]) -> bool
     let rec = record.cells;
     let from = ramp();
     let skipped = 16 - usize::from(variable_count(rec));
-    let mut bad = 0u8;
-    for v in 0..16usize {
-        bad |= front_fault(
+    faultless(|v| {
+        front_fault(
             from[skipped + v],
             sizes[v],
             rec[AT_GOAL + v],
             rec[AT_START + v],
-        );
-    }
-    bad == 0
+        )
+    })
 }
 
 pub(crate) fn state_fits(c: &[u8], sizes: &[u8; 16]) -> bool
     requires { length c.now ≡ 16 }
     ensures { result ≡ true → (v : ℕ) → v < 16 → fits (slice_index c.now v) (1 - slice_index sizes.now v) (slice_index sizes.now v - 1) ≡ true }
 {
-    let mut bad = 0u8;
-    for v in 0..16usize {
-        bad |= value_fault(c[v], sizes[v]);
-    }
-    bad == 0
+    faultless(|v| value_fault(c[v], sizes[v]))
 }
 
 // Stays: bounds of an offset and of an action's number as clauses, here and below: each is the bound of a single number that the function's own
@@ -90,11 +84,12 @@ fn eight_fit<const USED: usize>(record: &Measured) -> bool
     requires { USED ≤ 8 }
     ensures { result ≡ true → (v : ℕ) → v < 16 → MemberColumn record.now.rec.now (slice_index record.now.sizes v) (at_pattern 0 + v) USED }
 {
-    let mut bad = 0u8;
-    for v in 0..16usize {
-        bad |= member_fault(record.rec, record.sizes[v], AT_PATTERNS + v, USED);
-    }
-    bad == 0
+    faultless(
+        |v|
+            requires { (record_size ≤ length record.now.rec.now) × (v < 16) × (USED ≤ 8) }
+            ensures { result ≡ 0 → MemberColumn record.entry.now.rec.now (slice_index record.entry.now.sizes v) (at_pattern 0 + v) USED }
+        { member_fault(record.rec, record.sizes[v], AT_PATTERNS + v, USED) },
+    )
 }
 
 // Stays: a case for each number of patterns, since the loops of a column are unrolled only where their ends are known (`rows_fit` has the figure).
@@ -136,11 +131,12 @@ fn nine_fit<const USED: usize>(c: &[u8], sizes: &[u8; 16], a: usize) -> bool
     requires { (a + 144 ≤ length c.now) × (a ≤ 65000) × (USED ≤ 9) }
     ensures { result ≡ true → (v : ℕ) → v < 16 → ActionColumn c.now (slice_index sizes.now v) (a + v) USED }
 {
-    let mut bad = 0u8;
-    for v in 0..16usize {
-        bad |= action_fault(c, sizes[v], a + v, USED);
-    }
-    bad == 0
+    faultless(
+        |v|
+            requires { (a + v + 128 < length c.now) × (a + v ≤ 65536) × (v < 16) × (USED ≤ 9) }
+            ensures { result ≡ 0 → ActionColumn c.entry.now (slice_index sizes.entry.now v) (a + v) USED }
+        { action_fault(c, sizes[v], a + v, USED) },
+    )
 }
 
 // A case for each number of outcomes; a used block more is the precondition's.
