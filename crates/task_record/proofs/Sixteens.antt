@@ -1,7 +1,6 @@
--- Lists of cells that are filled from the first on. Assumes nothing.
-use Rattle.std.proofs.Common.{◌≡◌, ℕ, zero, suc, ◌+◌, ◌-◌, ◌<◌, ◌≤◌, cond, ltb, eqb, List, [], ◌∷◌, ◌++◌, length, get_or, set, replicate, drop, refl, ◌∙◌, arith, ltb-false, ltb-true, get_or-set_other, get_or-set_same, eqb-true}
+-- Lists of cells that a loop fills from the first on. Assumes nothing.
+use Rattle.std.proofs.Common.{◌≡◌, ℕ, zero, suc, ◌+◌, ◌<◌, eqb, List, [], ◌∷◌, length, get_or, set, replicate, refl, ◌∙◌, arith, get_or-set_other, get_or-set_same, eqb-true}
 use lib.ListN.{get_or-replicate, length-replicate}
-use Rattle.std.proofs.lemmas.List.{get_or_append_left, get_or-append_right, get_or-drop, length-append, length-drop}
 use borrow.Author.Tests.{eqb-false}
 use Rattle.task_record.specs.Window.{Sixteen}
 use Rattle.planning.proofs.Test.{by_test}
@@ -34,16 +33,3 @@ any_default (x ∷ l) (suc i) d e h = any_default l i d e (omega arith)
 -- Sixteen times the same.
 pub same_cells : (x : ℕ) → Sixteen (λ v. x) (replicate 16 x)
 same_cells x = record { whole = length-replicate {A = ℕ} 16 x; cell = λ v h. get_or-replicate 16 v x 0 h }
-
--- A number in the first m places, another in those behind them.
-pub first_filled : (n m used unused : ℕ) → m ≤ 16 → m ≤ n → ((v : ℕ) → v < 16 → v < n → v < m) → Sixteen (λ v. cond (ltb v n) used unused) (replicate m used ++ drop m (replicate 16 unused))
-first_filled n m used unused few low up =
-    let front : length (replicate {A = ℕ} m used) ≡ m = length-replicate {A = ℕ} m used in
-    record {
-      whole = length-append (replicate {A = ℕ} m used) (drop m (replicate 16 unused)) ∙ omega (arith, front, length-drop m (replicate {A = ℕ} 16 unused), length-replicate {A = ℕ} 16 unused);
-      cell = λ v h.
-          by_test (ltb v n)
-          (λ t. let l = up v h (ltb-true v n t) in rw t (get_or_append_left (replicate {A = ℕ} m used) (drop m (replicate 16 unused)) 0 v (omega (arith, l, front)) ∙ get_or-replicate m v used 0 l))
-          (λ t. let g = ltb-false v n t in
-          rw t (get_or-append_right (replicate m used) (drop m (replicate 16 unused)) m v 0 front (omega (arith, g)) ∙ get_or-drop m (replicate {A = ℕ} 16 unused) (v - m) 0 ∙ get_or-replicate 16 (m + (v - m)) unused 0 (omega (arith, g, h))));
-    }

@@ -68,12 +68,22 @@ impl Windows {
     }
 }
 
+fn used_at(v: usize, n: u8, used: u8, unused: u8) -> u8
+    ensures { result ≡ (if nat_lt v n then used else unused) }
+{
+    if v < usize::from(n) { used } else { unused }
+}
+
 // `used` in the places below n, `unused` in the others.
+// Stays: a loop: by `fill` of the first n (proved) the refusal of a state takes up to 1.2 of the instructions, and may not become slower; by
+// `array::from_fn` the closure captures three numbers, and `search` finds no proof that a call read these very numbers.
 pub(crate) fn below(n: u8, used: u8, unused: u8) -> [u8; 16]
     ensures { Sixteen (λ v. (if nat_lt v n then used else unused)) result }
 {
-    let mut r = [unused; 16];
-    r[..usize::from(n).min(16)].fill(used);
+    let mut r = [0; 16];
+    for (v, cell) in r.iter_mut().enumerate() {
+        *cell = used_at(v, n, used, unused);
+    }
     r
 }
 

@@ -1,12 +1,14 @@
--- `below`: the first cells are filled, the others stay. Assumes nothing.
-use Rattle.std.proofs.Common.{◌≡◌, ℕ, replicate, ap, ◌∙◌, arith, rules}
-use Rattle.std.proofs.lemmas.List.{length-take-le}
-use Rattle.task_record.proofs.Sixteens.{first_filled}
+-- `below`: the cells passed are right. Assumes nothing.
+use Rattle.std.proofs.Common.{cond, ltb, arith, length-set, rules}
+use Rattle.task_record.proofs.Sixteens.{filled_next}
 use Rattle.task_record.proofs.blocks.below.Goals as goal
 
+pub loop-v-init : goal.loop-v-init
+loop-v-init c = (search rules, λ k h. absurd (omega arith))
+
+pub loop-v-preserved : goal.loop-v-preserved
+loop-v-preserved c = let l = c.loop-v in let s = c.args in
+    (simp length-set l.invariant.0, filled_next (λ k. cond (ltb k s.n) s.used s.unused) l.cell-items l.v c.used_at.result (omega arith) c.used_at.ensures l.invariant.1)
+
 pub returns : goal.returns
-returns c =
-    let m = c.min.result in
-    let e : c.fill.new.self ≡ replicate m c.args.used =
-    c.fill.ensures.after (λ y h. search rules) ∙ ap (λ (k : ℕ). replicate k c.args.used) (length-take-le m (replicate {A = ℕ} 16 c.args.unused) (omega arith)) in
-    rw e (first_filled c.args.n m c.args.used c.args.unused (omega arith) (omega arith) (λ v h l. omega arith))
+returns c = let l = c.loop-v in record { whole = l.invariant.0; cell = λ k h. l.invariant.1 k (omega arith) }
