@@ -10,11 +10,11 @@ ghost use Rattle.task_record.specs.State.{judge_state, state_check};
 ghost use Rattle.task_record.specs.Answers.{record_numbers, state_numbers, record_by_lines, state_by_lines};
 
 use crate::blocks::{Windows, below, copied, highest};
-use crate::cells::{action_count, budget, cell, limit, pattern_count, variable_count};
+use crate::cells::{action_count, budget, limit, outcome_count, pattern_count, variable_count};
 use crate::columns::{actions_fit, front_fits, patterns_fit, state_fits};
 use crate::layout::{
-    ACTION_SIZE, AT_ACTION_COUNT, AT_ACTIONS, AT_BUDGET, AT_GOAL, AT_LIMIT, AT_PATTERN_COUNT,
-    AT_PATTERNS, AT_SIZES, AT_START, AT_VARIABLES, RECORD_SIZE,
+    AT_ACTION_COUNT, AT_BUDGET, AT_GOAL, AT_LIMIT, AT_PATTERN_COUNT, AT_PATTERNS, AT_SIZES,
+    AT_START, AT_VARIABLES, RECORD_SIZE, at_action,
 };
 use crate::measured::{LongRecord, Measured};
 use crate::refusal::Refusal;
@@ -102,24 +102,23 @@ fn scan_patterns(record: &LongRecord) -> Result<(), usize>
 
 // The blocks of action m that are used, the precondition's among them, if its number of outcomes is right.
 // Stays: `m < 64` as a clause, here and below: a bound that the offset needs; a type for it would be made of the number at every call.
-// Stays: the offset spelled out: with a byte for m and `at_action` the refusal of a record takes 1.02 of the instructions, and may not become slower.
-fn used_blocks(rec: &[u8], m: usize) -> Option<usize>
+fn used_blocks(rec: &[u8], m: u8) -> Option<usize>
     requires { m < 64 }
     ensures { result ≡ used_blocks rec.now m }
 {
-    let is_used = m < usize::from(action_count(rec));
-    match cell(rec, AT_ACTIONS + ACTION_SIZE * m) {
+    let is_used = m < action_count(rec);
+    match outcome_count(rec, m) {
         0 if !is_used => Some(0),
         count @ 1..=8 if is_used => Some(1 + usize::from(count)),
         _ => None,
     }
 }
 
-fn scan_action(record: &Measured, m: usize) -> Result<(), usize>
+fn scan_action(record: &Measured, m: u8) -> Result<(), usize>
     requires { m < 64 }
     ensures { result ≡ scan (cell_ok record.now.rec.now) (at_action m) action_size }
 {
-    let a = AT_ACTIONS + ACTION_SIZE * m;
+    let a = at_action(m);
     match used_blocks(record.rec, m) {
         None => Err(a),
         Some(used) => {
@@ -133,7 +132,7 @@ fn scan_action(record: &Measured, m: usize) -> Result<(), usize>
 fn scan_actions(record: &Measured) -> Result<(), usize>
     ensures { result ≡ scan (cell_ok record.now.rec.now) (at_action 0) (record_size - at_action 0) }
 {
-    for m in 0..64usize {
+    for m in 0..64u8 {
         scan_action(record, m)?;
     }
     Ok(())

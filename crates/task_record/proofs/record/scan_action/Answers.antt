@@ -18,8 +18,8 @@ pub overflow_mul-used : goal.overflow_mul-used
 overflow_mul-used c =
     let f = few_used c.args.record.now.rec.now c.args.record.now.passed.byte c.args.m c.in-Some.used (sym c.used_blocks.ensures ∙ c.in-Some.is) in search rules
 
-pub overflow_add-a-in-Some-3 : goal.overflow_add-a-in-Some-3
-overflow_add-a-in-Some-3 c =
+pub overflow_add-a-in-Some-2 : goal.overflow_add-a-in-Some-2
+overflow_add-a-in-Some-2 c =
     let f = few_used c.args.record.now.rec.now c.args.record.now.passed.byte c.args.m c.in-Some.used (sym c.used_blocks.ensures ∙ c.in-Some.is) in search rules
 
 pub overflow_sub-used : goal.overflow_sub-used
@@ -40,7 +40,7 @@ returns-in_err-scan-in-Some c =
     let n = c.named.ensures in
     let first = used_scan r c.args.record.now.passed.byte m u is c.named.result.shift c.named.result.top p.right n.0 (rw n.1 p.read) in
     q.1 ∙ ap Err q.2 ∙ sym (action_scans_on r c.args.record.now.passed.byte m u is
-    ∙ scan_ends (cell_ok r) (at_action m + 1) (16 * u) (16 * (9 - u)) 144 _ (omega arith) (sym first ∙ sym c.scan.ensures ∙ c.in_err-scan-in-Some.was))
+    ∙ scan_ends (cell_ok r) (at_action m + 1) (16 * u) (16 * (9 - u)) 144 _ (omega arith) (sym first ∙ (rw c.at_action-a.ensures at (sym c.scan.ensures ∙ c.in_err-scan-in-Some.was))))
 
 pub returns-in_ok-scan-in-Some : goal.returns-in_ok-scan-in-Some
 returns-in_ok-scan-in-Some c =
@@ -49,10 +49,10 @@ returns-in_ok-scan-in-Some c =
     let f = few_used r c.args.record.now.passed.byte m u is in
     let n = c.named.ensures in let o = c.named-in-Some.ensures in
     let first = used_scan r c.args.record.now.passed.byte m u is c.named.result.shift c.named.result.top p.right n.0 (rw n.1 p.read) in
-    c.scan-in-Some.ensures
+    (rw c.at_action-a.ensures at c.scan-in-Some.ensures)
     ∙ unused_scan r c.args.record.now.passed.byte m u is c.named-in-Some.result.shift c.named-in-Some.result.top _ refl o.0 (rw o.1 (same_cells 0))
     ∙ sym (action_scans_on r c.args.record.now.passed.byte m u is
-    ∙ scan_on (cell_ok r) (at_action m + 1) (16 * u) (16 * (9 - u)) 144 (omega arith) (sym first ∙ sym c.scan.ensures ∙ c.in_ok-scan-in-Some.was))
+    ∙ scan_on (cell_ok r) (at_action m + 1) (16 * u) (16 * (9 - u)) 144 (omega arith) (sym first ∙ (rw c.at_action-a.ensures at (sym c.scan.ensures ∙ c.in_ok-scan-in-Some.was))))
 
 pub returns-in-None : goal.returns-in-None
-returns-in-None c = sym (action_stops c.args.record.now.rec.now c.args.record.now.passed.byte c.args.m (sym c.used_blocks.ensures ∙ c.in-None.is))
+returns-in-None c = ap Err c.at_action-a.ensures ∙ sym (action_stops c.args.record.now.rec.now c.args.record.now.passed.byte c.args.m (sym c.used_blocks.ensures ∙ c.in-None.is))
