@@ -7,8 +7,9 @@ use Rattle.tables.specs.Packed.{outcome_count, action_weight}
 use Rattle.tables.specs.Steps.{Space, weigh, worst, raised, outcome_entry, offer, offer_at, permitted_at, none, more}
 use Rattle.tables.specs.Waiting.{index_after, Waits, Heard, low, later}
 use Rattle.tables.specs.Queue.{Queue, Put}
-use Rattle.tables.specs.Edges.{edge_action, edge_weight, edge_lanes, edge_free, edge_first, edge_end, lane_weight, lane_sum, lane_after, way_back, Before, EdgesOf}
+use Rattle.tables.specs.Edges.{edge_back, edge_action, edge_weight, edge_lanes, edge_free, edge_first, edge_end, lane_weight, lane_sum, lane_after, way_back, Before, EdgesOf}
 use Rattle.tables.specs.Visits.{way_forward, Offered, Asked}
+use Rattle.tables.specs.declared.proved_worklist.edge.Edge.{Edge}
 use Rattle.tables.proofs.Settled.{inside}
 use Rattle.tables.proofs.Sweeping.{weigh-zero, total-set, false_true}
 use Rattle.tables.proofs.Law.{worst_at, outcome_bound, heard_lowered, heard_here}
@@ -31,9 +32,9 @@ unfolding lane_sum
 lane_none lane s e = rw e (omega arith)
 
 -- The way back, gone forward, leads where the edge does.
-pub way_on : (x : Space) (ts es : List ℕ) (f i j : ℕ) → i ≤ 4096 → Before x ts es f i j → way_forward es x.weights f i (get_or x.states i 0) ≡ j
+pub way_on : (x : Space) (es : List Edge) (f i j : ℕ) → i ≤ 4096 → edge_back es f < 65536 → Before x es f i j → way_forward es x.weights f i (get_or x.states i 0) ≡ j
 unfolding way_forward way_back
-way_on x ts es f i j l b = omega (arith, l, b.near, b.sum)
+way_on x es f i j l c b = omega (arith, l, c, b.near, b.sum)
 
 finite_inside : (t : List ℕ) (j : ℕ) → get_or t j 65535 < 65535 → j < length t
 finite_inside t j l = either (dec_lt j (length t))
@@ -63,17 +64,17 @@ unfolding raised
 raised_infinite w v z = rw (le-ltb (w + v) 65535 (omega arith))
 
 -- Where edge g leads from state i.
-abbrev pub onward : Space → List ℕ → ℕ → ℕ → ℕ
+abbrev pub onward : Space → List Edge → ℕ → ℕ → ℕ
 onward x es i g = way_forward es x.weights g i (get_or x.states i 0)
 
 -- The action of edge e, edge by edge: f is the next one, and `most` the largest entry so far, none infinite.
-pub record Offering (x : Space) (es t : List ℕ) (e i f most : ℕ) : Type 0 where
+pub record Offering (x : Space) (es : List Edge) (t : List ℕ) (e i f most : ℕ) : Type 0 where
   pub begun : edge_first es e ≤ f
   pub finite : most < 65535
   pub over : (g : ℕ) → edge_first es e ≤ g → g < f → get_or t (onward x es i g) 65535 ≤ most
   pub met : most ≤ worst (outcome_entry x.task x.mask x.weights t (edge_action es e) (get_or x.states i 0)) 0 (outcome_count x.task (edge_action es e))
 
-pub offering_start : (x : Space) (es t : List ℕ) (e i : ℕ) → Offering x es t e i (edge_first es e) 0
+pub offering_start : (x : Space) (es : List Edge) (t : List ℕ) (e i : ℕ) → Offering x es t e i (edge_first es e) 0
 offering_start x es t e i = record { begun = omega arith; finite = omega arith; over = λ g l b. absurd (omega arith); met = omega arith }
 
 -- An outcome's entry is at most the largest.
@@ -84,11 +85,11 @@ entry_met x t m i n j l e = let f = outcome_entry x.task x.mask x.weights t m (g
     let h : f n ≤ worst f 0 (outcome_count x.task m) = rw (zero-add n) at (worst_at f 0 (outcome_count x.task m) n l) in
     let q : f n ≡ get_or t j 65535 = ap (λ y. get_or t y 65535) e in omega (arith, h, q)
 
-module _ {x : Space} {sizes ts es t : List ℕ} {k e i f most : ℕ} (o : EdgesOf x sizes (length t) ts es k) (l : e < k) (b : i < length t) (few : length t ≤ 4096)
+module _ {x : Space} {sizes : List ℕ} {es : List Edge} {t : List ℕ} {k e i f most : ℕ} (o : EdgesOf x sizes (length t) es k) (l : e < k) (b : i < length t) (few : length t ≤ 4096)
     (p : permitted_at x (edge_action es e) i ≡ true) (w : Offering x es t e i f most) where
   -- An outcome that edge f stands for.
   here : f < edge_end es e → (n : ℕ) × (n < outcome_count x.task (edge_action es e)) × (index_after x (edge_action es e) i n ≡ onward x es i f)
-  here d = let a = o.each e f l (record { after = w.begun; before = d }) in (a.0, a.1, sym (way_on x ts es f i _ (omega (arith, b, few)) (a.2.back i b p)))
+  here d = let a = o.each e f l (record { after = w.begun; before = d }) in (a.0, a.1, sym (way_on x es f i _ (omega (arith, b, few)) (o.back f (omega (arith, o.span e l, d))) (a.2.back i b p)))
 
   module _ (j v : ℕ) (at : j ≡ onward x es i f) (is : v ≡ get_or t j 65535) (d : f < edge_end es e) where
     pub offering_inside : v ≤ 65535 → (v ≡ 65535 → ⊥) → j < length t
@@ -118,7 +119,7 @@ module _ {x : Space} {sizes ts es t : List ℕ} {k e i f most : ℕ} (o : EdgesO
   all_over : edge_end es e ≤ f → worst (outcome_entry x.task x.mask x.weights t (edge_action es e) (get_or x.states i 0)) 0 (outcome_count x.task (edge_action es e)) ≤ most
   unfolding outcome_entry index_after
   all_over d = worst-least _ most 0 _ (λ n q. let a = o.all e n l q in let z = zero-add n in
-      let s = way_on x ts es a.0 i (index_after x (edge_action es e) i n) (omega (arith, b, few)) (a.2.back i b p) in
+      let s = way_on x es a.0 i (index_after x (edge_action es e) i n) (omega (arith, b, few)) (o.back a.0 (omega (arith, o.span e l, a.1.before))) (a.2.back i b p) in
       let h = rw s at (w.over a.0 a.1.after (omega (arith, a.1.before, d))) in rw z h)
 
   pub offered_end : {marks : List Bool} {r : ℕ} → edge_end es e ≤ f → get_or t i 0 ≤ 65535 → r ≡ raised (edge_weight es e) most → Offered x t marks (edge_action es e) i r
@@ -128,16 +129,16 @@ module _ {x : Space} {sizes ts es t : List ℕ} {k e i f most : ℕ} (o : EdgesO
       record { said = λ h. y; nothing = λ h. low (omega (arith, y, h, c)) }
 
 -- An edge without a free digit leads from the state before j to j alone.
-only_on : (x : Space) (es : List ℕ) (e i j : ℕ) → j < 65536 → lane_weight (edge_lanes es e) ≡ 0 → lane_weight (lane_after (edge_lanes es e)) ≡ 0 → edge_free es e ≡ 0 → i ≡ way_back es e j → onward x es i e ≡ j
+only_on : (x : Space) (es : List Edge) (e i j : ℕ) → edge_back es e < 65536 → j < 65536 → lane_weight (edge_lanes es e) ≡ 0 → lane_weight (lane_after (edge_lanes es e)) ≡ 0 → edge_free es e ≡ 0 → i ≡ way_back es e j → onward x es i e ≡ j
 unfolding way_forward way_back
-only_on x es e i j d m n f a = let s = get_or x.states i 0 in
-    rw (lane_none (edge_lanes es e) s m, lane_none (lane_after (edge_lanes es e)) s n, weigh_apart x.weights s (edge_free es e) f) (omega (arith, a, d))
+only_on x es e i j c d m n f a = let s = get_or x.states i 0 in
+    rw (lane_none (edge_lanes es e) s m, lane_none (lane_after (edge_lanes es e)) s n, weigh_apart x.weights s (edge_free es e) f) (omega (arith, a, c, d))
 
 -- Where it is the only edge of its action, that says its weight and the entry of j.
-pub offered_only : {x : Space} {sizes ts es t : List ℕ} {marks : List Bool} {k e i j r : ℕ} → EdgesOf x sizes (length t) ts es k → e < k → i < length t → length t ≤ 4096 → permitted_at x (edge_action es e) i ≡ true →
+pub offered_only : {x : Space} {sizes : List ℕ} {es : List Edge} {t : List ℕ} {marks : List Bool} {k e i j r : ℕ} → EdgesOf x sizes (length t) es k → e < k → i < length t → length t ≤ 4096 → permitted_at x (edge_action es e) i ≡ true →
     j < length t → lane_weight (edge_lanes es e) ≡ 0 → lane_weight (lane_after (edge_lanes es e)) ≡ 0 → edge_free es e ≡ 0 → i ≡ way_back es e j → edge_end es e ≡ edge_first es e + 1 →
     get_or t i 0 ≤ 65535 → get_or t j 0 ≤ 65535 → r ≡ raised (edge_weight es e) (get_or t j 0) → Offered x t marks (edge_action es e) i r
-offered_only {x} {sizes} {ts} {es} {t} {marks} {k} {e} {i} {j} {r} o l b few p d m n f a single c u q = either (ℕ_discrete (get_or t j 0) 65535)
+offered_only {x} {sizes} {es} {t} {marks} {k} {e} {i} {j} {r} o l b few p d m n f a single c u q = either (ℕ_discrete (get_or t j 0) 65535)
   where
     is : get_or t j 0 ≡ get_or t j 65535
     is = inside t j 0 65535 d
@@ -146,7 +147,7 @@ offered_only {x} {sizes} {ts} {es} {t} {marks} {k} {e} {i} {j} {r} o l b few p d
     near = omega (arith, single)
 
     first : j ≡ onward x es i (edge_first es e)
-    first = let w = o.own e l in let z : edge_first es e ≡ e = omega (arith, w.after, w.before, single) in rw z (sym (only_on x es e i j (omega (arith, d, few)) m n f a))
+    first = let w = o.own e l in let z : edge_first es e ≡ e = omega (arith, w.after, w.before, single) in rw z (sym (only_on x es e i j (o.back e l) (omega (arith, d, few)) m n f a))
 
     start : Offering x es t e i (edge_first es e) 0
     start = offering_start x es t e i

@@ -11,6 +11,7 @@ use Rattle.planning.proofs.Test.{by_test}
 use Rattle.tables.specs.Sets.{set_from, lowest_need, need_at, SlotsOf}
 use Rattle.tables.specs.Edges.{edge_mask, edge_value, digit, PlainMask}
 use Rattle.tables.specs.Incoming.{Row, Tests, Parted, Incoming, edge_need, digit_meet, digits_meet, digit_suits, part_suits, PartFilled, EdgeRow}
+use Rattle.tables.specs.declared.proved_worklist.edge.Edge.{Edge}
 use Rattle.tables.proofs.SetWords.{set_same, set_meet, set_join}
 use Rattle.tables.proofs.Bitwise.{further, deeper, and_mod, and_div, and_all}
 
@@ -51,14 +52,14 @@ module _ (mask value part s w : ℕ) (plain : PlainMask mask) (inside : PlainMas
   part_suits_lem v zero = refl
   part_suits_lem v (suc n) = rw (digit_suits_lem v, part_suits_lem (v + 1) n)
 
-edge_suits : (ts : List ℕ) (first q part s w : ℕ) → PlainMask (edge_mask ts (first + q)) → PlainMask part → bit_and w (edge_mask ts (first + q)) ≡ edge_value ts (first + q) → bit_and s part ≡ bit_and w part →
-    part_suits (edge_need ts first q) part s 0 16 ≡ true
+edge_suits : (es : List Edge) (first q part s w : ℕ) → PlainMask (edge_mask es (first + q)) → PlainMask part → bit_and w (edge_mask es (first + q)) ≡ edge_value es (first + q) → bit_and s part ≡ bit_and w part →
+    part_suits (edge_need es first q) part s 0 16 ≡ true
 unfolding edge_need
-edge_suits ts first q part s w a b p e = part_suits_lem (edge_mask ts (first + q)) (edge_value ts (first + q)) part s w a b p e 0 16
+edge_suits es first q part s w a b p e = part_suits_lem (edge_mask es (first + q)) (edge_value es (first + q)) part s w a b p e 0 16
 
-pub edge_needs : (ts : List ℕ) (first q v : ℕ) → edge_need ts first q v ≡ need_at (edge_mask ts (first + q)) (edge_value ts (first + q)) v
+pub edge_needs : (es : List Edge) (first q v : ℕ) → edge_need es first q v ≡ need_at (edge_mask es (first + q)) (edge_value es (first + q)) v
 unfolding edge_need
-edge_needs ts first q v = refl
+edge_needs es first q v = refl
 
 -- The slots met are the set of the edges that the word suits.
 module _ {needs : ℕ → ℕ → ℕ} {count : ℕ} {slots : List ℕ} (s : SlotsOf needs count 16 slots) (part word : ℕ) where
@@ -138,24 +139,24 @@ pub part_to_end : {states slots sets : List ℕ} {all part step h : ℕ} → len
 part_to_end l v = record { here = λ j b. v.here j (omega arith) }
 
 -- Two parts make a row.
-pub row_made : {states ts slots lows highs : List ℕ} {all low high lower upper first count : ℕ} → SlotsOf (edge_need ts first) count 16 slots → all ≡ set_from (λ q. true) 0 count → length lows ≡ lower → length highs ≡ upper →
-    PartFilled states slots all low 1 lows → PartFilled states slots all high lower highs → EdgeRow states ts (lows ++ highs) low high lower upper first count
-row_made {states} {ts} {slots} {lows} {highs} {all} {low} {high} {lower} {upper} {first} {count} s e m n f g = record {
+pub row_made : {states : List ℕ} {es : List Edge} {slots lows highs : List ℕ} {all low high lower upper first count : ℕ} → SlotsOf (edge_need es first) count 16 slots → all ≡ set_from (λ q. true) 0 count → length lows ≡ lower → length highs ≡ upper →
+    PartFilled states slots all low 1 lows → PartFilled states slots all high lower highs → EdgeRow states es (lows ++ highs) low high lower upper first count
+row_made {states} {es} {slots} {lows} {highs} {all} {low} {high} {lower} {upper} {first} {count} s e m n f g = record {
   lows = λ l b. let z : l * 1 ≡ l = omega arith in get_or_append_left lows highs 0 l (omega (arith, m)) ∙ f.here l (omega (arith, m)) ∙ rw z (met s low (get_or states l 0) all e);
   highs = λ h b. rw m at (get_or-append-add lows highs h 0) ∙ g.here h (omega (arith, n)) ∙ met s high (get_or states (h * lower) 0) all e;
 }
 
 -- The rows below c.
-pub record RowsTo (states ts old new : List ℕ) (k low high lower upper c : ℕ) : Type 0 where
+pub record RowsTo (states : List ℕ) (es : List Edge) (old new : List ℕ) (k low high lower upper c : ℕ) : Type 0 where
   pub within : c ≤ 8
   pub long : length new ≡ length old
-  pub rows : (d : ℕ) → d < c → 64 * d < k → EdgeRow states ts (drop ((lower + upper) * d) new) low high lower upper (64 * d) (min 64 (k - 64 * d))
+  pub rows : (d : ℕ) → d < c → 64 * d < k → EdgeRow states es (drop ((lower + upper) * d) new) low high lower upper (64 * d) (min 64 (k - 64 * d))
 
-pub rows_to_start : {states ts old : List ℕ} {k low high lower upper : ℕ} → RowsTo states ts old old k low high lower upper 0
+pub rows_to_start : {states : List ℕ} {es : List Edge} {old : List ℕ} {k low high lower upper : ℕ} → RowsTo states es old old k low high lower upper 0
 rows_to_start = record { within = omega arith; long = refl; rows = λ d l. absurd (omega arith) }
 
-row_same : {states ts row new : List ℕ} {low high lower upper first count : ℕ} → EdgeRow states ts row low high lower upper first count → ((i : ℕ) → i < lower + upper → get_or new i 0 ≡ get_or row i 0) →
-    EdgeRow states ts new low high lower upper first count
+row_same : {states : List ℕ} {es : List Edge} {row new : List ℕ} {low high lower upper first count : ℕ} → EdgeRow states es row low high lower upper first count → ((i : ℕ) → i < lower + upper → get_or new i 0 ≡ get_or row i 0) →
+    EdgeRow states es new low high lower upper first count
 row_same {lower = lower} r g = record { lows = λ l b. g l (omega arith) ∙ r.lows l b; highs = λ h b. g (lower + h) (omega arith) ∙ r.highs h b }
 
 -- A row that was lent comes back with other words.
@@ -175,10 +176,10 @@ module _ (old row : List ℕ) (base width : ℕ) (long : length row ≡ width) (
   row_within : (i : ℕ) → i < width → get_or (row_put old row base width) (base + i) 0 ≡ get_or row i 0
   row_within i b = rw front at (get_or-append-add (take base old) (row ++ drop width (drop base old)) i 0) ∙ get_or_append_left row (drop width (drop base old)) 0 i (omega (arith, long))
 
-pub rows_to_next : {states ts old u row : List ℕ} {k low high lower upper c count : ℕ} → c < 8 → count ≡ min 64 (k - 64 * c) → RowsTo states ts old u k low high lower upper c →
-    EdgeRow states ts row low high lower upper (64 * c) count → length row ≡ lower + upper → (lower + upper) * c + (lower + upper) ≤ length u →
-    RowsTo states ts old (row_put u row ((lower + upper) * c) (lower + upper)) k low high lower upper (c + 1)
-rows_to_next {states} {ts} {old} {u} {row} {k} {low} {high} {lower} {upper} {c} {count} few e v r long room = record {
+pub rows_to_next : {states : List ℕ} {es : List Edge} {old u row : List ℕ} {k low high lower upper c count : ℕ} → c < 8 → count ≡ min 64 (k - 64 * c) → RowsTo states es old u k low high lower upper c →
+    EdgeRow states es row low high lower upper (64 * c) count → length row ≡ lower + upper → (lower + upper) * c + (lower + upper) ≤ length u →
+    RowsTo states es old (row_put u row ((lower + upper) * c) (lower + upper)) k low high lower upper (c + 1)
+rows_to_next {states} {es} {old} {u} {row} {k} {low} {high} {lower} {upper} {c} {count} few e v r long room = record {
   within = omega arith;
   long = row_long u row base width long room ∙ v.long;
   rows = λ d o y. either d o y (dec_lt d c);
@@ -190,7 +191,7 @@ rows_to_next {states} {ts} {old} {u} {row} {k} {low} {high} {lower} {upper} {c} 
     base : ℕ
     base = width * c
 
-    either : (d : ℕ) → d < c + 1 → 64 * d < k → Dec (d < c) → EdgeRow states ts (drop (width * d) (row_put u row base width)) low high lower upper (64 * d) (min 64 (k - 64 * d))
+    either : (d : ℕ) → d < c + 1 → 64 * d < k → Dec (d < c) → EdgeRow states es (drop (width * d) (row_put u row base width)) low high lower upper (64 * d) (min 64 (k - 64 * d))
     either d o y (yes x) = row_same (v.rows d x y) (λ i b. get_or-drop (width * d) (row_put u row base width) i 0 ∙ row_before u row base width long room (width * d + i) (let f : d + 1 ≤ c = omega arith in let g = mul-le-mul_left width f in omega (arith, g)) ∙ sym (get_or-drop (width * d) u i 0))
     either d o y (no x) = let f : d ≡ c = omega arith in rw (f, ← e) (row_same r (λ i b. get_or-drop base (row_put u row base width) i 0 ∙ row_within u row base width long room i b))
 
@@ -198,9 +199,9 @@ rows_to_next {states} {ts} {old} {u} {row} {k} {low} {high} {lower} {upper} {c} 
 both_true : (a b : Bool) → (a && b) ≡ false → a ≡ true → b ≡ true → ⊥
 both_true a b e f g = let z : true ≡ false = sym (rw (f, g)) ∙ e in Rattle.tables.proofs.Sweeping.false_true (sym z)
 
-row_of : {states ts : List ℕ} (sets : List ℕ) {n k low high lower upper c : ℕ} (base : ℕ) → Tests ts k → Parted states n lower low high → n ≡ upper * lower → EdgeRow states ts (drop base sets) low high lower upper (64 * c) (min 64 (k - 64 * c)) →
-    (j : ℕ) → j < n → 64 * c < k → Row ts (get_or states j 0) k c (bit_and (get_or sets (base + j % lower) 0) (get_or sets (base + lower + j / lower) 0))
-row_of {states} {ts} sets {n} {k} {low} {high} {lower} {upper} {c} base t p e r j l b = record {
+row_of : {states : List ℕ} {es : List Edge} (sets : List ℕ) {n k low high lower upper c : ℕ} (base : ℕ) → Tests es k → Parted states n lower low high → n ≡ upper * lower → EdgeRow states es (drop base sets) low high lower upper (64 * c) (min 64 (k - 64 * c)) →
+    (j : ℕ) → j < n → 64 * c < k → Row es (get_or states j 0) k c (bit_and (get_or sets (base + j % lower) 0) (get_or sets (base + lower + j / lower) 0))
+row_of {states} {es} sets {n} {k} {low} {high} {lower} {upper} {c} base t p e r j l b = record {
   chosen = λ q. lows q && highs q;
   count = min 64 (k - 64 * c);
   few = omega arith;
@@ -208,18 +209,18 @@ row_of {states} {ts} sets {n} {k} {low} {high} {lower} {upper} {c} base t p e r 
   whole = λ q d g. omega arith;
   is = rw (sym (get_or-drop base sets (j % lower) 0), add_assoc base lower (j / lower), sym (get_or-drop base sets (lower + j / lower) 0), r.lows (j % lower) (mod-lt j p.lower_some), r.highs (j / lower) ((div-lt_iff_lt-mul p.lower_some).1 (omega (arith, l, e)))) (set_meet lows highs 0 (min 64 (k - 64 * c)));
   missed = λ q d f g. let o : 64 * c + q < k = omega arith in both_true (lows q) (highs q) f
-      (edge_suits ts (64 * c) q low (get_or states (j % lower) 0) (get_or states j 0) (t.plain (64 * c + q) o) p.low_plain g (p.below j l))
-      (edge_suits ts (64 * c) q high (get_or states (j / lower * lower) 0) (get_or states j 0) (t.plain (64 * c + q) o) p.high_plain g (p.above j l));
+      (edge_suits es (64 * c) q low (get_or states (j % lower) 0) (get_or states j 0) (t.plain (64 * c + q) o) p.low_plain g (p.below j l))
+      (edge_suits es (64 * c) q high (get_or states (j / lower * lower) 0) (get_or states j 0) (t.plain (64 * c + q) o) p.high_plain g (p.above j l));
 }
   where
     lows : ℕ → Bool
-    lows q = part_suits (edge_need ts (64 * c) q) low (get_or states (j % lower) 0) 0 16
+    lows q = part_suits (edge_need es (64 * c) q) low (get_or states (j % lower) 0) 0 16
 
     highs : ℕ → Bool
-    highs q = part_suits (edge_need ts (64 * c) q) high (get_or states (j / lower * lower) 0) 0 16
+    highs q = part_suits (edge_need es (64 * c) q) high (get_or states (j / lower * lower) 0) 0 16
 
-pub incoming_of : {states ts old sets : List ℕ} {n k low high lower upper c : ℕ} → Tests ts k → Parted states n lower low high → n ≡ upper * lower →
-    (1 ≤ length old → (d : ℕ) → 64 * d < k → (lower + upper) * d + lower + upper ≤ length old) → RowsTo states ts old sets k low high lower upper c → k ≤ 64 * c → Incoming states ts n k lower upper sets
+pub incoming_of : {states : List ℕ} {es : List Edge} {old sets : List ℕ} {n k low high lower upper c : ℕ} → Tests es k → Parted states n lower low high → n ≡ upper * lower →
+    (1 ≤ length old → (d : ℕ) → 64 * d < k → (lower + upper) * d + lower + upper ≤ length old) → RowsTo states es old sets k low high lower upper c → k ≤ 64 * c → Incoming states es n k lower upper sets
 incoming_of {sets = sets} {lower = lower} {upper = upper} t p e room v l = record {
   lower_some = p.lower_some;
   upper_whole = omega (arith, e);
@@ -228,20 +229,20 @@ incoming_of {sets = sets} {lower = lower} {upper = upper} t p e room v l = recor
 }
 
 -- No sets, or no states.
-pub incoming_none : {states ts sets : List ℕ} {n k low high lower upper : ℕ} → Parted states n lower low high → n ≡ upper * lower →
-    (1 ≤ length sets → (d : ℕ) → 64 * d < k → (lower + upper) * d + lower + upper ≤ length sets) → (1 ≤ length sets → n ≡ 0) → Incoming states ts n k lower upper sets
+pub incoming_none : {states : List ℕ} {es : List Edge} {sets : List ℕ} {n k low high lower upper : ℕ} → Parted states n lower low high → n ≡ upper * lower →
+    (1 ≤ length sets → (d : ℕ) → 64 * d < k → (lower + upper) * d + lower + upper ≤ length sets) → (1 ≤ length sets → n ≡ 0) → Incoming states es n k lower upper sets
 incoming_none p e room none = record { lower_some = p.lower_some; upper_whole = omega (arith, e); room = room; row = λ a j d b y. absurd (let z = none a in omega arith) }
 
 -- Edges that were tested one by one.
-pub row_tested : (ts : List ℕ) (word k c count r : ℕ) → count ≡ min 64 (k - 64 * c) → 64 * c < k → r ≡ set_from (λ q. eqb (bit_and word (edge_mask ts (64 * c + q))) (edge_value ts (64 * c + q))) 0 count → Row ts word k c r
-row_tested ts word k c count r e l h = record {
-  chosen = λ q. eqb (bit_and word (edge_mask ts (64 * c + q))) (edge_value ts (64 * c + q));
+pub row_tested : (es : List Edge) (word k c count r : ℕ) → count ≡ min 64 (k - 64 * c) → 64 * c < k → r ≡ set_from (λ q. eqb (bit_and word (edge_mask es (64 * c + q))) (edge_value es (64 * c + q))) 0 count → Row es word k c r
+row_tested es word k c count r e l h = record {
+  chosen = λ q. eqb (bit_and word (edge_mask es (64 * c + q))) (edge_value es (64 * c + q));
   count = count;
   few = omega arith;
   inside = omega arith;
   whole = λ q d g. omega arith;
   is = h;
-  missed = λ q d f g. Rattle.tables.proofs.Sweeping.false_true (sym f ∙ eq-eqb (bit_and word (edge_mask ts (64 * c + q))) (edge_value ts (64 * c + q)) g);
+  missed = λ q d f g. Rattle.tables.proofs.Sweeping.false_true (sym f ∙ eq-eqb (bit_and word (edge_mask es (64 * c + q))) (edge_value es (64 * c + q)) g);
 }
 
 -- The upper part of an index, and where its sets are.
@@ -252,12 +253,12 @@ pub upper_fits : (j lower inverse : ℕ) → j < 65536 → lower ≤ 64 → inve
 upper_fits j lower inverse a b d = let e : j ≤ 65536 = omega arith in let f : inverse ≤ 4294967296 = omega arith in let g = mul-le-mul e f in
     let h : j * inverse / 1048576 ≤ 268435456 = omega (arith, g) in let i = mul-le-mul h b in (omega (arith, g), omega (arith, i))
 
-module _ {states ts sets : List ℕ} {n k lower upper : ℕ} (t : Tests ts k) (v : Incoming states ts n k lower upper sets) (j h c : ℕ) (some : length sets ≡ 0 → ⊥) (l : j < n) (e : h ≡ j / lower) (b : 64 * c < k) where
+module _ {states : List ℕ} {es : List Edge} {sets : List ℕ} {n k lower upper : ℕ} (t : Tests es k) (v : Incoming states es n k lower upper sets) (j h c : ℕ) (some : length sets ≡ 0 → ⊥) (l : j < n) (e : h ≡ j / lower) (b : 64 * c < k) where
   rest_there : j - h * lower ≡ j % lower
   rest_there = rw e (let d = div-add-mod j lower in omega (arith, d))
 
   pub row_places : (h * lower ≤ j) × (j - h * lower < lower) × (h < upper) × (c ≤ 8) × ((lower + upper) * c + lower + upper ≤ length sets)
   row_places = (rw e (div-mul-le_self j lower), rw rest_there (mod-lt j v.lower_some), rw e ((div-lt_iff_lt-mul v.lower_some).1 (omega (arith, l, v.upper_whole))), omega (arith, t.few), v.room (omega arith) c b)
 
-  pub row_there : Row ts (get_or states j 0) k c (bit_and (get_or sets ((lower + upper) * c + (j - h * lower)) 0) (get_or sets ((lower + upper) * c + lower + h) 0))
+  pub row_there : Row es (get_or states j 0) k c (bit_and (get_or sets ((lower + upper) * c + (j - h * lower)) 0) (get_or sets ((lower + upper) * c + lower + h) 0))
   row_there = rw (rest_there, e) (v.row (omega arith) j c l b)

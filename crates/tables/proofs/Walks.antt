@@ -10,6 +10,7 @@ use Rattle.tables.specs.Waiting.{Heard, low, later, Leads, Told, is, again}
 use Rattle.tables.specs.Queue.{Queue}
 use Rattle.tables.specs.Edges.{edge_action, edge_lanes, edge_free, lane_weight, lane_values, lane_value, lane_sum, lane_after, way_back, Before, Choices}
 use Rattle.tables.specs.Visits.{above, Going, Laned, Freed, Passed}
+use Rattle.tables.specs.declared.proved_worklist.edge.Edge.{Edge}
 use Rattle.tables.proofs.Settled.{inside}
 use Rattle.tables.proofs.Sweeping.{weigh_step}
 use Rattle.tables.proofs.Bitwise.{further, and_mod, and_div}
@@ -48,30 +49,30 @@ lane_sum-value lane s = either (ℕ_discrete (lane_weight lane) 0)
     either (no e) = rw (ne_eqb (lane_weight lane) 0 e)
 
 -- The values of the lanes' digits in the word of state i.
-abbrev one : Space → List ℕ → ℕ → ℕ → ℕ
+abbrev one : Space → List Edge → ℕ → ℕ → ℕ
 one x es e i = lane_value (edge_lanes es e) (get_or x.states i 0)
 
-abbrev two : Space → List ℕ → ℕ → ℕ → ℕ
+abbrev two : Space → List Edge → ℕ → ℕ → ℕ
 two x es e i = lane_value (lane_after (edge_lanes es e)) (get_or x.states i 0)
 
 -- The values of the second lane below y were gone through; and with its value y those of the first below z.
-pub record Rows (x : Space) (es : List ℕ) (e j at y : ℕ) (t : List ℕ) (marks : List Bool) (c : ℕ) (new q₁ : List ℕ) (marks₁ : List Bool) (h d : ℕ) : Type 0 where
+pub record Rows (x : Space) (es : List Edge) (e j at y : ℕ) (t : List ℕ) (marks : List Bool) (c : ℕ) (new q₁ : List ℕ) (marks₁ : List Bool) (h d : ℕ) : Type 0 where
   pub going : Going x t marks c new q₁ marks₁ h d
   pub heard : (i : ℕ) → i < length new → permitted_at x (edge_action es e) i ≡ true → Leads x (edge_action es e) i j → one x es e i < lane_values (edge_lanes es e) → two x es e i < y →
       i ≡ at + lane_sum (edge_lanes es e) (get_or x.states i 0) + lane_sum (lane_after (edge_lanes es e)) (get_or x.states i 0) → Heard x new marks₁ (edge_action es e) i
 
-pub record Cells (x : Space) (es : List ℕ) (e j at y z : ℕ) (t : List ℕ) (marks : List Bool) (c : ℕ) (new q₁ : List ℕ) (marks₁ : List Bool) (h d : ℕ) : Type 0 where
+pub record Cells (x : Space) (es : List Edge) (e j at y z : ℕ) (t : List ℕ) (marks : List Bool) (c : ℕ) (new q₁ : List ℕ) (marks₁ : List Bool) (h d : ℕ) : Type 0 where
   pub going : Going x t marks c new q₁ marks₁ h d
   pub heard : (i : ℕ) → i < length new → permitted_at x (edge_action es e) i ≡ true → Leads x (edge_action es e) i j → one x es e i < z → two x es e i ≡ y →
       i ≡ at + lane_sum (edge_lanes es e) (get_or x.states i 0) + lane_sum (lane_after (edge_lanes es e)) (get_or x.states i 0) → Heard x new marks₁ (edge_action es e) i
 
-pub rows_start : {x : Space} {es : List ℕ} {e j at : ℕ} {t q : List ℕ} {marks : List Bool} {h c : ℕ} → Queue (length t) q marks h c → Rows x es e j at 0 t marks c t q marks h c
+pub rows_start : {x : Space} {es : List Edge} {e j at : ℕ} {t q : List ℕ} {marks : List Bool} {h c : ℕ} → Queue (length t) q marks h c → Rows x es e j at 0 t marks c t q marks h c
 rows_start k = record { going = going_none k; heard = λ i b f g n l. absurd (omega arith) }
 
-pub cells_start : {x : Space} {es : List ℕ} {e j at y : ℕ} {t q : List ℕ} {marks : List Bool} {h c : ℕ} → Queue (length t) q marks h c → Cells x es e j at y 0 t marks c t q marks h c
+pub cells_start : {x : Space} {es : List Edge} {e j at y : ℕ} {t q : List ℕ} {marks : List Bool} {h c : ℕ} → Queue (length t) q marks h c → Cells x es e j at y 0 t marks c t q marks h c
 cells_start k = record { going = going_none k; heard = λ i b f g l. absurd (omega arith) }
 
-module _ {x : Space} {es : List ℕ} {e j at y z : ℕ} {t : List ℕ} {marks : List Bool} {u p : List ℕ} {b : List Bool} {h c k : ℕ} (w : Cells x es e j at y z t marks c u p b h k) where
+module _ {x : Space} {es : List Edge} {e j at y z : ℕ} {t : List ℕ} {marks : List Bool} {u p : List ℕ} {b : List Bool} {h c k : ℕ} (w : Cells x es e j at y z t marks c u p b h k) where
   same : (i i₀ : ℕ) → i₀ ≡ at + y * lane_weight (lane_after (edge_lanes es e)) + z * lane_weight (edge_lanes es e) → one x es e i ≡ z → two x es e i ≡ y →
       i ≡ at + lane_sum (edge_lanes es e) (get_or x.states i 0) + lane_sum (lane_after (edge_lanes es e)) (get_or x.states i 0) → i ≡ i₀
   same i i₀ s f g r = let a = rw f at (lane_sum-value (edge_lanes es e) (get_or x.states i 0)) in
@@ -87,7 +88,7 @@ module _ {x : Space} {es : List ℕ} {e j at y z : ℕ} {t : List ℕ} {marks : 
       either i b₁ f g l m r (yes o) = a.moved.keeps (edge_action es e) i (w.heard i (omega (arith, b₁, a.moved.long)) f g o m r)
       either i b₁ f g l m r (no o) = let v = same i i₀ s (omega arith) m r in rw v (n (rw v at b₁) (rw v at f) (rw v at g))
 
-module _ {x : Space} {es : List ℕ} {e j at y : ℕ} {t : List ℕ} {marks : List Bool} {u p : List ℕ} {b : List Bool} {h c k : ℕ} (w : Rows x es e j at y t marks c u p b h k) where
+module _ {x : Space} {es : List Edge} {e j at y : ℕ} {t : List ℕ} {marks : List Bool} {u p : List ℕ} {b : List Bool} {h c k : ℕ} (w : Rows x es e j at y t marks c u p b h k) where
   pub rows_next : {z : ℕ} {new q : List ℕ} {d : List Bool} {l : ℕ} → Cells x es e j at y z u b k new q d h l → lane_values (edge_lanes es e) ≤ z → Rows x es e j at (y + 1) t marks c new q d h l
   rows_next {z} {new} {q} {d} a n = record { going = going_then w.going a.going; heard = λ i b f g l m r. either i b f g l m r (dec_lt (two x es e i) y) }
     where
@@ -131,21 +132,21 @@ module _ (x : Space) (v free i : ℕ) where
   choice_low : choice ≤ rest % 16
   choice_low = lib.Bits.and_le_l (rest % 16) (free % 16)
 
-module _ {x : Space} {es : List ℕ} {e j v free at : ℕ} {t : List ℕ} {marks : List Bool} {new q : List ℕ} {d : List Bool} {h c k : ℕ} where
+module _ {x : Space} {es : List Edge} {e j v free at : ℕ} {t : List ℕ} {marks : List Bool} {new q : List ℕ} {d : List Bool} {h c k : ℕ} where
   pub freed_none : (free ≡ 0) ⊎ (length x.weights ≤ v) → Laned x es e j at t marks c new q d h k → Freed x es e j v free at t marks c new q d h k
   freed_none n a = record { going = a.going; heard = λ i b f g l m r. let z = free_none x v free i n in a.heard i b f g l m (omega (arith, r, z)) }
 
 -- The values of digit v below z were gone through.
-pub record Choosing (x : Space) (es : List ℕ) (e j v free at z : ℕ) (t : List ℕ) (marks : List Bool) (c : ℕ) (new q₁ : List ℕ) (marks₁ : List Bool) (h d : ℕ) : Type 0 where
+pub record Choosing (x : Space) (es : List Edge) (e j v free at z : ℕ) (t : List ℕ) (marks : List Bool) (c : ℕ) (new q₁ : List ℕ) (marks₁ : List Bool) (h d : ℕ) : Type 0 where
   pub going : Going x t marks c new q₁ marks₁ h d
   pub heard : (i : ℕ) → i < length new → permitted_at x (edge_action es e) i ≡ true → Leads x (edge_action es e) i j →
       one x es e i < lane_values (edge_lanes es e) → two x es e i < lane_values (lane_after (edge_lanes es e)) → choice x v free i < z →
       i ≡ at + lane_sum (edge_lanes es e) (get_or x.states i 0) + lane_sum (lane_after (edge_lanes es e)) (get_or x.states i 0) + of_free x v free i → Heard x new marks₁ (edge_action es e) i
 
-pub choosing_start : {x : Space} {es : List ℕ} {e j v free at : ℕ} {t q : List ℕ} {marks : List Bool} {h c : ℕ} → Queue (length t) q marks h c → Choosing x es e j v free at 0 t marks c t q marks h c
+pub choosing_start : {x : Space} {es : List Edge} {e j v free at : ℕ} {t q : List ℕ} {marks : List Bool} {h c : ℕ} → Queue (length t) q marks h c → Choosing x es e j v free at 0 t marks c t q marks h c
 choosing_start k = record { going = going_none k; heard = λ i b f g m n l. absurd (omega arith) }
 
-module _ {x : Space} {es : List ℕ} {e j v free at z : ℕ} {t : List ℕ} {marks : List Bool} {u p : List ℕ} {b : List Bool} {h c k : ℕ} (w : Choosing x es e j v free at z t marks c u p b h k) where
+module _ {x : Space} {es : List Edge} {e j v free at z : ℕ} {t : List ℕ} {marks : List Bool} {u p : List ℕ} {b : List Bool} {h c k : ℕ} (w : Choosing x es e j v free at z t marks c u p b h k) where
   pub choosing_next : {new q : List ℕ} {d : List Bool} {l : ℕ} (y : ℕ) → y ≡ at + z * get_or x.weights v 0 → Freed x es e j (v + 1) (free / 16) y u b k new q d h l → Choosing x es e j v free at (z + 1) t marks c new q d h l
   choosing_next {new} {q} {d} y s a = record { going = going_then w.going a.going; heard = λ i b f g m n l r. either i b f g m n l r (dec_lt (choice x v free i) z) }
     where
@@ -178,16 +179,16 @@ module _ {x : Space} {es : List ℕ} {e j v free at z : ℕ} {t : List ℕ} {mar
       either (no q) = choosing_end sizes q o (g (omega (arith, q)))
 
 -- One edge.
-module _ {x : Space} {ts es : List ℕ} {e j at : ℕ} {t : List ℕ} {marks : List Bool} {new q : List ℕ} {d : List Bool} {h c k : ℕ} (a : at ≡ way_back es e j) where
-  pub passed-freed : Freed x es e j 0 (edge_free es e) at t marks c new q d h k → Passed x ts es e j t marks c new q d h k
+module _ {x : Space} {es : List Edge} {e j at : ℕ} {t : List ℕ} {marks : List Bool} {new q : List ℕ} {d : List Bool} {h c k : ℕ} (a : at ≡ way_back es e j) where
+  pub passed-freed : Freed x es e j 0 (edge_free es e) at t marks c new q d h k → Passed x es e j t marks c new q d h k
   passed-freed w = record { going = w.going; heard = λ i b f g s. w.heard i b f g s.first s.second (from i s) }
     where
-      from : (i : ℕ) → Before x ts es e i j → i ≡ at + lane_sum (edge_lanes es e) (get_or x.states i 0) + lane_sum (lane_after (edge_lanes es e)) (get_or x.states i 0) + of_free x 0 (edge_free es e) i
+      from : (i : ℕ) → Before x es e i j → i ≡ at + lane_sum (edge_lanes es e) (get_or x.states i 0) + lane_sum (lane_after (edge_lanes es e)) (get_or x.states i 0) + of_free x 0 (edge_free es e) i
       from i s = let z : get_or x.states i 0 / 16 ^ 0 ≡ get_or x.states i 0 = omega arith in
           let y : of_free x 0 (edge_free es e) i ≡ weigh x.weights (bit_and (get_or x.states i 0) (edge_free es e)) = rw z in omega (arith, s.sum, a, y)
 
   module _ (none : edge_free es e ≡ 0) where
-    pub passed_laned : Laned x es e j at t marks c new q d h k → Passed x ts es e j t marks c new q d h k
+    pub passed_laned : Laned x es e j at t marks c new q d h k → Passed x es e j t marks c new q d h k
     passed_laned w = record {
       going = w.going;
       heard = λ i b f g s. w.heard i b f g s.first s.second
@@ -196,9 +197,9 @@ module _ {x : Space} {ts es : List ℕ} {e j at : ℕ} {t : List ℕ} {marks : L
 
     -- Two lanes of weight 0: one state is before j.
     pub passed_plain : lane_weight (edge_lanes es e) ≡ 0 → lane_weight (lane_after (edge_lanes es e)) ≡ 0 → Going x t marks c new q d h k →
-        (at < length new → permitted_at x (edge_action es e) at ≡ true → Leads x (edge_action es e) at j → Heard x new d (edge_action es e) at) → Passed x ts es e j t marks c new q d h k
+        (at < length new → permitted_at x (edge_action es e) at ≡ true → Leads x (edge_action es e) at j → Heard x new d (edge_action es e) at) → Passed x es e j t marks c new q d h k
     passed_plain m n g f = record { going = g; heard = λ i b p l s. let v = from i s in rw v (f (rw v at b) (rw v at p) (rw v at l)) }
       where
-        from : (i : ℕ) → Before x ts es e i j → i ≡ at
+        from : (i : ℕ) → Before x es e i j → i ≡ at
         from i s = let z = weigh_apart x.weights (get_or x.states i 0) (edge_free es e) none in
             let y = lane_none (edge_lanes es e) (get_or x.states i 0) m in let r = lane_none (lane_after (edge_lanes es e)) (get_or x.states i 0) n in omega (arith, s.sum, a, z, y, r)

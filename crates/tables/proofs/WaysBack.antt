@@ -6,8 +6,9 @@ use Rattle.planning.proofs.Test.{by_test}
 use Rattle.tables.specs.Packed.{pre_mask, pre_value, outcome_count, keep_mask, set_value}
 use Rattle.tables.specs.Steps.{weigh, Space, after, permitted, permitted_at}
 use Rattle.tables.specs.Waiting.{index_after}
-use Rattle.tables.specs.Edges.{edge_mask, edge_free, edge_lanes, lane_weight, lane_values, lane_digit, lane_value, lane_sum, lane_after, way_back, Before, Choices, Edge, named, freed, digit, PlainMask, Regular}
+use Rattle.tables.specs.Edges.{edge_mask, edge_back, edge_free, edge_lanes, lane_weight, lane_values, lane_digit, lane_value, lane_sum, lane_after, way_back, Before, Choices, StandsFor, named, freed, digit, PlainMask, Regular}
 use Rattle.tables.specs.Made.{LaneAt, LaneOf, one, none, Same, back_of, EdgeIs, Served}
+use Rattle.tables.specs.declared.proved_worklist.edge.Edge.{Edge}
 use Rattle.tables.proofs.Digits.{Fits, changed, changed_same, weigh_before, weigh-least, word_test, test_plain, freed_mod, freed_div, further_digit, place_is, digit_without, weigh_without}
 
 -- A lane: its weight, place and number of values; what the free digits add is what it adds and what the rest does.
@@ -91,6 +92,10 @@ back_small i j gain loss add a b e l = either (dec_lt gain loss)
     either (yes d) = let p : (gain + 65536 - loss) % 65536 ≡ gain + 65536 - loss = omega arith in rw p (omega arith)
     either (no d) = let p : (gain + 65536 - loss) % 65536 ≡ gain - loss = omega arith in rw p (omega arith)
 
+back_less : (gain loss : ℕ) → back_of gain loss < 65536
+unfolding back_of
+back_less gain loss = omega arith
+
 back_sum : (i j gain loss add : ℕ) → i < 4096 → j < 4096 → i + loss ≡ j + gain + add → loss ≤ j → i ≡ (j + back_of gain loss) % 65536 + add
 unfolding back_of
 back_sum i j gain loss add a b e l = let p : gain % 65536 ≡ gain = omega arith in let q : loss % 65536 ≡ loss = omega arith in
@@ -111,7 +116,7 @@ module _ {x : Space} {sizes : List ℕ} {n : ℕ} (r : Regular x sizes n) where
     choices_of : Choices x.states sizes n 0 (freed x.mask (keep_mask x.task m o) (pre_mask x.task m))
     choices_of = record { bound = λ u i d f. let z : 0 + u ≡ u = omega arith in rw z (r.below i u d (⊎_elim (λ q. absurd (f (free_digit_lem u x.mask (keep_mask x.task m o) (pre_mask x.task m) q))) (λ q. q) (r.mask_plain u))) }
 
-    module _ (ts es : List ℕ) (e : ℕ) (h : EdgeIs x.task x.mask x.weights sizes ts es e m o) where
+    module _ (es : List Edge) (e : ℕ) (h : EdgeIs x.task x.mask x.weights sizes es e m o) where
       choices_between : Choices x.states sizes n 0 h.rest
       choices_between = choices_rest x.states n choices_of h.first
 
@@ -121,10 +126,13 @@ module _ {x : Space} {sizes : List ℕ} {n : ℕ} (r : Regular x sizes n) where
       second_lane : lane_after (edge_lanes es e) ≡ h.lane₂
       second_lane = second_is (edge_lanes es e) h.lane₁ h.lane₂ h.lanes (lane_small h.first)
 
-      pub edge_plain : PlainMask (edge_mask ts e)
+      pub edge_plain : PlainMask (edge_mask es e)
       edge_plain = λ u. let g = test_plain u x.mask (keep_mask x.task m o) (pre_mask x.task m) (pre_value x.task m) (set_value x.task m o) r.mask_plain (r.out_plain m o l b) (r.need_plain m l) in rw h.mask g
 
-      edge_back_lem : (i : ℕ) → i < n → permitted_at x m i ≡ true → Before x ts es e i (index_after x m i o)
+      pub edge_back_small : edge_back es e < 65536
+      edge_back_small = rw h.back (back_less _ _)
+
+      edge_back_lem : (i : ℕ) → i < n → permitted_at x m i ≡ true → Before x es e i (index_after x m i o)
       unfolding index_after after way_back
       edge_back_lem i d p = let s = get_or x.states i 0 in let f = fits_of i d p in
           let k = x.mask in let keeps = keep_mask x.task m o in let need = pre_mask x.task m in let value = pre_value x.task m in let sets = set_value x.task m o in
@@ -148,8 +156,8 @@ module _ {x : Space} {sizes : List ℕ} {n : ℕ} (r : Regular x sizes n) where
   unfolding index_after after
   same_after m p o i g = ap (weigh x.weights) (changed_same 16 x.mask (keep_mask x.task m p) (set_value x.task m p) (keep_mask x.task m o) (set_value x.task m o) (get_or x.states i 0) r.room r.mask_plain g.keeps g.sets)
 
-  pub served_edge : (ts es : List ℕ) (f m o : ℕ) → m < x.actions → Served x.task x.mask x.weights sizes ts es f m (outcome_count x.task m) o → Edge x n ts es f m o
-  served_edge ts es f m o l g = record {
+  pub served_edge : (es : List Edge) (f m o : ℕ) → m < x.actions → Served x.task x.mask x.weights sizes es f m (outcome_count x.task m) o → StandsFor x n es f m o
+  served_edge es f m o l g = record {
     action = g.is.action;
-    back = λ i d p. subst (λ j. Before x ts es f i j) (same_after m g.outcome o i g.same) (edge_back_lem m g.outcome l g.known ts es f g.is i d p);
+    back = λ i d p. subst (λ j. Before x es f i j) (same_after m g.outcome o i g.same) (edge_back_lem m g.outcome l g.known es f g.is i d p);
   }

@@ -1,44 +1,48 @@
 -- The edges of a pattern: for an outcome of an action what a state after it has, and how the index of a state before it comes from that of
--- the state after it. Two words for the test of a state after it: mask and value. Four words for the way back:
---   what is added to the index, modulo 65,536 (16 bits), the action's weight (16 bits), and the action;
---   two lanes of 32 bits, a free digit each: its weight (16 bits), its place in a word (8 bits), how many values it has (8 bits);
---   the other free digits, 15 in each;
---   the first edge of the action (10 bits), and the end of its edges.
--- A digit is free if the outcome sets it and the precondition does not ask for it. Assumes nothing.
-use Rattle.std.specs.Prelude.{◌≡◌, ℕ, zero, suc, ◌+◌, ◌-◌, ◌*◌, ◌/◌, ◌%◌, ◌^◌, ◌<◌, ◌≤◌, min, true, false, cond, ◌⊎◌, List, ◌++◌, length, take, replicate, ◌==◌, ◌≢◌, bit_and, bit_or, slice_index}
+-- the state after it. Two lanes of 32 bits stand in one word, a free digit each: its weight (16 bits), its place in a word (8 bits), how many
+-- values it has (8 bits). A digit is free if the outcome sets it and the precondition does not ask for it. Assumes nothing.
+use Rattle.std.specs.Prelude.{◌≡◌, ℕ, zero, suc, ◌+◌, ◌-◌, ◌*◌, ◌/◌, ◌%◌, ◌^◌, ◌<◌, ◌≤◌, min, true, false, cond, ◌⊎◌, List, ◌++◌, length, take, replicate, ◌==◌, ◌≢◌, bit_and, bit_or, slice_index, slice_index_or}
 use Rattle.planning.specs.Table.{state_count, state_at}
 use Rattle.tables.specs.Packed.{pack_by, low, pre_mask, pre_value, outcome_count, action_weight, keep_mask, set_value}
 use Rattle.tables.specs.Steps.{weigh, weights_from, Space, space, after, idles, permitted_at}
 use Rattle.tables.specs.Waiting.{index_after}
+use Rattle.tables.specs.declared.proved_worklist.edge.Edge.{Edge}
+
+-- No edge, and edge e.
+abbrev pub no_edge : Edge
+no_edge = record { mask = 0; value = 0; lanes = 0; free = 0; back = 0; weight = 0; action = 0; first = 0; end = 0 }
+
+abbrev pub edge_at : List Edge → ℕ → Edge
+edge_at es e = slice_index_or es e no_edge
 
 -- The test of a state after edge e.
-abbrev pub edge_mask : List ℕ → ℕ → ℕ
-edge_mask ts e = slice_index ts (2 * e)
+abbrev pub edge_mask : List Edge → ℕ → ℕ
+edge_mask es e = (edge_at es e).mask
 
-abbrev pub edge_value : List ℕ → ℕ → ℕ
-edge_value ts e = slice_index ts (2 * e + 1)
+abbrev pub edge_value : List Edge → ℕ → ℕ
+edge_value es e = (edge_at es e).value
 
--- The words of the way back.
-abbrev pub edge_back : List ℕ → ℕ → ℕ
-edge_back es e = slice_index es (4 * e) % 65536
+-- The way back.
+abbrev pub edge_back : List Edge → ℕ → ℕ
+edge_back es e = (edge_at es e).back
 
-abbrev pub edge_weight : List ℕ → ℕ → ℕ
-edge_weight es e = slice_index es (4 * e) / 65536 % 65536
+abbrev pub edge_weight : List Edge → ℕ → ℕ
+edge_weight es e = (edge_at es e).weight
 
-abbrev pub edge_action : List ℕ → ℕ → ℕ
-edge_action es e = slice_index es (4 * e) / 4294967296
+abbrev pub edge_action : List Edge → ℕ → ℕ
+edge_action es e = (edge_at es e).action
 
-abbrev pub edge_lanes : List ℕ → ℕ → ℕ
-edge_lanes es e = slice_index es (4 * e + 1)
+abbrev pub edge_lanes : List Edge → ℕ → ℕ
+edge_lanes es e = (edge_at es e).lanes
 
-abbrev pub edge_free : List ℕ → ℕ → ℕ
-edge_free es e = slice_index es (4 * e + 2)
+abbrev pub edge_free : List Edge → ℕ → ℕ
+edge_free es e = (edge_at es e).free
 
-abbrev pub edge_first : List ℕ → ℕ → ℕ
-edge_first es e = slice_index es (4 * e + 3) % 1024
+abbrev pub edge_first : List Edge → ℕ → ℕ
+edge_first es e = (edge_at es e).first
 
-abbrev pub edge_end : List ℕ → ℕ → ℕ
-edge_end es e = slice_index es (4 * e + 3) / 1024
+abbrev pub edge_end : List Edge → ℕ → ℕ
+edge_end es e = (edge_at es e).end
 
 -- A lane: weight, values, and the digit of a word that it stands for.
 abbrev pub lane_weight : ℕ → ℕ
@@ -62,13 +66,13 @@ abbrev pub lane_after : ℕ → ℕ
 lane_after lanes = lanes / 4294967296
 
 -- Where the way back of edge e begins, from state j on: the index of a state before it whose free digits are all 0.
-unfoldable pub way_back : List ℕ → ℕ → ℕ → ℕ
+unfoldable pub way_back : List Edge → ℕ → ℕ → ℕ
 way_back es e j = (j + edge_back es e) % 65536
 
 -- Edge e leads from state i to state j: j passes the test, and i comes from j by the way back and the free digits of i.
-pub record Before (x : Space) (ts es : List ℕ) (e i j : ℕ) : Type 0 where
+pub record Before (x : Space) (es : List Edge) (e i j : ℕ) : Type 0 where
   pub near : j < 65536
-  pub passes : bit_and (slice_index x.states j) (edge_mask ts e) ≡ edge_value ts e
+  pub passes : bit_and (slice_index x.states j) (edge_mask es e) ≡ edge_value es e
   pub sum : i ≡ way_back es e j + lane_sum (edge_lanes es e) (slice_index x.states i) + lane_sum (lane_after (edge_lanes es e)) (slice_index x.states i)
       + weigh x.weights (bit_and (slice_index x.states i) (edge_free es e))
   pub first : lane_value (edge_lanes es e) (slice_index x.states i) < lane_values (edge_lanes es e)
@@ -79,29 +83,29 @@ pub record Choices (states sizes : List ℕ) (n v free : ℕ) : Type 0 where
   pub bound : (u i : ℕ) → i < n → (free / 16 ^ u % 16 ≢ 0) → slice_index states i / 16 ^ (v + u) % 16 < slice_index sizes (v + u)
 
 -- Edge e stands for outcome o of action m.
-pub record Edge (x : Space) (n : ℕ) (ts es : List ℕ) (e m o : ℕ) : Type 0 where
+pub record StandsFor (x : Space) (n : ℕ) (es : List Edge) (e m o : ℕ) : Type 0 where
   pub action : edge_action es e ≡ m
-  pub back : (i : ℕ) → i < n → permitted_at x m i ≡ true → Before x ts es e i (index_after x m i o)
+  pub back : (i : ℕ) → i < n → permitted_at x m i ≡ true → Before x es e i (index_after x m i o)
 
 -- Edge f is one of the edges of the action of edge e.
-pub record Beside (es : List ℕ) (e f : ℕ) : Type 0 where
+pub record Beside (es : List Edge) (e f : ℕ) : Type 0 where
   pub after : edge_first es e ≤ f
   pub before : f < edge_end es e
 
 -- The first k edges: each stands for an outcome of its action and knows all edges of that, of which it is one; every outcome of every
 -- action that leaves no state as it is has one among them.
-pub record EdgesOf (x : Space) (sizes : List ℕ) (n : ℕ) (ts es : List ℕ) (k : ℕ) : Type 0 where
+pub record EdgesOf (x : Space) (sizes : List ℕ) (n : ℕ) (es : List Edge) (k : ℕ) : Type 0 where
   pub few : k ≤ 512
-  pub tests_room : 2 * k ≤ length ts
-  pub edges_room : 4 * k ≤ length es
+  pub room : k ≤ length es
   pub known : (e : ℕ) → e < k → edge_action es e < x.actions
+  pub back : (e : ℕ) → e < k → edge_back es e < 65536
   pub weight : (e : ℕ) → e < k → edge_weight es e ≡ min (action_weight x.task (edge_action es e)) 65535
   pub free : (e : ℕ) → e < k → Choices x.states sizes n 0 (edge_free es e)
   pub span : (e : ℕ) → e < k → edge_end es e ≤ k
   pub own : (e : ℕ) → e < k → Beside es e e
-  pub each : (e f : ℕ) → e < k → Beside es e f → (o : ℕ) × (o < outcome_count x.task (edge_action es e)) × Edge x n ts es f (edge_action es e) o
-  pub all : (e o : ℕ) → e < k → o < outcome_count x.task (edge_action es e) → (f : ℕ) × Beside es e f × Edge x n ts es f (edge_action es e) o
-  pub covers : (m o : ℕ) → m < x.actions → idles x.task x.mask m ≡ false → o < outcome_count x.task m → (e : ℕ) × (e < k) × Edge x n ts es e m o
+  pub each : (e f : ℕ) → e < k → Beside es e f → (o : ℕ) × (o < outcome_count x.task (edge_action es e)) × StandsFor x n es f (edge_action es e) o
+  pub all : (e o : ℕ) → e < k → o < outcome_count x.task (edge_action es e) → (f : ℕ) × Beside es e f × StandsFor x n es f (edge_action es e) o
+  pub covers : (m o : ℕ) → m < x.actions → idles x.task x.mask m ≡ false → o < outcome_count x.task m → (e : ℕ) × (e < k) × StandsFor x n es e m o
 
 -- How many outcomes the actions m, m + 1, .., n of them, have that leave no state as it is.
 unfoldable pub outcomes_from : List ℕ → ℕ → ℕ → ℕ → ℕ

@@ -5,22 +5,23 @@ use Rattle.planning.specs.Table.{state_count, state_at}
 use Rattle.tables.specs.Packed.{pack_by, low}
 use Rattle.tables.specs.Sets.{set_from, need_at}
 use Rattle.tables.specs.Edges.{edge_mask, edge_value, digit, PlainMask}
+use Rattle.tables.specs.declared.proved_worklist.edge.Edge.{Edge}
 
 -- A set of the edges 64 * c, .., of k, that misses none whose test the word w passes.
-pub record Row (ts : List ℕ) (w k c set : ℕ) : Type 0 where
+pub record Row (es : List Edge) (w k c set : ℕ) : Type 0 where
   pub chosen : ℕ → Bool
   pub count : ℕ
   pub few : count ≤ 64
   pub inside : 64 * c + count ≤ k
   pub whole : (q : ℕ) → q < 64 → 64 * c + q < k → q < count
   pub is : set ≡ set_from chosen 0 count
-  pub missed : (q : ℕ) → q < count → chosen q ≡ false → bit_and w (edge_mask ts (64 * c + q)) ≢ edge_value ts (64 * c + q)
+  pub missed : (q : ℕ) → q < count → chosen q ≡ false → bit_and w (edge_mask es (64 * c + q)) ≢ edge_value es (64 * c + q)
 
 -- The masks of the tests are plain.
-pub record Tests (ts : List ℕ) (k : ℕ) : Type 0 where
+pub record Tests (es : List Edge) (k : ℕ) : Type 0 where
   pub few : k ≤ 512
-  pub room : 2 * k ≤ length ts
-  pub plain : (e : ℕ) → e < k → PlainMask (edge_mask ts e)
+  pub room : k ≤ length es
+  pub plain : (e : ℕ) → e < k → PlainMask (edge_mask es e)
 
 -- The pattern without its first v variables.
 unfoldable pub upper_part : ℕ → List ℕ → List ℕ
@@ -54,8 +55,8 @@ pub record Split (sizes p : List ℕ) (n mask lower low : ℕ) : Type 0 where
       Parted states (state_count (take n sizes) p) lower low (mask - low)
 
 -- What edge `first` + q needs of digit v.
-unfoldable pub edge_need : List ℕ → ℕ → ℕ → ℕ → ℕ
-edge_need ts first q v = need_at (edge_mask ts (first + q)) (edge_value ts (first + q)) v
+unfoldable pub edge_need : List Edge → ℕ → ℕ → ℕ → ℕ
+edge_need es first q v = need_at (edge_mask es (first + q)) (edge_value es (first + q)) v
 
 -- A set met with the slots of digit v of a word, if that digit is in the part; then with those of the digits v, .., n of them.
 unfoldable pub digit_meet : List ℕ → ℕ → ℕ → ℕ → ℕ → ℕ
@@ -78,17 +79,17 @@ pub record PartFilled (states slots : List ℕ) (all part step : ℕ) (sets : Li
   pub here : (h : ℕ) → h < length sets → slice_index sets h ≡ digits_meet slots part (slice_index states (h * step)) all 0 16
 
 -- The row of the edges from `first` on, `count` of them: the sets of the lower part, then those of the upper part.
-pub record EdgeRow (states ts row : List ℕ) (low high lower upper first count : ℕ) : Type 0 where
-  pub lows : (l : ℕ) → l < lower → slice_index row l ≡ set_from (λ q. part_suits (edge_need ts first q) low (slice_index states l) 0 16) 0 count
-  pub highs : (h : ℕ) → h < upper → slice_index row (lower + h) ≡ set_from (λ q. part_suits (edge_need ts first q) high (slice_index states (h * lower)) 0 16) 0 count
+pub record EdgeRow (states : List ℕ) (es : List Edge) (row : List ℕ) (low high lower upper first count : ℕ) : Type 0 where
+  pub lows : (l : ℕ) → l < lower → slice_index row l ≡ set_from (λ q. part_suits (edge_need es first q) low (slice_index states l) 0 16) 0 count
+  pub highs : (h : ℕ) → h < upper → slice_index row (lower + h) ≡ set_from (λ q. part_suits (edge_need es first q) high (slice_index states (h * lower)) 0 16) 0 count
 
 -- The sets of every state, if there are any: a row for each 64 edges, the sets of the lower part and behind them those of the upper part.
-pub record Incoming (states ts : List ℕ) (n k lower upper : ℕ) (sets : List ℕ) : Type 0 where
+pub record Incoming (states : List ℕ) (es : List Edge) (n k lower upper : ℕ) (sets : List ℕ) : Type 0 where
   pub lower_some : 1 ≤ lower
   pub upper_whole : n ≤ upper * lower
   pub room : 1 ≤ length sets → (c : ℕ) → 64 * c < k → (lower + upper) * c + lower + upper ≤ length sets
   pub row : 1 ≤ length sets → (j c : ℕ) → j < n → 64 * c < k →
-      Row ts (slice_index states j) k c (bit_and (slice_index sets ((lower + upper) * c + j % lower)) (slice_index sets ((lower + upper) * c + lower + j / lower)))
+      Row es (slice_index states j) k c (bit_and (slice_index sets ((lower + upper) * c + j % lower)) (slice_index sets ((lower + upper) * c + lower + j / lower)))
 
 -- There are no sets, or there is room for every row of so many edges, however the index is split.
 pub record SetsRoom (n edges length : ℕ) : Type 0 where

@@ -6,6 +6,7 @@ use Rattle.tables.specs.Steps.{weights_from, Space, space}
 use Rattle.tables.specs.Edges.{outcomes_from}
 use Rattle.tables.specs.Incoming.{Split, SetsRoom}
 use Rattle.tables.specs.Patterned.{Patterned, states_of}
+use Rattle.tables.specs.declared.proved_worklist.edge.Edge.{Edge}
 
 -- The weights of the variables, and the word of each state at its index.
 pub record Listed (p : Patterned) (weights words : List ℕ) : Type 0 where
@@ -25,21 +26,18 @@ edges_most p = outcomes_from p.task p.mask 0 p.actions
 abbrev pub SplitAt : Patterned → ℕ → ℕ → Type 0
 SplitAt p lower low = Split p.sizes p.picked p.variables p.mask lower low
 
--- Arrays of words with room for the tests of all edges, for the edges, and for their sets.
-pub record Roomy (p : Patterned) (tests edges sets : List ℕ) : Type 0 where
+-- Arrays with room for the edges, and for their sets.
+pub record Roomy (p : Patterned) (edges : List Edge) (sets : List ℕ) : Type 0 where
   pub few : edges_most p ≤ 512
-  pub tests_room : 2 * edges_most p ≤ length tests
-  pub edges_room : 4 * edges_most p ≤ length edges
+  pub edges_room : edges_most p ≤ length edges
   pub sets_room : SetsRoom (states_of p) (edges_most p) (length sets)
 
--- Numbers of words with room for the states, for twice as many words of tests as there are edges, for the edges, and for their sets.
-pub record RoomFor (p : Patterned) (states tests edges sets : ℕ) : Type 0 where
+-- Room for so many states, so many edges, and so many words of their sets is enough.
+pub record RoomFor (p : Patterned) (states edges sets : ℕ) : Type 0 where
   pub states_room : states_of p ≤ states
   pub states_some : 1 ≤ states
   pub states_few : states ≤ 4096
-  pub tests_room : edges_most p ≤ tests / 2
-  pub tests_few : tests ≤ 1024
-  pub edges_room : 4 * (tests / 2) ≤ edges
-  pub edges_few : edges ≤ 2048
-  pub sets_room : SetsRoom (states_of p) (tests / 2) sets
+  pub edges_room : edges_most p ≤ edges
+  pub edges_few : edges ≤ 512
+  pub sets_room : SetsRoom (states_of p) edges sets
   pub sets_few : sets ≤ 8704

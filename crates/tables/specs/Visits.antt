@@ -4,13 +4,14 @@ use Rattle.tables.specs.Steps.{weigh, Space, offer_at, permitted_at}
 use Rattle.tables.specs.Waiting.{Waits, Heard, Leads, Asks, Moved}
 use Rattle.tables.specs.Queue.{Queue}
 use Rattle.tables.specs.Edges.{edge_back, edge_action, edge_lanes, edge_free, lane_after, lane_sum, lane_value, lane_values, Before}
+use Rattle.tables.specs.declared.proved_worklist.edge.Edge.{Edge}
 
 -- Entry i is there and above what was said.
 unfoldable pub above : List ℕ → ℕ → ℕ → Bool
 above t i said = nat_lt i (length t) && nat_lt said (slice_index t i)
 
 -- The index after edge e from state i, whose word is s: the way back, gone forward.
-unfoldable pub way_forward : List ℕ → List ℕ → ℕ → ℕ → ℕ → ℕ
+unfoldable pub way_forward : List Edge → List ℕ → ℕ → ℕ → ℕ → ℕ
 way_forward es ws e i s =
     (i + 65536 - (lane_sum (edge_lanes es e) s + lane_sum (lane_after (edge_lanes es e)) s + weigh ws (bit_and s (edge_free es e))) % 65536 + 65536 - edge_back es e) % 65536
 
@@ -30,7 +31,7 @@ pub record Asked (x : Space) (m i : ℕ) (t : List ℕ) (marks : List Bool) (c :
   pub heard : permitted_at x m i ≡ true → Heard x new marks₁ m i
 
 -- The action of edge e was asked about every state before j whose index is `at` and what the two lanes of its own word add.
-pub record Laned (x : Space) (es : List ℕ) (e j at : ℕ) (t : List ℕ) (marks : List Bool) (c : ℕ) (new q₁ : List ℕ) (marks₁ : List Bool) (h d : ℕ) : Type 0 where
+pub record Laned (x : Space) (es : List Edge) (e j at : ℕ) (t : List ℕ) (marks : List Bool) (c : ℕ) (new q₁ : List ℕ) (marks₁ : List Bool) (h d : ℕ) : Type 0 where
   pub going : Going x t marks c new q₁ marks₁ h d
   pub heard : (i : ℕ) → i < length new → permitted_at x (edge_action es e) i ≡ true → Leads x (edge_action es e) i j →
       lane_value (edge_lanes es e) (slice_index x.states i) < lane_values (edge_lanes es e) →
@@ -38,7 +39,7 @@ pub record Laned (x : Space) (es : List ℕ) (e j at : ℕ) (t : List ℕ) (mark
       i ≡ at + lane_sum (edge_lanes es e) (slice_index x.states i) + lane_sum (lane_after (edge_lanes es e)) (slice_index x.states i) → Heard x new marks₁ (edge_action es e) i
 
 -- The same, where the free digits of its word from v on add something too.
-pub record Freed (x : Space) (es : List ℕ) (e j v free at : ℕ) (t : List ℕ) (marks : List Bool) (c : ℕ) (new q₁ : List ℕ) (marks₁ : List Bool) (h d : ℕ) : Type 0 where
+pub record Freed (x : Space) (es : List Edge) (e j v free at : ℕ) (t : List ℕ) (marks : List Bool) (c : ℕ) (new q₁ : List ℕ) (marks₁ : List Bool) (h d : ℕ) : Type 0 where
   pub going : Going x t marks c new q₁ marks₁ h d
   pub heard : (i : ℕ) → i < length new → permitted_at x (edge_action es e) i ≡ true → Leads x (edge_action es e) i j →
       lane_value (edge_lanes es e) (slice_index x.states i) < lane_values (edge_lanes es e) →
@@ -47,15 +48,15 @@ pub record Freed (x : Space) (es : List ℕ) (e j v free at : ℕ) (t : List ℕ
       + weigh (drop v x.weights) (bit_and (slice_index x.states i / 16 ^ v) free) → Heard x new marks₁ (edge_action es e) i
 
 -- The action of edge e was asked about every state from which that edge leads to j.
-pub record Passed (x : Space) (ts es : List ℕ) (e j : ℕ) (t : List ℕ) (marks : List Bool) (c : ℕ) (new q₁ : List ℕ) (marks₁ : List Bool) (h d : ℕ) : Type 0 where
+pub record Passed (x : Space) (es : List Edge) (e j : ℕ) (t : List ℕ) (marks : List Bool) (c : ℕ) (new q₁ : List ℕ) (marks₁ : List Bool) (h d : ℕ) : Type 0 where
   pub going : Going x t marks c new q₁ marks₁ h d
-  pub heard : (i : ℕ) → i < length new → permitted_at x (edge_action es e) i ≡ true → Leads x (edge_action es e) i j → Before x ts es e i j → Heard x new marks₁ (edge_action es e) i
+  pub heard : (i : ℕ) → i < length new → permitted_at x (edge_action es e) i ≡ true → Leads x (edge_action es e) i j → Before x es e i j → Heard x new marks₁ (edge_action es e) i
 
 -- The edges of row c were gone through.
-pub record RowDone (x : Space) (ts es : List ℕ) (k j c : ℕ) (t : List ℕ) (marks : List Bool) (a : ℕ) (new q₁ : List ℕ) (marks₁ : List Bool) (h d : ℕ) : Type 0 where
+pub record RowDone (x : Space) (es : List Edge) (k j c : ℕ) (t : List ℕ) (marks : List Bool) (a : ℕ) (new q₁ : List ℕ) (marks₁ : List Bool) (h d : ℕ) : Type 0 where
   pub going : Going x t marks a new q₁ marks₁ h d
   pub heard : (q i : ℕ) → q < 64 → 64 * c + q < k → i < length new → permitted_at x (edge_action es (64 * c + q)) i ≡ true →
-      Leads x (edge_action es (64 * c + q)) i j → Before x ts es (64 * c + q) i j → Heard x new marks₁ (edge_action es (64 * c + q)) i
+      Leads x (edge_action es (64 * c + q)) i j → Before x es (64 * c + q) i j → Heard x new marks₁ (edge_action es (64 * c + q)) i
 
 -- Every action that leads to j was asked.
 pub record Visited (x : Space) (j : ℕ) (t : List ℕ) (marks : List Bool) (c : ℕ) (new q₁ : List ℕ) (marks₁ : List Bool) (h d : ℕ) : Type 0 where

@@ -4,6 +4,7 @@ ghost use Rattle.tables.specs.Patterned.{states_of, TableOf};
 ghost use Rattle.tables.specs.Listed.{RoomFor, edges_most};
 
 use crate::pattern::Pattern;
+use crate::proved_worklist::edge::NO_EDGE;
 use crate::proved_worklist::edges::edge_count;
 use crate::proved_worklist::parts::parts_of;
 use crate::proved_worklist::states::States;
@@ -11,20 +12,19 @@ use crate::proved_worklist::worklist::{Room, settle};
 use crate::ranking::{fill_states, weights_of};
 use crate::sweep::start;
 
-// The table, with room for so many states, twice as many tests as edges, and so many sets; with no room for sets the edges are tested one by one.
+// The table, with room for so many states, edges and sets; with no room for sets the edges are tested one by one.
 // A function makes room for all its arrays where it begins, those of functions compiled into it among them: this one is compiled into no other, so
 // that a small table touches no page of the large arrays.
 #[inline(never)]
-fn build_within<const STATES: usize, const TESTS: usize, const EDGES: usize, const SETS: usize>(
+fn build_within<const STATES: usize, const EDGES: usize, const SETS: usize>(
     pattern: &Pattern,
     entries: &mut [u16],
 )
-    requires { (length entries.old ≡ states_of pattern.now) × (RoomFor pattern.now STATES TESTS EDGES SETS) }
+    requires { (length entries.old ≡ states_of pattern.now) × (RoomFor pattern.now STATES EDGES SETS) }
     ensures { TableOf pattern.now entries.new }
 {
     let mut states = [0u64; STATES];
-    let mut tests = [0u64; TESTS];
-    let mut edges = [0u64; EDGES];
+    let mut edges = [NO_EDGE; EDGES];
     let mut sets = [0u64; SETS];
     fill_states(pattern, &mut states);
     let weights = weights_of(pattern);
@@ -35,7 +35,6 @@ fn build_within<const STATES: usize, const TESTS: usize, const EDGES: usize, con
         words: &states,
     };
     let room = Room {
-        tests: &mut tests,
         edges: &mut edges,
         sets: &mut sets,
     };
@@ -62,15 +61,15 @@ fn build_sized(pattern: &Pattern, edges: usize, entries: &mut [u16])
         return build_goals(pattern, entries);
     }
     if entries.len() <= 32 && edges <= 64 {
-        return build_within::<32, 128, 256, 0>(pattern, entries);
+        return build_within::<32, 64, 0>(pattern, entries);
     }
     if entries.len() <= 1024 && edges <= 128 {
-        return build_within::<1024, 256, 512, 2176>(pattern, entries);
+        return build_within::<1024, 128, 2176>(pattern, entries);
     }
     if edges <= 128 {
-        return build_within::<4096, 256, 512, 2176>(pattern, entries);
+        return build_within::<4096, 128, 2176>(pattern, entries);
     }
-    build_within::<4096, 1024, 2048, 8704>(pattern, entries)
+    build_within::<4096, 512, 8704>(pattern, entries)
 }
 
 // Fills `entries` with the table of the pattern.

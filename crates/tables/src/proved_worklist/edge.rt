@@ -1,6 +1,6 @@
-// One edge, as its four words say (specs/Edges has their layout): no other file takes them apart.
-ghost use Rattle.std.specs.Prelude.{◌≡◌, ◌+◌, ◌*◌, ◌≤◌, true, length};
-ghost use Rattle.tables.specs.Edges.{edge_back, edge_weight, edge_action, edge_lanes, edge_free, edge_first, edge_end, lane_weight, lane_values, lane_after, lane_sum};
+// One edge (specs/Edges): the test of a state after it, and the way back to the states before it.
+ghost use Rattle.std.specs.Prelude.{◌≡◌, ◌+◌, ◌≤◌, true};
+ghost use Rattle.tables.specs.Edges.{lane_weight, lane_values, lane_after, lane_sum};
 
 // Two lanes of one value each that add nothing: no digit is free, and one state is before another.
 const PLAIN: u64 = 72057594054705152;
@@ -31,47 +31,58 @@ impl Lane {
     }
 }
 
-// What is added to the index on the way back; the weight of the action, and the action; its two lanes, and whether they add nothing; the other free
-// digits; and the edges of the action, from `first` to `end`.
+// The test, mask and value; the two lanes, and the other free digits; what is added to the index on the way back; the weight of the action, and the
+// action; and the edges of the action, from `first` to `end`.
 #[derive(Clone, Copy)]
 pub(crate) struct Edge {
-    pub(crate) back: u16,
-    pub(crate) weight: u64,
-    pub(crate) action: usize,
-    pub(crate) one: Lane,
-    pub(crate) two: Lane,
-    pub(crate) plain: bool,
+    pub(crate) mask: u64,
+    pub(crate) value: u64,
+    pub(crate) lanes: u64,
     pub(crate) free: u64,
-    pub(crate) first: usize,
-    pub(crate) end: usize,
+    pub(crate) back: u16,
+    pub(crate) weight: u16,
+    pub(crate) action: u16,
+    pub(crate) first: u16,
+    pub(crate) end: u16,
 }
 
+// What stands where no edge was made yet.
+pub(crate) const NO_EDGE: Edge = Edge {
+    mask: 0,
+    value: 0,
+    lanes: 0,
+    free: 0,
+    back: 0,
+    weight: 0,
+    action: 0,
+    first: 0,
+    end: 0,
+};
+
 impl Edge {
-    pub(crate) fn read(edges: &[u64], e: usize) -> Edge
-        requires { 4 * e + 4 ≤ length edges.now }
-        ensures back { result.back ≡ edge_back edges.now e }
-        ensures weight { result.weight ≡ edge_weight edges.now e }
-        ensures action { result.action ≡ edge_action edges.now e }
-        ensures one { result.one.0 ≡ edge_lanes edges.now e }
-        ensures two { result.two.0 ≡ lane_after (edge_lanes edges.now e) }
-        ensures plain { result.plain ≡ true → (lane_weight (edge_lanes edges.now e) ≡ 0) × (lane_weight (lane_after (edge_lanes edges.now e)) ≡ 0) }
-        ensures free { result.free ≡ edge_free edges.now e }
-        ensures first { result.first ≡ edge_first edges.now e }
-        ensures end { result.end ≡ edge_end edges.now e }
+    pub(crate) fn one(self) -> Lane
+        ensures { result.0 ≡ self.lanes }
     {
-        let way = edges[4 * e];
-        let lanes = edges[4 * e + 1];
-        let span = edges[4 * e + 3];
-        Edge {
-            back: (way % 65536) as u16,
-            weight: way / 65536 % 65536,
-            action: (way / 4294967296) as usize,
-            one: Lane(lanes),
-            two: Lane(lanes / 4294967296),
-            plain: lanes == PLAIN,
-            free: edges[4 * e + 2],
-            first: (span % 1024) as usize,
-            end: (span / 1024) as usize,
-        }
+        Lane(self.lanes)
+    }
+
+    pub(crate) fn two(self) -> Lane
+        ensures { result.0 ≡ lane_after self.lanes }
+    {
+        Lane(self.lanes / 4294967296)
+    }
+
+    // Whether its lanes add nothing.
+    pub(crate) fn is_plain(self) -> bool
+        ensures { result ≡ true → (lane_weight self.lanes ≡ 0) × (lane_weight (lane_after self.lanes) ≡ 0) }
+    {
+        self.lanes == PLAIN
+    }
+
+    // Whether its action has no other.
+    pub(crate) fn is_only(self) -> bool
+        ensures { result ≡ true → self.end ≡ self.first + 1 }
+    {
+        usize::from(self.end) == usize::from(self.first) + 1
     }
 }

@@ -1,23 +1,24 @@
-// The edges of a pattern's abstraction: for each outcome of an action the test of a state after it, two words, and the way back to the states
-// before it, four words (specs/Edges has their layout). Outcomes of one action that do the same within the pattern share an edge.
+// The edges of a pattern's abstraction: for each outcome of an action the test of a state after it and the way back to the states before it. Outcomes
+// of one action that do the same within the pattern share an edge.
 ghost use Rattle.std.specs.Prelude.{◌≡◌, ℕ, ◌+◌, ◌*◌, ◌<◌, ◌≤◌, true, not, length, IfSome, IfNone};
 ghost use Rattle.tables.specs.Packed.{outcome_count};
 ghost use Rattle.tables.specs.Sets.{set_from};
 ghost use Rattle.tables.specs.Steps.{idles, Readable};
-ghost use Rattle.tables.specs.Edges.{outcomes_from, EdgesOf};
+ghost use Rattle.tables.specs.Edges.{edge_at, outcomes_from, EdgesOf};
 ghost use Rattle.tables.specs.Incoming.{Tests};
 ghost use Rattle.tables.specs.Patterned.{states_of};
 ghost use Rattle.tables.specs.Listed.{space_in, edges_most};
-ghost use Rattle.tables.specs.Made.{LaneOf, back_of, Same, WordsOf, words_at, Untouched, Spanned, ActionPut};
+ghost use Rattle.tables.specs.Made.{LaneOf, back_of, Same, EdgeFor, Untouched, Spanned, ActionPut};
 
 use crate::compiled_task::{kept, need, outcome_count, set, value, weight};
+use crate::proved_worklist::edge::Edge;
 use crate::proved_worklist::states::States;
 use crate::sets::Members;
 use crate::sweep::index_of;
 use std::marker::Model;
 
-// The abstract states of a pattern with the edges between them: what the build works on, the tests and words of the edges, and for each state the
-// edges that lead into it, by the lower and the upper part of its index.
+// The abstract states of a pattern with the edges between them: what the build works on, the edges, and for each state those
+// that lead into it, by the lower and the upper part of its index.
 #[derive(Drop)]
 pub(crate) struct Graph<'a> {
     pub(crate) task: &'a [u64; 1282],
@@ -27,8 +28,7 @@ pub(crate) struct Graph<'a> {
     pub(crate) actions: usize,
     pub(crate) sizes: [u8; 16],
     pub(crate) n: usize,
-    pub(crate) tests: &'a [u64],
-    pub(crate) edges: &'a [u64],
+    pub(crate) edges: &'a [Edge],
     pub(crate) k: usize,
     pub(crate) sets: &'a [u64],
     pub(crate) lower: usize,
@@ -42,9 +42,9 @@ impl<'a> Model for Graph<'a> {
 
     ghost Value = { Graphed };
 
-    ghost view = { λ g. record { space = space g.task.now g.mask g.weights.now g.states.now g.actions; sizes = g.sizes; number = g.n; tests = g.tests.now; edges = g.edges.now; edge_number = g.k; sets = g.sets.now; lower = g.lower; upper = g.upper; inverse = g.inverse } };
+    ghost view = { λ g. record { space = space g.task.now g.mask g.weights.now g.states.now g.actions; sizes = g.sizes; number = g.n; edges = g.edges.now; edge_number = g.k; sets = g.sets.now; lower = g.lower; upper = g.upper; inverse = g.inverse } };
 
-    ghost invariant = { λ g. Walked (record { space = space g.task.now g.mask g.weights.now g.states.now g.actions; sizes = g.sizes; number = g.n; tests = g.tests.now; edges = g.edges.now; edge_number = g.k; sets = g.sets.now; lower = g.lower; upper = g.upper; inverse = g.inverse }) };
+    ghost invariant = { λ g. Walked (record { space = space g.task.now g.mask g.weights.now g.states.now g.actions; sizes = g.sizes; number = g.n; edges = g.edges.now; edge_number = g.k; sets = g.sets.now; lower = g.lower; upper = g.upper; inverse = g.inverse }) };
 }
 
 // A free digit as a lane, and the free digits without it.
@@ -84,26 +84,16 @@ fn is_twin(task: &[u64; 1282], mask: u64, m: usize, o: usize) -> bool
 }
 
 // How the index changes on the way back, modulo 65,536.
-fn way_back(gain: usize, loss: usize) -> u64
-    ensures { (result ≡ back_of gain loss) × (result < 65536) }
+fn way_back(gain: usize, loss: usize) -> u16
+    ensures { result ≡ back_of gain loss }
 {
-    ((gain % 65536 + 65536 - loss % 65536) % 65536) as u64
+    ((gain % 65536 + 65536 - loss % 65536) % 65536) as u16
 }
 
-// The words of an edge: those of its test, and three of its way back.
-#[derive(Clone, Copy)]
-struct EdgeWords {
-    mask: u64,
-    value: u64,
-    back: u64,
-    lanes: u64,
-    free: u64,
-}
-
-// The words of the edge of outcome o of action m, unless an earlier outcome does the same.
-fn edge_of(states: &States, m: usize, o: usize) -> Option<EdgeWords>
+// The edge of outcome o of action m, unless an earlier outcome does the same; it does not know yet which are the edges of the action.
+fn edge_of(states: &States, m: usize, o: usize) -> Option<Edge>
     requires { (m < 64) × (o < 8) }
-    ensures some { IfSome result (WordsOf states.now.pattern.now.task states.now.pattern.now.mask states.now.weights.now states.now.pattern.now.sizes m o) }
+    ensures some { IfSome result (EdgeFor states.now.pattern.now.task states.now.pattern.now.mask states.now.weights.now states.now.pattern.now.sizes m o) }
     ensures none { IfNone result ((p : ℕ) × (p < o) × Same states.now.pattern.now.task states.now.pattern.now.mask m p o) }
 {
     let pattern = states.pattern;
@@ -119,59 +109,48 @@ fn edge_of(states: &States, m: usize, o: usize) -> Option<EdgeWords>
     let keeps = kept(task, m, o) & mask;
     let sets = set(task, m, o) & mask;
     let names = mask - keeps;
-    let way = way_back(index_of(weights, value & names), index_of(weights, sets));
-    let weight = weight(task, m).min(u64::from(u16::MAX));
+    let back = way_back(index_of(weights, value & names), index_of(weights, sets));
+    let weight = weight(task, m).min(u64::from(u16::MAX)) as u16;
     let one = lane_of(weights, sizes, names - (need & names));
     let two = lane_of(weights, sizes, one.rest);
-    Some(EdgeWords {
+    Some(Edge {
         mask: names | (need & keeps),
         value: sets | (value & keeps),
-        back: way + 65536 * weight + 4294967296 * m as u64,
         lanes: one.lane + 4294967296 * two.lane,
         free: two.rest,
+        back,
+        weight,
+        action: m as u16,
+        first: 0,
+        end: 0,
     })
 }
 
-// Stores the words of edge e.
-fn put_edge(tests: &mut [u64], edges: &mut [u64], e: usize, words: EdgeWords)
-    requires { (e < 512) × (2 * e + 2 ≤ length tests.old) × (4 * e + 4 ≤ length edges.old) }
-    ensures { (Untouched tests.old edges.old tests.new edges.new e) × (words_at tests.new edges.new e ≡ words) }
-{
-    tests[2 * e] = words.mask;
-    tests[2 * e + 1] = words.value;
-    edges[4 * e] = words.back;
-    edges[4 * e + 1] = words.lanes;
-    edges[4 * e + 2] = words.free;
-}
-
 // The edges of an action are those from `first` to `end`, and each knows it.
-fn put_span(edges: &mut [u64], first: usize, end: usize)
-    requires { (first ≤ end) × (end ≤ 512) × (4 * end ≤ length edges.old) }
-    ensures { Spanned edges.old edges.new first end (first + 1024 * end) }
+fn put_span(edges: &mut [Edge], first: usize, end: usize)
+    requires { (first ≤ end) × (end ≤ 512) × (end ≤ length edges.old) }
+    ensures { Spanned edges.old edges.new first end end }
 {
-    let word = (first + 1024 * end) as u64;
     for e in first..end {
-        edges[4 * e + 3] = word;
+        edges[e] = Edge {
+            first: first as u16,
+            end: end as u16,
+            ..edges[e]
+        };
     }
 }
 
 // The edges of action m, from number `first` on. Answers where they end.
-fn put_action(
-    states: &States,
-    tests: &mut [u64],
-    edges: &mut [u64],
-    first: usize,
-    m: usize,
-) -> usize
-    requires { (m < states.now.pattern.now.actions) × (first + outcome_count states.now.pattern.now.task m ≤ 512) × (2 * (first + outcome_count states.now.pattern.now.task m) ≤ length tests.old) × (4 * (first + outcome_count states.now.pattern.now.task m) ≤ length edges.old) }
-    ensures { ActionPut states.now.pattern.now.task states.now.pattern.now.mask states.now.weights.now states.now.pattern.now.sizes tests.old edges.old tests.new edges.new first m result }
+fn put_action(states: &States, edges: &mut [Edge], first: usize, m: usize) -> usize
+    requires { (m < states.now.pattern.now.actions) × (first + outcome_count states.now.pattern.now.task m ≤ 512) × (first + outcome_count states.now.pattern.now.task m ≤ length edges.old) }
+    ensures { ActionPut states.now.pattern.now.task states.now.pattern.now.mask states.now.weights.now states.now.pattern.now.sizes edges.old edges.new first m result }
 {
     let pattern = states.pattern;
     let n = outcome_count(pattern.task, m);
     let mut e = first;
     for o in 0..n {
-        if let Some(words) = edge_of(states, m, o) {
-            put_edge(tests, edges, e, words);
+        if let Some(edge) = edge_of(states, m, o) {
+            edges[e] = edge;
             e += 1;
         }
     }
@@ -180,14 +159,14 @@ fn put_action(
 }
 
 // The edges of the actions that leave no state as it is. Answers how many.
-pub(crate) fn make_edges(states: &States, tests: &mut [u64], edges: &mut [u64]) -> usize
-    requires { (edges_most states.now.pattern.now ≤ 512) × (2 * edges_most states.now.pattern.now ≤ length tests.old) × (4 * edges_most states.now.pattern.now ≤ length edges.old) }
-    ensures { (EdgesOf (space_in states.now.pattern.now states.now.weights.now states.now.words.now) states.now.pattern.now.sizes (states_of states.now.pattern.now) tests.new edges.new result) × (Tests tests.new result) × (result ≤ edges_most states.now.pattern.now) }
+pub(crate) fn make_edges(states: &States, edges: &mut [Edge]) -> usize
+    requires { (edges_most states.now.pattern.now ≤ 512) × (edges_most states.now.pattern.now ≤ length edges.old) }
+    ensures { (EdgesOf (space_in states.now.pattern.now states.now.weights.now states.now.words.now) states.now.pattern.now.sizes (states_of states.now.pattern.now) edges.new result) × (Tests edges.new result) × (result ≤ edges_most states.now.pattern.now) }
 {
     let pattern = states.pattern;
     let mut c = 0usize;
     for m in Members(pattern.live) {
-        c = put_action(states, tests, edges, c, m);
+        c = put_action(states, edges, c, m);
     }
     c
 }

@@ -6,6 +6,7 @@ ghost use Rattle.tables.specs.Sets.{SlotsOf};
 ghost use Rattle.tables.specs.Incoming.{Row, Tests, Halved, Incoming, edge_need, digits_meet, PartFilled, EdgeRow};
 
 use crate::applying::enter;
+use crate::proved_worklist::edge::Edge;
 use crate::proved_worklist::edges::Graph;
 use crate::sets::set_of;
 
@@ -17,13 +18,13 @@ struct EdgeSlots {
 }
 
 // Enters the edges from `first` on, `count` of them.
-fn enter_edges(tests: &[u64], first: usize, count: usize, slots: &mut [u64; 272])
-    requires { (count ≤ 64) × (first + count ≤ 512) × (2 * (first + count) ≤ length tests.now) × ((i : ℕ) → slice_index slots.old i ≡ 0) }
-    ensures { SlotsOf (edge_need tests.now first) count 16 slots.new }
+fn enter_edges(edges: &[Edge], first: usize, count: usize, slots: &mut [u64; 272])
+    requires { (count ≤ 64) × (first + count ≤ 512) × (first + count ≤ length edges.now) × ((i : ℕ) → slice_index slots.old i ≡ 0) }
+    ensures { SlotsOf (edge_need edges.now first) count 16 slots.new }
 {
     for q in 0..count {
-        let at = 2 * (first + q);
-        enter(slots, tests[at], tests[at + 1], 1 << q, 16);
+        let edge = edges[first + q];
+        enter(slots, edge.mask, edge.value, 1 << q, 16);
     }
 }
 
@@ -69,24 +70,24 @@ pub(crate) struct Halves<'a> {
 }
 
 // The row of the edges from `first` on, `count` of them.
-fn fill_row(halves: &Halves, tests: &[u64], first: usize, count: usize, row: &mut [u64])
-    requires { (count ≤ 64) × (first + count ≤ 512) × (2 * (first + count) ≤ length tests.now) × (Halved halves.now.words.now halves.now.lower halves.now.upper halves.now.low halves.now.high) × (1 ≤ halves.now.upper) × (length row.old ≡ halves.now.lower + halves.now.upper) }
-    ensures { EdgeRow halves.now.words.now tests.now row.new halves.now.low halves.now.high halves.now.lower halves.now.upper first count }
+fn fill_row(halves: &Halves, edges: &[Edge], first: usize, count: usize, row: &mut [u64])
+    requires { (count ≤ 64) × (first + count ≤ 512) × (first + count ≤ length edges.now) × (Halved halves.now.words.now halves.now.lower halves.now.upper halves.now.low halves.now.high) × (1 ≤ halves.now.upper) × (length row.old ≡ halves.now.lower + halves.now.upper) }
+    ensures { EdgeRow halves.now.words.now edges.now row.new halves.now.low halves.now.high halves.now.lower halves.now.upper first count }
 {
-    let mut edges = EdgeSlots {
+    let mut entered = EdgeSlots {
         slots: [0; 272],
         all: set_of(count, |_| true),
     };
-    enter_edges(tests, first, count, &mut edges.slots);
+    enter_edges(edges, first, count, &mut entered.slots);
     let (lows, highs) = row.split_at_mut(halves.lower);
-    fill_part(&edges, halves.words, halves.low, 1, lows);
-    fill_part(&edges, halves.words, halves.high, halves.lower, highs);
+    fill_part(&entered, halves.words, halves.low, 1, lows);
+    fill_part(&entered, halves.words, halves.high, halves.lower, highs);
 }
 
 // Every row, if there is room for sets at all.
-pub(crate) fn fill_sets(halves: &Halves, tests: &[u64], k: usize, sets: &mut [u64])
-    requires { (Tests tests.now k) × (Halved halves.now.words.now halves.now.lower halves.now.upper halves.now.low halves.now.high) × (1 ≤ length sets.old → (c : ℕ) → 64 * c < k → (halves.now.lower + halves.now.upper) * c + halves.now.lower + halves.now.upper ≤ length sets.old) }
-    ensures { Incoming halves.now.words.now tests.now (halves.now.upper * halves.now.lower) k halves.now.lower halves.now.upper sets.new }
+pub(crate) fn fill_sets(halves: &Halves, edges: &[Edge], k: usize, sets: &mut [u64])
+    requires { (Tests edges.now k) × (Halved halves.now.words.now halves.now.lower halves.now.upper halves.now.low halves.now.high) × (1 ≤ length sets.old → (c : ℕ) → 64 * c < k → (halves.now.lower + halves.now.upper) * c + halves.now.lower + halves.now.upper ≤ length sets.old) }
+    ensures { Incoming halves.now.words.now edges.now (halves.now.upper * halves.now.lower) k halves.now.lower halves.now.upper sets.new }
 {
     if sets.len() == 0 {
         return;
@@ -99,19 +100,19 @@ pub(crate) fn fill_sets(halves: &Halves, tests: &[u64], k: usize, sets: &mut [u6
         let first = 64 * c;
         let count = (k - first).min(64);
         let base = width * c;
-        fill_row(halves, tests, first, count, &mut sets[base..base + width]);
+        fill_row(halves, edges, first, count, &mut sets[base..base + width]);
     }
 }
 
 // The edges of row c whose tests a word passes, tried one by one.
-fn tested(tests: &[u64], word: u64, k: usize, c: usize) -> u64
-    requires { (Tests tests.now k) × (64 * c < k) }
-    ensures { Row tests.now word k c result }
+fn tested(edges: &[Edge], word: u64, k: usize, c: usize) -> u64
+    requires { (Tests edges.now k) × (64 * c < k) }
+    ensures { Row edges.now word k c result }
 {
     let count = (k - 64 * c).min(64);
     set_of(count, |q| {
-        let at = 2 * (64 * c + q);
-        word & tests[at] == tests[at + 1]
+        let edge = edges[64 * c + q];
+        word & edge.mask == edge.value
     })
 }
 
@@ -133,12 +134,12 @@ pub(crate) fn upper_part(j: usize, lower: usize, inverse: usize) -> usize
 // The edges of row c that may lead into state j, whose upper part is h.
 pub(crate) fn edges_into(graph: &Graph, j: usize, h: usize, c: usize) -> u64
     requires { (j < graph.now.number) × (h ≡ j / graph.now.lower) × (64 * c < graph.now.edge_number) }
-    ensures { Row graph.now.tests (slice_index graph.now.space.states j) graph.now.edge_number c result }
+    ensures { Row graph.now.edges (slice_index graph.now.space.states j) graph.now.edge_number c result }
 {
     let sets = graph.sets;
     let lower = graph.lower;
     if sets.len() == 0 {
-        return tested(graph.tests, graph.states[j], graph.k, c);
+        return tested(graph.edges, graph.states[j], graph.k, c);
     }
     let base = (lower + graph.upper) * c;
     sets[base + (j - h * lower)] & sets[base + lower + h]

@@ -43,12 +43,12 @@ fn weigh_from(weights: &[u16; 16], v: usize, s: u64) -> usize
 }
 
 // The index of the state after edge e from state i.
-fn index_after(edges: &[u64], weights: &[u16; 16], e: usize, i: usize, s: u64) -> usize
-    requires { (4 * e + 4 ≤ length edges.now) × (i ≤ 4096) × (length weights.now ≤ 16) }
+fn index_after(edges: &[Edge], weights: &[u16; 16], e: usize, i: usize, s: u64) -> usize
+    requires { (e < length edges.now) × (i ≤ 4096) × (length weights.now ≤ 16) }
     ensures { result ≡ way_forward edges.now weights.now e i s }
 {
-    let edge = Edge::read(edges, e);
-    let mut free = edge.one.sum(s) + edge.two.sum(s);
+    let edge = edges[e];
+    let mut free = edge.one().sum(s) + edge.two().sum(s);
     if edge.free != 0 {
         free = free + weigh_from(weights, 0, s & edge.free);
     }
@@ -63,9 +63,9 @@ fn offer_along(graph: &Graph, entries: &[u16], marks: &[bool], e: usize, i: usiz
     let edges = graph.edges;
     let states = graph.states;
     let s = states[i];
-    let edge = Edge::read(edges, e);
-    let first = edge.first;
-    let end = edge.end;
+    let edge = edges[e];
+    let first = usize::from(edge.first);
+    let end = usize::from(edge.end);
     let mut most = 0u16;
     for f in first..end {
         let j = index_after(edges, graph.weights, f, i, s);
@@ -78,7 +78,7 @@ fn offer_along(graph: &Graph, entries: &[u16], marks: &[bool], e: usize, i: usiz
         }
         most = most.max(v);
     }
-    raise(edge.weight, most)
+    raise(u64::from(edge.weight), most)
 }
 
 // The action of edge e is asked about state i: its entry falls to what the action says, if that is less, and then the state waits.
@@ -87,8 +87,8 @@ fn ask<const N: usize>(graph: &Graph, entries: &mut [u16], ring: &mut Ring<N>, e
     ensures { (Asked graph.now.space (edge_action graph.now.edges e) i entries.old ring.old.marks ring.old.count entries.new ring.new.places ring.new.marks ring.old.head ring.new.count) × (ring.new.states ≡ ring.old.states) × (ring.new.head ≡ ring.old.head) }
 {
     let states = graph.states;
-    let edge = Edge::read(graph.edges, e);
-    if !permits(graph.task, graph.mask, edge.action, states[i]) {
+    let edge = graph.edges[e];
+    if !permits(graph.task, graph.mask, usize::from(edge.action), states[i]) {
         return;
     }
     let v = offer_along(graph, entries, &ring.marks, e, i);
@@ -113,11 +113,11 @@ fn ask_only<const N: usize>(
     ensures { (Asked graph.now.space (edge_action graph.now.edges e) i entries.old ring.old.marks ring.old.count entries.new ring.new.places ring.new.marks ring.old.head ring.new.count) × (ring.new.states ≡ ring.old.states) × (ring.new.head ≡ ring.old.head) }
 {
     let states = graph.states;
-    let edge = Edge::read(graph.edges, e);
-    if !permits(graph.task, graph.mask, edge.action, states[i]) {
+    let edge = graph.edges[e];
+    if !permits(graph.task, graph.mask, usize::from(edge.action), states[i]) {
         return;
     }
-    let said = raise(edge.weight, entries[j]);
+    let said = raise(u64::from(edge.weight), entries[j]);
     if said >= entries[i] {
         return;
     }
@@ -157,12 +157,12 @@ impl<'a, const N: usize> Worklist<'a, N> {
         let entries = &mut *self.entries;
         let ring = &mut *self.ring;
         let e = by.e as usize;
-        let edge = Edge::read(graph.edges, e);
-        let said = usize::from(by.entry) + edge.weight as usize;
-        let one = usize::from(edge.one.weight());
-        let two = usize::from(edge.two.weight());
-        let ones = usize::from(edge.one.values());
-        let twos = usize::from(edge.two.values());
+        let edge = graph.edges[e];
+        let said = usize::from(by.entry) + usize::from(edge.weight);
+        let one = usize::from(edge.one().weight());
+        let two = usize::from(edge.two().weight());
+        let ones = usize::from(edge.one().values());
+        let twos = usize::from(edge.two().values());
         // Stays: with the index as `at + y * two + x * one` tables of 16^3 and of 2^12 states take 1.06 times the instructions.
         let mut row = at;
         for y in 0..twos {
@@ -198,21 +198,22 @@ impl<'a, const N: usize> Worklist<'a, N> {
     // The action of edge e is asked about every state from which the edge leads to j.
     pub(crate) fn visit_edge(&mut self, e: usize, j: usize, entry: u16)
         requires { (e < self.old.graph.now.edge_number) × (j < length self.old.entries.now) × (Told self.old.entries.now self.old.ring.now.marks j entry) }
-        ensures { Goes (λ g. Passed g.space g.tests g.edges e j) self.old self.new }
+        ensures { Goes (λ g. Passed g.space g.edges e j) self.old self.new }
     {
         let graph = self.graph;
-        let edge = Edge::read(graph.edges, e);
+        let edges = graph.edges;
+        let edge = edges[e];
         let at = (j + usize::from(edge.back)) % 65536;
         let free = edge.free;
         if free == 0 {
-            if edge.plain {
+            if edge.is_plain() {
                 let entries = &mut *self.entries;
                 let ring = &mut *self.ring;
-                let said = usize::from(entry) + edge.weight as usize;
+                let said = usize::from(entry) + usize::from(edge.weight);
                 if !is_above(entries, at, said) {
                     return;
                 }
-                if edge.end == edge.first + 1 {
+                if edge.is_only() {
                     ask_only(graph, entries, ring, e, j, at);
                     return;
                 }

@@ -8,6 +8,7 @@ ghost use Rattle.tables.specs.Patterned.{states_of};
 ghost use Rattle.tables.specs.Listed.{SplitAt, Roomy, space_in};
 ghost use Rattle.tables.specs.Visits.{RowDone, Visited, GoalsWait, Level};
 
+use crate::proved_worklist::edge::Edge;
 use crate::proved_worklist::edges::{Graph, make_edges};
 use crate::proved_worklist::incoming::{Halves, edges_into, fill_sets, upper_part};
 use crate::proved_worklist::parts::Parts;
@@ -51,8 +52,8 @@ impl<'a, const N: usize> Worklist<'a, N> {
 
     // The edges of a set: of the 64 from 64 * c on.
     fn visit_row(&mut self, j: usize, entry: u16, c: usize, set: u64)
-        requires { (j < length self.old.entries.now) × (Told self.old.entries.now self.old.ring.now.marks j entry) × (Row self.old.graph.now.tests (slice_index self.old.graph.now.space.states j) self.old.graph.now.edge_number c set) × (c ≤ 8) }
-        ensures { Goes (λ g. RowDone g.space g.tests g.edges g.edge_number j c) self.old self.new }
+        requires { (j < length self.old.entries.now) × (Told self.old.entries.now self.old.ring.now.marks j entry) × (Row self.old.graph.now.edges (slice_index self.old.graph.now.space.states j) self.old.graph.now.edge_number c set) × (c ≤ 8) }
+        ensures { Goes (λ g. RowDone g.space g.edges g.edge_number j c) self.old self.new }
     {
         for q in Members(set) {
             self.visit_edge(64 * c + q, j, entry);
@@ -115,25 +116,24 @@ fn settle_started<const N: usize>(graph: &Graph, entries: &mut [u16])
     work.run();
 }
 
-// The arrays that a table takes: for the tests of the edges, for the edges, and for their sets.
+// The arrays that a table takes: for the edges, and for their sets.
 #[derive(Drop)]
 pub(crate) struct Room<'a> {
-    pub(crate) tests: &'a mut [u64],
-    pub(crate) edges: &'a mut [u64],
+    pub(crate) edges: &'a mut [Edge],
     pub(crate) sets: &'a mut [u64],
 }
 
 // The entries of a pattern's states, from the goals on along the edges.
 pub(crate) fn settle<const N: usize>(states: &States, parts: Parts, room: Room, entries: &mut [u16])
-    requires { (length entries.old ≡ states_of states.now.pattern.now) × (SplitAt states.now.pattern.now parts.lower parts.low) × (Roomy states.now.pattern.now room.tests.now room.edges.now room.sets.now) × (length entries.old ≤ N) × (1 ≤ N) × (N ≤ 4096) }
+    requires { (length entries.old ≡ states_of states.now.pattern.now) × (SplitAt states.now.pattern.now parts.lower parts.low) × (Roomy states.now.pattern.now room.edges.now room.sets.now) × (length entries.old ≤ N) × (1 ≤ N) × (N ≤ 4096) }
     ensures { Settled (space_in states.now.pattern.now states.now.weights.now states.now.words.now) (started states.now.pattern.now.task states.now.pattern.now.mask states.now.words.now (length entries.old)) entries.new }
 {
     let pattern = states.pattern;
     let n = entries.len();
-    let Room { tests, edges, sets } = room;
+    let Room { edges, sets } = room;
     let lower = parts.lower;
     let upper = n / lower;
-    let k = make_edges(states, tests, edges);
+    let k = make_edges(states, edges);
     let halves = Halves {
         words: states.words,
         lower,
@@ -141,7 +141,7 @@ pub(crate) fn settle<const N: usize>(states: &States, parts: Parts, room: Room, 
         low: parts.low,
         high: pattern.mask - parts.low,
     };
-    fill_sets(&halves, tests, k, sets);
+    fill_sets(&halves, edges, k, sets);
     start(pattern.task, pattern.mask, states.words, entries);
     let graph = Graph {
         task: pattern.task,
@@ -151,7 +151,6 @@ pub(crate) fn settle<const N: usize>(states: &States, parts: Parts, room: Room, 
         actions: pattern.actions,
         sizes: pattern.sizes,
         n,
-        tests,
         edges,
         k,
         sets,

@@ -13,10 +13,9 @@ settle-requires g c = let p = c.requires in let r = p.1 in (
   p.0,
   c.parts_of-parts.ensures.split,
   record {
-    few = omega (arith, r.tests_room, r.tests_few);
-    tests_room = search rules;
+    few = omega (arith, r.edges_room, r.edges_few);
     edges_room = search rules;
-    sets_room = record { rows = rw (length-replicate {A = ℕ} g.row.SETS 0) (λ some lower d l f u b. r.sets_room.rows some lower d l f u (omega (arith, b, r.tests_room))) };
+    sets_room = record { rows = rw (length-replicate {A = ℕ} g.row.SETS 0) (λ some lower d l f u b. r.sets_room.rows some lower d l f u (omega (arith, b, r.edges_room))) };
   },
   omega (arith, p.0, r.states_room),
   r.states_some,

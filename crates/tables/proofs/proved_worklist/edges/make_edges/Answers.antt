@@ -5,7 +5,7 @@ use Rattle.tables.proofs.proved_worklist.edges.make_edges.Goals as goal
 
 pub put_action-c-requires : goal.put_action-c-requires
 put_action-c-requires c = let p = rw (← c.pattern.view_is) at c.requires in let v = rw (← c.pattern.view_is) at c.loop-m.invariant in let s = c.in-Some.ensures.steps in let k = building_known c.pattern.invariant.readable.actions_few v s.0 in
-    rw (← c.pattern.view_is, s.1) (k.0, omega (arith, k.1, p.0), omega (arith, k.1, v.tests_room), omega (arith, k.1, v.edges_room))
+    rw (← c.pattern.view_is, s.1) (k.0, omega (arith, k.1, p.0), omega (arith, k.1, v.room_there))
 
 pub loop-m-preserved : goal.loop-m-preserved
 loop-m-preserved c = let v = rw (← c.pattern.view_is) at c.loop-m.invariant in let s = c.in-Some.ensures.steps in let e = rw (← c.pattern.view_is, s.1) at c.put_action-c.ensures in

@@ -5,4 +5,4 @@ use Rattle.tables.proofs.Making.{Acting}
 use Rattle.tables.proofs.proved_worklist.edges.put_action.Given as goal
 
 abbrev pub invariant-loop-o : goal.invariant-loop-o
-invariant-loop-o l = let p = l.states.pattern.now in (l.n ≡ outcome_count p.task l.m) × Acting p.task p.mask l.states.weights.now p.sizes l.initial.tests l.initial.edges l.tests l.edges l.first l.m l.o l.e
+invariant-loop-o l = let p = l.states.pattern.now in (l.n ≡ outcome_count p.task l.m) × Acting p.task p.mask l.states.weights.now p.sizes l.initial.edges l.edges l.first l.m l.o l.e

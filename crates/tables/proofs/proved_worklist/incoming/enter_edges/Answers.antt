@@ -6,14 +6,14 @@ use Rattle.tables.proofs.Rowing.{edge_needs}
 use Rattle.tables.proofs.proved_worklist.incoming.enter_edges.Goals as goal
 
 pub loop-q-init : goal.loop-q-init
-loop-q-init c = let a = c.args in slotting_starts (edge_need a.tests.now a.first) 16 a.slots.now (omega arith) c.requires.3
+loop-q-init c = let a = c.args in slotting_starts (edge_need a.edges.now a.first) 16 a.slots.now (omega arith) c.requires.3
 
 pub enter-requires : goal.enter-requires
 enter-requires c = (c.loop-q.invariant.long, omega arith)
 
 pub loop-q-preserved : goal.loop-q-preserved
 loop-q-preserved c = let a = c.args in let l = c.loop-q in
-    slotting_next (edge_need a.tests.now a.first) 16 (omega (arith, c.requires.0, c.loop-q-test.true)) l.invariant c.enter.auto.slots (edge_needs a.tests.now a.first l.q) c.enter.ensures
+    slotting_next (edge_need a.edges.now a.first) 16 (omega (arith, c.requires.0, c.loop-q-test.true)) l.invariant c.enter.auto.slots (edge_needs a.edges.now a.first l.q) c.enter.ensures
 
 pub returns : goal.returns
 returns c = slotted c.args.count c.loop-q.invariant (omega (arith, c.loop-q.auto.q-end)) c.loop-q-test.false

@@ -4,4 +4,4 @@ use Rattle.tables.proofs.SetsFilled.{Slotting}
 use Rattle.tables.proofs.proved_worklist.incoming.enter_edges.Given as goal
 
 abbrev pub invariant-loop-q : goal.invariant-loop-q
-invariant-loop-q l = Slotting (edge_need l.tests l.first) 16 l.slots l.q
+invariant-loop-q l = Slotting (edge_need l.edges l.first) 16 l.slots l.q

@@ -6,5 +6,5 @@ use Rattle.tables.proofs.Rowing.{row_tested}
 use Rattle.tables.proofs.proved_worklist.incoming.tested.Goals as goal
 
 pub returns : goal.returns
-returns c = let a = c.args in row_tested a.tests.now a.word a.k a.c _ _ (omega (arith, c.min-count.ensures)) c.requires.1
-    (c.set_of.ensures (λ q. eqb (bit_and a.word (edge_mask a.tests.now (64 * a.c + q))) (edge_value a.tests.now (64 * a.c + q))) (λ q b l p. search rules))
+returns c = let a = c.args in row_tested a.edges.now a.word a.k a.c _ _ (omega (arith, c.min-count.ensures)) c.requires.1
+    (c.set_of.ensures (λ q. eqb (bit_and a.word (edge_mask a.edges.now (64 * a.c + q))) (edge_value a.edges.now (64 * a.c + q))) (λ q b l p. search rules))

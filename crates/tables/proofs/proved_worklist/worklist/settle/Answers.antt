@@ -9,7 +9,7 @@ pub nonzero_div-upper : goal.nonzero_div-upper
 nonzero_div-upper g c = omega (arith, c.requires.1.lower_some)
 
 pub make_edges-k-requires : goal.make_edges-k-requires
-make_edges-k-requires g c = let r = c.requires.2 in (r.few, r.tests_room, r.edges_room)
+make_edges-k-requires g c = let r = c.requires.2 in (r.few, r.edges_room)
 
 pub overflow_sub-halves : goal.overflow_sub-halves
 overflow_sub-halves g c = let p = rw (← c.pattern.view_is) at c.requires in omega (arith, p.1.inside)

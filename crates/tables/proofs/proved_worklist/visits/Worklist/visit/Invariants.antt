@@ -5,7 +5,7 @@ use Rattle.tables.proofs.Rounds.{RowsGoing}
 use Rattle.tables.proofs.proved_worklist.visits.Worklist.visit.Given as goal
 
 abbrev pub invariant-loop-c : goal.invariant-loop-c
-invariant-loop-c g l = Goes (λ w. RowsGoing w.space w.tests w.edges w.edge_number l.j l.c) l.fn.self l.self × (l.c ≤ 8)
+invariant-loop-c g l = Goes (λ w. RowsGoing w.space w.edges w.edge_number l.j l.c) l.fn.self l.self × (l.c ≤ 8)
 
 abbrev pub decreases-loop-c : goal.decreases-loop-c
 decreases-loop-c g l = 8 - l.c

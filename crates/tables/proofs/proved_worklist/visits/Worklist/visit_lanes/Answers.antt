@@ -22,14 +22,14 @@ pub overflow_add-i : goal.overflow_add-i
 overflow_add-i g c = let p = c.requires in let v = c.loop-x.invariant in let o = c.loop-y.invariant in record { fits = omega (arith, p.3, v.2, o.2, o.3, v.3, c.from-ones.ensures, c.from-twos.ensures) }
 
 pub loop-x-preserved : goal.loop-x-preserved
-loop-x-preserved g c = let p = c.requires in let r = c.read-edge.ensures in let v = c.loop-x.invariant in let o = c.loop-y.invariant in let l = v.0.going.moved.long ∙ o.0.going.moved.long in
-    let a₁ : c.from-one.result ≡ lane_weight (edge_lanes c.graph.inside.edges.now c.args.by.e) = rw r.one at (c.from-one.ensures ∙ c.weight.ensures) in
-    let a₂ : c.from-two.result ≡ lane_weight (lane_after (edge_lanes c.graph.inside.edges.now c.args.by.e)) = rw r.two at (c.from-two.ensures ∙ c.weight-2.ensures) in
+loop-x-preserved g c = let p = c.requires in let v = c.loop-x.invariant in let o = c.loop-y.invariant in let l = v.0.going.moved.long ∙ o.0.going.moved.long in
+    let a₁ : c.from-one.result ≡ lane_weight (edge_lanes c.graph.inside.edges.now c.args.by.e) = rw c.one.ensures at (c.from-one.ensures ∙ c.weight.ensures) in
+    let a₂ : c.from-two.result ≡ lane_weight (lane_after (edge_lanes c.graph.inside.edges.now c.args.by.e)) = rw c.two.ensures at (c.from-two.ensures ∙ c.weight-2.ensures) in
     let q = rw (a₁, o.1, a₂) at v.1 in (
       rw (← c.graph.view_is) (elim c.if-is_above.branch [
         | then-is_above w ↦ let a = rw (← c.graph.view_is, v.5) at w.ask.ensures.0 in rw (w.entries-is, w.ring-is) (cells_next (rw (← c.graph.view_is) at v.0) _ q a.going (λ b f z. a.heard f))
         | else-is_above w ↦ rw (w.entries-is, w.ring-is) (cells_next (rw (← c.graph.view_is) at v.0) _ q (going_none v.0.going.queue)
-            (λ b f z. heard_told _ _ _ _ _ _ _ _ _ (c.graph.invariant.edges_of.weight _ (rw (← c.graph.view_is) at p.0)) (omega (arith, c.from.ensures, r.weight)) (omega (arith, l, p.1)) b (told_moved v.0.going.moved (told_moved o.0.going.moved p.2)) (sym c.is_above.ensures.0 ∙ w.if-is_above.false) c.is_above.ensures.1 z))
+            (λ b f z. heard_told _ _ _ _ _ _ _ _ _ (c.graph.invariant.edges_of.weight _ (rw (← c.graph.view_is) at p.0)) (omega (arith, c.from.ensures, c.from-2.ensures)) (omega (arith, l, p.1)) b (told_moved v.0.going.moved (told_moved o.0.going.moved p.2)) (sym c.is_above.ensures.0 ∙ w.if-is_above.false) c.is_above.ensures.1 z))
       ]),
       omega (arith, v.1),
       omega (arith, v.2, c.from-one.ensures),
@@ -42,11 +42,11 @@ pub overflow_add-row : goal.overflow_add-row
 overflow_add-row g c = let p = c.requires in let o = c.loop-y.invariant in record { fits = omega (arith, p.3, o.2, o.3, c.from-twos.ensures) }
 
 pub loop-y-preserved : goal.loop-y-preserved
-loop-y-preserved g c = let o = c.loop-y.invariant in let v = c.loop-x.invariant in let e = c.loop-x-test.false in let n = rw (c.from-ones.ensures ∙ c.values.ensures, c.read-edge.ensures.one) at e in
+loop-y-preserved g c = let o = c.loop-y.invariant in let v = c.loop-x.invariant in let e = c.loop-x-test.false in let n = rw (c.from-ones.ensures ∙ c.values.ensures, c.one-2.ensures) at e in
     (rw (← c.graph.view_is) (rows_next (rw (← c.graph.view_is) at o.0) (rw (← c.graph.view_is) at v.0) n), omega (arith, o.1), omega (arith, o.2, c.from-two.ensures), omega (arith, c.loop-y-test.true), v.4, v.5)
 
 pub returns : goal.returns
-returns g c = let o = c.loop-y.invariant in let e = c.loop-y-test.false in let n = rw (c.from-twos.ensures ∙ c.values-2.ensures, c.read-edge.ensures.two) at e in
+returns g c = let o = c.loop-y.invariant in let e = c.loop-y-test.false in let n = rw (c.from-twos.ensures ∙ c.values-2.ensures, c.two-2.ensures) at e in
     record {
       same_entries = refl;
       same_ring = refl;

@@ -5,4 +5,4 @@ use Rattle.tables.proofs.Rounds.{RowGoing}
 use Rattle.tables.proofs.proved_worklist.visits.Worklist.visit_row.Given as goal
 
 abbrev pub invariant-loop-q : goal.invariant-loop-q
-invariant-loop-q g l = Goes (λ w. RowGoing w.space w.tests w.edges (get_or w.space.states l.j 0) w.edge_number l.j l.c (l.q-iterator.0)) l.fn.self l.self
+invariant-loop-q g l = Goes (λ w. RowGoing w.space w.edges (get_or w.space.states l.j 0) w.edge_number l.j l.c (l.q-iterator.0)) l.fn.self l.self
