@@ -245,6 +245,10 @@ row_tested es word k c count r e l h = record {
   missed = λ q d f g. Rattle.tables.proofs.Sweeping.false_true (sym f ∙ eq-eqb (bit_and word (edge_mask es (64 * c + q))) (edge_value es (64 * c + q)) g);
 }
 
+-- There are sets.
+pub filled : (sets : List ℕ) → eqb (length sets) 0 ≡ false → length sets ≡ 0 → ⊥
+filled sets e z = Rattle.tables.proofs.Sweeping.false_true (sym e ∙ eq-eqb (length sets) 0 z)
+
 -- The upper part of an index, and where its sets are.
 pub upper_is : (j lower h : ℕ) → h * lower ≤ j → j - h * lower < lower → h ≡ j / lower
 upper_is j lower h a b = let e : j ≡ h * lower + (j - h * lower) = omega arith in sym (ap (λ y. y / lower) e ∙ digits_div h b)

@@ -1,4 +1,5 @@
 // One edge (specs/Edges): the test of a state after it, and the way back to the states before it.
+// Stays: `as` of a part of a word: a word has no `From` into what is narrower, and `try_from` has a case that never happens.
 ghost use Rattle.std.specs.Prelude.{◌≡◌, ◌+◌, ◌≤◌, true};
 ghost use Rattle.tables.specs.Edges.{lane_weight, lane_values, lane_after, lane_sum};
 

@@ -1,5 +1,6 @@
 // The edges of a pattern's abstraction: for each outcome of an action the test of a state after it and the way back to the states before it. Outcomes
 // of one action that do the same within the pattern share an edge.
+// Stays: `as`: a word has no `From` into an index or into what is narrower, and `try_from` has a case that never happens.
 ghost use Rattle.std.specs.Prelude.{◌≡◌, ℕ, ◌+◌, ◌*◌, ◌<◌, ◌≤◌, true, not, length, IfSome, IfNone};
 ghost use Rattle.tables.specs.Packed.{outcome_count};
 ghost use Rattle.tables.specs.Sets.{set_from};
@@ -49,26 +50,26 @@ impl<'a> Model for Graph<'a> {
 
 // A free digit as a lane, and the free digits without it.
 #[derive(Clone, Copy)]
-struct Lane {
+struct FreeLane {
     lane: u64,
     rest: u64,
 }
 
 // A lane of the lowest free digit: its weight, its place in a word and its number of values. Where there is none it has one value, and adds nothing.
-fn lane_of(weights: &[u16; 16], sizes: [u8; 16], free: u64) -> Lane
+fn lane_of(weights: &[u16; 16], sizes: [u8; 16], free: u64) -> FreeLane
     ensures { (LaneOf weights.now sizes free result.lane result.rest) × (result.lane < 4294967296) }
 {
     let u = u64::trailing_zeros(free) as usize / 4 % 16;
     let place = 1u64 << (4 * u);
     if free / place % 16 != 15 {
-        return Lane {
+        return FreeLane {
             lane: 16777216,
             rest: free,
         };
     }
     let lane = u64::from(weights[u]) + 65536 * (4 * u) as u64 + 16777216 * u64::from(sizes[u]);
-    Lane {
-        lane: lane,
+    FreeLane {
+        lane,
         rest: free - 15 * place,
     }
 }

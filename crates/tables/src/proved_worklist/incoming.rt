@@ -1,6 +1,7 @@
 // Which edges lead into a state: the index is split into a lower and an upper part, and for each part and each 64 edges there is one set of
 // edges. The meet of the two sets misses no edge that leads into the state; going along another edge does no harm. A table of few states has
 // no sets, and its edges are tested one by one.
+// Stays: `as` of a digit: a word has no `From` into an index, and `try_from` has a case that never happens.
 ghost use Rattle.std.specs.Prelude.{◌≡◌, ℕ, ◌+◌, ◌-◌, ◌*◌, ◌/◌, ◌<◌, ◌≤◌, min, true, length, slice_index};
 ghost use Rattle.tables.specs.Sets.{SlotsOf};
 ghost use Rattle.tables.specs.Incoming.{Row, Tests, Halved, Incoming, edge_need, digits_meet, PartFilled, EdgeRow};
@@ -41,10 +42,10 @@ fn meet_digits(edges: &EdgeSlots, part: u64, word: u64) -> u64
             return set;
         }
         if rest % 16 != 0 {
-            set = set & (slots[17 * v + (w % 16) as usize] | slots[17 * v + 16]);
+            set &= slots[17 * v + (w % 16) as usize] | slots[17 * v + 16];
         }
-        rest = rest / 16;
-        w = w / 16;
+        rest /= 16;
+        w /= 16;
     }
     set
 }
@@ -89,7 +90,7 @@ pub(crate) fn fill_sets(halves: &Halves, edges: &[Edge], k: usize, sets: &mut [u
     requires { (Tests edges.now k) × (Halved halves.now.words.now halves.now.lower halves.now.upper halves.now.low halves.now.high) × (1 ≤ length sets.old → (c : ℕ) → 64 * c < k → (halves.now.lower + halves.now.upper) * c + halves.now.lower + halves.now.upper ≤ length sets.old) }
     ensures { Incoming halves.now.words.now edges.now (halves.now.upper * halves.now.lower) k halves.now.lower halves.now.upper sets.new }
 {
-    if sets.len() == 0 {
+    if sets.is_empty() {
         return;
     }
     if halves.upper == 0 {
@@ -123,10 +124,8 @@ pub(crate) fn upper_part(j: usize, lower: usize, inverse: usize) -> usize
 {
     let h = j * inverse / 1048576;
     let at = h * lower;
-    if at <= j {
-        if j - at < lower {
-            return h;
-        }
+    if at <= j && j - at < lower {
+        return h;
     }
     j / lower
 }
@@ -138,7 +137,7 @@ pub(crate) fn edges_into(graph: &Graph, j: usize, h: usize, c: usize) -> u64
 {
     let sets = graph.sets;
     let lower = graph.lower;
-    if sets.len() == 0 {
+    if sets.is_empty() {
         return tested(graph.edges, graph.states[j], graph.k, c);
     }
     let base = (lower + graph.upper) * c;

@@ -1,4 +1,5 @@
 // The states before a state: the actions that lead to it are asked about them, and an entry of which an action says less is lowered and waits.
+// Stays: `as`: an index has no `From` into what is narrower, nor a `u32` into an index, and `try_from` has a case that never happens.
 ghost use Rattle.std.specs.Prelude.{◌≡◌, ℕ, ◌+◌, ◌-◌, ◌*◌, ◌<◌, ◌≤◌, true, length, drop, slice_index};
 ghost use Rattle.tables.specs.Steps.{weigh, permitted_at};
 ghost use Rattle.tables.specs.Waiting.{Told};
@@ -21,6 +22,7 @@ pub(crate) struct Worklist<'a, const N: usize> {
 }
 
 // Edge e into state j, whose entry is `entry`, or was so when it was taken.
+// Stays: numbers narrower than an index: with fields of a `usize` there is a gap that is cleared for each edge, and `visit_edge` takes up to 1.18.
 #[derive(Clone, Copy)]
 struct Arrival {
     e: u32,
@@ -28,7 +30,8 @@ struct Arrival {
     entry: u16,
 }
 
-// The index of the digits of a word from v on. It calls itself, since a loop is unrolled and takes the registers of the loops around it.
+// The index of the digits of a word from v on.
+// Stays: it calls itself, since a loop is unrolled and takes the registers of the loops around it.
 fn weigh_from(weights: &[u16; 16], v: usize, s: u64) -> usize
     requires { (v ≤ 16) × (length weights.now ≤ 16) }
     ensures { (result ≡ weigh (drop v weights.now) s) × (result ≤ 983025 * (16 - v)) }
@@ -50,7 +53,7 @@ fn index_after(edges: &[Edge], weights: &[u16; 16], e: usize, i: usize, s: u64) 
     let edge = edges[e];
     let mut free = edge.one().sum(s) + edge.two().sum(s);
     if edge.free != 0 {
-        free = free + weigh_from(weights, 0, s & edge.free);
+        free += weigh_from(weights, 0, s & edge.free);
     }
     (i + 65536 - free % 65536 + 65536 - usize::from(edge.back)) % 65536
 }
@@ -163,7 +166,8 @@ impl<'a, const N: usize> Worklist<'a, N> {
         let two = usize::from(edge.two().weight());
         let ones = usize::from(edge.one().values());
         let twos = usize::from(edge.two().values());
-        // Stays: with the index as `at + y * two + x * one` tables of 16^3 and of 2^12 states take 1.06 times the instructions.
+        // Stays: with the index as `at + y * two + x * one` tables of 16^3 and of 2^12 states take 1.06 times the instructions, and a build may not
+        // become slower.
         let mut row = at;
         for y in 0..twos {
             let mut i = row;
@@ -205,27 +209,18 @@ impl<'a, const N: usize> Worklist<'a, N> {
         let edge = edges[e];
         let at = (j + usize::from(edge.back)) % 65536;
         let free = edge.free;
-        if free == 0 {
-            if edge.is_plain() {
-                let entries = &mut *self.entries;
-                let ring = &mut *self.ring;
-                let said = usize::from(entry) + usize::from(edge.weight);
-                if !is_above(entries, at, said) {
-                    return;
-                }
-                if edge.is_only() {
-                    ask_only(graph, entries, ring, e, j, at);
-                    return;
-                }
-                ask(graph, entries, ring, e, at);
+        if free == 0 && edge.is_plain() {
+            let entries = &mut *self.entries;
+            let ring = &mut *self.ring;
+            let said = usize::from(entry) + usize::from(edge.weight);
+            if !is_above(entries, at, said) {
                 return;
             }
-            let by = Arrival {
-                e: e as u32,
-                j: j as u16,
-                entry,
-            };
-            self.visit_lanes(by, at);
+            if edge.is_only() {
+                ask_only(graph, entries, ring, e, j, at);
+                return;
+            }
+            ask(graph, entries, ring, e, at);
             return;
         }
         let by = Arrival {
@@ -233,6 +228,10 @@ impl<'a, const N: usize> Worklist<'a, N> {
             j: j as u16,
             entry,
         };
+        if free == 0 {
+            self.visit_lanes(by, at);
+            return;
+        }
         self.visit_free(by, 0, free, at);
     }
 }

@@ -85,6 +85,7 @@ impl<'a, const N: usize> Worklist<'a, N> {
         let graph = self.graph;
         let n = graph.n;
         let mut since = 0usize;
+        // Stays: no iterator: the loop goes on while the ring is not empty, and puts states back into it.
         while let Some(j) = self.ring.take() {
             self.visit(j);
             since += 1;

@@ -52,10 +52,10 @@ returns-then-is_plain g c = let n = c.is_plain.ensures c.if-is_plain.true in let
 pub visit_lanes-requires : goal.visit_lanes-requires
 visit_lanes-requires g c = let p = c.requires in (omega (arith, c.args.self.now.ring.now.small), (p.0, p.1, p.2, omega arith))
 
-pub returns-then-free-eq0 : goal.returns-then-free-eq0
+pub returns-then-free-eq0-2 : goal.returns-then-free-eq0-2
 unfolding way_back
-returns-then-free-eq0 g c =
-    goes_as c.visit_lanes.ensures (λ a. rw (← c.graph.view_is) (passed_laned (omega (arith, c.from.ensures)) (c.if-free-eq0.true) (rw (← c.graph.view_is) at a)))
+returns-then-free-eq0-2 g c =
+    goes_as c.visit_lanes.ensures (λ a. rw (← c.graph.view_is) (passed_laned (omega (arith, c.from.ensures)) (c.if-free-eq0-2.true) (rw (← c.graph.view_is) at a)))
 
 pub visit_free-requires : goal.visit_free-requires
 visit_free-requires g c = let p = rw (← c.graph.view_is) at c.requires in
