@@ -2,7 +2,6 @@
 use Rattle.std.proofs.Common.{◌≡◌, ℕ, ◌≤◌, arith}
 use Rattle.tables.specs.Edges.{EdgesOf}
 use Rattle.tables.specs.Graph.{Graphed, Walked}
-use Rattle.tables.specs.declared.proved_worklist.edge.Edge.{Edge}
 
 module _ {g : Graphed} {n : ℕ} (w : Walked g) (e : g.number ≡ n) where
   pub edges_here : EdgesOf g.space g.sizes n g.edges g.edge_number

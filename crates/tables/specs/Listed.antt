@@ -1,5 +1,5 @@
 -- The abstract states of a pattern as they are listed before a worklist goes through them, and the room that it needs. Assumes nothing.
-use Rattle.std.specs.Prelude.{◌≡◌, ℕ, ◌-◌, ◌*◌, ◌/◌, ◌<◌, ◌≤◌, List, ◌++◌, length, take, replicate, slice_index}
+use Rattle.std.specs.Prelude.{◌≡◌, ℕ, ◌-◌, ◌<◌, ◌≤◌, List, ◌++◌, length, take, replicate, slice_index}
 use Rattle.planning.specs.Table.{state_at}
 use Rattle.tables.specs.Packed.{pack_by, low}
 use Rattle.tables.specs.Steps.{weights_from, Space, space}

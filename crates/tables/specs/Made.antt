@@ -1,5 +1,5 @@
 -- What making the edges of a pattern leaves behind: the words of an edge, of the edges of one action, and of all. Assumes nothing.
-use Rattle.std.specs.Prelude.{◌≡◌, ℕ, ◌+◌, ◌-◌, ◌*◌, ◌/◌, ◌%◌, ◌^◌, ◌<◌, ◌≤◌, min, List, length, bit_and, slice_index, slice_index_or}
+use Rattle.std.specs.Prelude.{◌≡◌, ℕ, ◌+◌, ◌-◌, ◌*◌, ◌%◌, ◌^◌, ◌<◌, ◌≤◌, min, List, length, bit_and, slice_index, slice_index_or}
 use Rattle.tables.specs.Packed.{pre_mask, pre_value, outcome_count, action_weight, keep_mask, set_value}
 use Rattle.tables.specs.Steps.{weigh}
 use Rattle.tables.specs.Edges.{edge_at, edge_first, edge_end, named, freed, test_mask, test_value, digit}

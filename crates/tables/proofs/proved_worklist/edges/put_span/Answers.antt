@@ -1,5 +1,5 @@
 -- `put_span`: each edge is told where the edges of its action begin and end. Assumes nothing.
-use Rattle.std.proofs.Common.{◌≡◌, refl, arith, rules}
+use Rattle.std.proofs.Common.{◌≡◌, refl, arith}
 use Rattle.tables.proofs.Making.{spanned_none, spanned_next}
 use Rattle.tables.proofs.proved_worklist.edges.put_span.Goals as goal
 
