@@ -24,7 +24,8 @@ pub(crate) struct Places {
     pub spans: [Option<Span>; 8],
 }
 
-// Stays: `as`: a word has no `From` into a place, and `try_from` has a case that never happens.
+// Stays: `as`: a word has no `From` into a place, and `try_from` has a case that never happens. `tables` has the same line for its sets: as a public
+// function there, with its promise, it would be longer than what it saves here.
 fn lowest_byte(s: u64) -> usize
     ensures { (result ≡ s % 256) × (result < 256) }
 {
@@ -38,8 +39,8 @@ fn from_bit(s: u64, shift: usize) -> u64
     s >> shift
 }
 
-// What the bytes of a word add, from blocks that follow each other. Most patterns have one block: it is read before the loop, which saves the loop's
-// first test and step there.
+// What the bytes of a word add, from blocks that follow each other.
+// Stays: the first block is read before the loop: most patterns have no other, and a loop over all of them takes a test and a step more for each entry.
 fn sum_blocks(sums: &[u16; 4096], at: usize, count: usize, s: u64) -> usize
     requires { (1 ≤ count) × (count ≤ 8) × (at + 256 * count ≤ 4096) }
     ensures { (result ≡ block_sum sums.now at count s) × (result ≤ 65535 * 16) }
@@ -47,8 +48,8 @@ fn sum_blocks(sums: &[u16; 4096], at: usize, count: usize, s: u64) -> usize
     let mut i = usize::from(sums[at + lowest_byte(s)]);
     let mut rest = s / 256;
     for j in 1..count {
-        i = i + usize::from(sums[at + 256 * j + lowest_byte(rest)]);
-        rest = rest / 256;
+        i += usize::from(sums[at + 256 * j + lowest_byte(rest)]);
+        rest /= 256;
     }
     i
 }
@@ -68,7 +69,7 @@ pub(crate) fn index_by_bytes(instance: &Instance, s: u64, p: usize) -> usize
 }
 
 // The entries of a block whose upper digit adds `high`.
-// Stays: by number: `low` is read and `sums` written at one place, and a loop over pairs of a part of `sums` and of `low` is no plainer.
+// Stays: by number: over a `zip` of a part of `sums` with `low` a proof knows no cell of `sums` afterwards.
 fn fill_sums(sums: &mut [u16; 4096], at: usize, low: [u16; 16], high: u16)
     requires { at + 16 ≤ 4096 }
     ensures { SumsFilled low high sums.old sums.new at }

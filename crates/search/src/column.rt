@@ -3,6 +3,8 @@ ghost use Rattle.std.specs.Prelude.{◌≡◌, ℕ, ◌<◌, ◌≤◌, slice_in
 ghost use Rattle.search.specs.Value.{row_entry};
 ghost use Rattle.search.specs.ByteRows.{digit_adds, Weighted};
 
+use std::array;
+
 // The rows in pattern p. That they hold weights is known of every column.
 #[derive(Clone, Copy)]
 pub(crate) struct Column<'a> {
@@ -28,11 +30,7 @@ impl<'a> Column<'a> {
     pub(crate) fn values_of(&self, v: usize) -> [u16; 16]
         ensures { (x : ℕ) → x < 16 → slice_index result x ≡ digit_adds self.now.rows.now self.now.variables self.now.p v x }
     {
-        let mut r = [0u16; 16];
-        for (x, adds) in r.iter_mut().enumerate() {
-            *adds = self.digit_adds(v, x);
-        }
-        r
+        array::from_fn(|x| self.digit_adds(v, x))
     }
 
     // The first variable that adds something, and the place after the last.

@@ -1,6 +1,8 @@
 // The estimate of a packed state from rows: its index in a pattern's table, the entry there, and its value.
 // Stays: `as` of a word and of a table's place into an index: they have no `From` into one, and `try_from` has a case that never happens.
 // Asks for a pattern of the instance; the tables may be any.
+// Stays: `p < instance.guide.patterns`, here and in `byte_rows` and `carried`: each index needs the bound of this one number, and a type for it would
+// be made at every call.
 ghost use Rattle.std.specs.Prelude.{◌≡◌, ◌+◌, ◌*◌, ◌%◌, ◌<◌, ◌≤◌, slice_index, slice_index_or};
 ghost use Rattle.patterns.specs.Value.{value_of};
 ghost use Rattle.search.specs.Value.{packed_index};
@@ -26,13 +28,14 @@ pub(crate) fn index_of(instance: &Instance, s: u64, p: usize) -> usize
     let mut rest = s;
     for v in 0..instance.guide.variables {
         let x = lowest_digit(rest);
-        i = i + usize::from(instance.rows[(16 * v + x) * 8 + p]);
-        rest = rest / 16;
+        i += usize::from(instance.rows[(16 * v + x) * 8 + p]);
+        rest /= 16;
     }
     i
 }
 
 // An entry of the tables; what lies past their end counts as infinite.
+// Stays: `tables` has the same line for its build: as a public function there, with its promise, it would be longer than what it saves here.
 fn entry_at(tables: &[u16], i: usize) -> u16
     ensures { result ≡ slice_index_or tables.now i 65535 }
 {
@@ -57,7 +60,7 @@ pub(crate) fn value_of(instance: &Instance, s: u64) -> Option<u64>
         if e == INFINITE {
             return None;
         }
-        sum = sum + e;
+        sum += e;
     }
     Some(sum)
 }

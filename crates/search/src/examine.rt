@@ -1,6 +1,7 @@
 // Examining a state that opens and examining an action's outcomes call each other, and the depth left falls by the action's weight. What is decided
 // without examining another state is a leaf beside them (`look`), asked before the call. The count of examinations is carried in every ending, and every
 // result is remembered. Asks for what `Examinable` names, of a state that opens for `Openable`, and gives what `Examines` names.
+// Stays: `Examinable` at three functions: it speaks of the memory, which every call changes, so that a type of it would be made anew at every call.
 ghost use Rattle.std.specs.Prelude.{◌≡◌, ◌<◌};
 ghost use Rattle.search.specs.Examination.{plan_size, plan_head, plans_size, plans_head};
 ghost use Rattle.search.specs.Value.{Estimated};
@@ -9,7 +10,7 @@ ghost use Rattle.search.specs.Cycle.{Examinable, Openable, Examines, Glanced};
 
 use crate::buffer::ARRIVED;
 use crate::carried::{rest_of, sum_with};
-use crate::compiled::{is_beyond, is_goal, left_after, outcome_count, successor};
+use crate::compiled::{is_goal, left_after, outcome_count, successor};
 use crate::instance::Instance;
 use crate::memory::{Slot, note, recall};
 use tables::applying::applying;
@@ -118,17 +119,18 @@ fn examine(instance: &Instance, memory: &mut [Slot], v: Visit) -> Ending
 }
 
 // Examines the states after an action's outcomes, in order, up to the first that does not succeed, with the depth that the action leaves. Only a
-// state that opens is a call: most do not. The endings are taken apart in each arm, since a joined one would go through memory. One visit serves the
-// look and the call: a copy for the call, so that `look` reads the other from registers, takes 0.95 to 0.98 of the instructions, and 1.03 to 1.08 of the time.
+// state that opens is a call: most do not.
+// Stays: the endings are taken apart in each arm: a joined one goes through memory, and a search takes 1.03 to 1.15 of the instructions. One visit serves
+// the look and the call: a copy for the call, so that `look` reads the other from registers, takes 0.95 to 0.98 of the instructions, and 1.03 to 1.08 of
+// the time.
 #[cycle(examine_outcomes)]
 fn outcomes(instance: &Instance, memory: &mut [Slot], m: usize, v: Visit) -> Ending
     requires { (Examinable instance.now memory.old v.s v.value v.d v.count) × (m < instance.now.guide.actions) × (v.value < 256) }
     ensures { Examines plans_size plans_head (guided_examination instance.now) instance.now.guide.budget (guided_outcomes instance.now v.d v.s m v.count) v.count memory.new result }
 {
-    if is_beyond(instance.task, m, v.d) {
+    let Some(left) = left_after(instance.task, m, v.d) else {
         return Ending::Failed(v.count);
-    }
-    let left = left_after(instance.task, m, v.d);
+    };
     let rest = rest_of(instance, v.s, m, v.value);
     let mut c = v.count;
     let mut n = 0u32;

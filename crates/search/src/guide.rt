@@ -20,7 +20,8 @@ pub(crate) struct Guide {
     pub budget: u32,
     pub limit: u32,
     // The pattern that each action may move a state in, 8 where there is none.
-    // Stays: 8 stands in a table of bytes that every outcome reads, and `p < patterns` is the one test that an Option would need too.
+    // Stays: 8 and no Option: an owner is tested against the number of patterns before it is an index, and 8 fails that test. An Option would be asked
+    // besides, and say the same.
     pub owners: [u8; 64],
 }
 

@@ -2,11 +2,13 @@
 // and a word: the depth (8 bits), the number of examinations (20), the plan's size (20; 0: it fails) and its first byte.
 // A slot with no examinations holds nothing, and a result that finds its slot taken replaces what is there. Asks for a memory of at least one
 // slot; all slots are used where their number is a power of two.
+// Stays: `as` of a word into a place, and of a part of it into a smaller number: a word has no `From` into either, and `try_from` has a case that never
+// happens. `d < 256`, here, in `written` and in `rounds`: a slot's byte needs the bound of this one number, and a type for it would be made at every call.
 ghost use Rattle.std.specs.Prelude.{◌≡◌, ◌<◌, ◌≤◌, true, length};
 ghost use Rattle.search.specs.Memory.{said, result_word, Recalls, Noted};
 
 // Stays: four numbers in one word: with a field for each a slot is half as large again, and a short search, which fills the small memory once, takes
-// 1.09 of the instructions, one that fills the large one 1.07.
+// 1.09 of the instructions, one that fills the large one 1.07 (a search may not become slower).
 #[derive(Clone, Copy)]
 pub(crate) struct Slot {
     pub state: u64,
@@ -37,16 +39,12 @@ fn slot_of(s: u64, d: u32, slots: usize) -> usize
 }
 
 // What is known of examining state s with depth d, if it takes at most `room` examinations.
-// Stays: `as` of a part of the word: a word has no `From` into what is narrower, and `try_from` has a case that never happens.
 pub(crate) fn recall(memory: &[Slot], s: u64, d: u32, room: u32) -> Option<Recalled>
     requires { 1 ≤ length memory.now }
     ensures { Recalls memory.now s d room result }
 {
     let slot = memory[slot_of(s, d, memory.len())];
-    if slot.state != s {
-        return None;
-    }
-    if slot.word % 256 != u64::from(d) {
+    if slot.state != s || slot.word % 256 != u64::from(d) {
         return None;
     }
     let made = (slot.word / 256 % 1048576) as u32;

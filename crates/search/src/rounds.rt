@@ -1,7 +1,8 @@
 // Rounds of examinations from a state, one more depth each, up to the limit; then the plan that was found is written and the buffer
 // is cleared behind it. The rounds begin with a small memory; where they outgrow it, they go on with a larger one, which begins empty.
 // Asks for a limit whose depths fit the memory.
-// Stays: `Startable` at three functions: it is a fact about an instance and a visit together, and a type of both would be made anew wherever the depth
+// Stays: `as` of a number of 32 bits into a length and of a value into a depth: neither has a `From`, and `try_from` has a case that never happens.
+// `Startable` at three functions: it is a fact about an instance and a visit together, and a type of both would be made anew wherever the depth
 // or the count changes.
 ghost use Rattle.std.specs.Prelude.{◌≡◌, ◌<◌, ◌≤◌, length};
 ghost use Rattle.planning.specs.Search as planning;
@@ -59,7 +60,6 @@ fn found_with(v: Visit, bytes: u32) -> SearchAnswer
 }
 
 // The plan of n bytes that a visit's depth has found with its count: written, if the buffer is long enough.
-// Stays: `as`: a number of 32 bits has no `From` into a length.
 fn tell_found(
     instance: &Instance,
     memory: &mut [Slot],

@@ -45,6 +45,6 @@ pub(crate) fn fill_rows(built: &BuiltTask, rows: &mut [u16; 2048], offsets: &mut
     let mut begin = 0u32;
     for p in 0..pattern_count(built.rec) {
         offsets[usize::from(p)] = begin;
-        begin = begin + u32::from(fill_pattern(built, rows, p));
+        begin += u32::from(fill_pattern(built, rows, p));
     }
 }

@@ -93,20 +93,18 @@ impl<'a> Writer<'a> {
         let start = start_of(instance, memory, s, d);
         put(plan, at, start.first);
         let mut end = at + 1;
-        match action_of(start.first) {
-            None => {
-                return end;
-            }
-            Some(m) => {
-                let left = left_after(instance.task, m, d);
-                for k in 0..outcome_count(instance.task, m) {
-                    let x = successor(instance.task, s, m, k);
-                    end = self.write_plan(x, left, end);
-                }
-                note_passage(self.written, s, d, at, start.size);
-                end
-            }
+        let Some(m) = action_of(start.first) else {
+            return end;
+        };
+        let Some(left) = left_after(instance.task, m, d) else {
+            return end;
+        };
+        for k in 0..outcome_count(instance.task, m) {
+            let x = successor(instance.task, s, m, k);
+            end = self.write_plan(x, left, end);
         }
+        note_passage(self.written, s, d, at, start.size);
+        end
     }
 }
 
