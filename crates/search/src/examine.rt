@@ -10,7 +10,7 @@ ghost use Rattle.search.specs.Cycle.{Examinable, Openable, Examines, Glanced};
 
 use crate::buffer::ARRIVED;
 use crate::carried::{rest_of, sum_with};
-use crate::compiled::{is_goal, left_after, outcome_count, successor};
+use crate::compiled::{is_beyond, is_goal, left_after, outcome_count, successor};
 use crate::instance::Instance;
 use crate::memory::{Slot, note, recall};
 use tables::applying::applying;
@@ -128,18 +128,18 @@ fn outcomes(instance: &Instance, memory: &mut [Slot], m: usize, v: Visit) -> End
     requires { (Examinable instance.now memory.old v.s v.value v.d v.count) × (m < instance.now.guide.actions) × (v.value < 256) }
     ensures { Examines plans_size plans_head (guided_examination instance.now) instance.now.guide.budget (guided_outcomes instance.now v.d v.s m v.count) v.count memory.new result }
 {
-    let Some(left) = left_after(instance.task, m, v.d) else {
+    if is_beyond(instance.task, m, v.d) {
         return Ending::Failed(v.count);
-    };
+    }
+    let left = left_after(instance.task, m, v.d);
     let rest = rest_of(instance, v.s, m, v.value);
     let mut c = v.count;
     let mut n = 0u32;
     for k in 0..outcome_count(instance.task, m) {
         let s = successor(instance.task, v.s, m, k);
-        let value = sum_with(instance, s, m, rest);
         let w = Visit {
             s,
-            value,
+            value: sum_with(instance, s, m, rest),
             d: left,
             count: c,
         };

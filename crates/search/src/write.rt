@@ -96,9 +96,7 @@ impl<'a> Writer<'a> {
         let Some(m) = action_of(start.first) else {
             return end;
         };
-        let Some(left) = left_after(instance.task, m, d) else {
-            return end;
-        };
+        let left = left_after(instance.task, m, d);
         for k in 0..outcome_count(instance.task, m) {
             let x = successor(instance.task, s, m, k);
             end = self.write_plan(x, left, end);

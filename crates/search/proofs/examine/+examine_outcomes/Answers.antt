@@ -2,10 +2,11 @@
 -- actions: those left, from the count so far, are the whole examination (`Examining`). Invariant of the loop over outcomes: the result of the
 -- outcomes left makes that of the whole row (`Following`). Both keep a memory that is true. The depth falls by the action's weight from
 -- `outcomes` to `examine`. Assumes nothing.
-use Rattle.std.proofs.Common.{length, refl, ap, ◌∙◌, arith}
+use Rattle.std.proofs.Common.{length, sym, refl, ap, ◌∙◌, arith, ltb-false, ltb-true}
+use Rattle.tables.specs.Packed.{action_weight}
 use Rattle.search.proofs.Looking.{seen_decided, seen_open}
 use Rattle.search.proofs.Examining.{examining_begins, action_known, action_asks, action_stops, action_fails, win_counted, action_wins, examining_ends, action_refused, following_begins, outcome_examinable, outcome_stops, outcome_fails, outcome_small, outcome_succeeds, following_ends}
-use Rattle.search.proofs.examine.+examine_outcomes.Goals.{outcomes-in-Some-look+in-Succeeded, outcomes-in-None+in-Succeeded-examine}
+use Rattle.search.proofs.examine.+examine_outcomes.Goals.{outcomes-in-Some+in-Succeeded, outcomes-in-None+in-Succeeded-examine}
 use Rattle.search.proofs.examine.+examine_outcomes.Goals as goal
 
 pub examine-loop-m-init : goal.examine-loop-m-init
@@ -48,41 +49,41 @@ examine-note-requires-2 t c = let x = c.requires.examinable in let i = c.loop-m.
 pub examine-returns : goal.examine-returns
 examine-returns t c = examining_ends c.requires c.loop-m.invariant.0 c.in-None.ensures.steps c.note-2.ensures
 
-pub outcomes-returns-in_default : goal.outcomes-returns-in_default
-outcomes-returns-in_default t c = action_refused c.requires (omega (arith, c.in_default.ensures))
+pub outcomes-returns-then-is_beyond : goal.outcomes-returns-then-is_beyond
+outcomes-returns-then-is_beyond t c = action_refused c.requires (ltb-true _ _ (sym c.is_beyond.ensures ∙ c.if-is_beyond.true))
 
 pub outcomes-loop-k-init : goal.outcomes-loop-k-init
-outcomes-loop-k-init t c = (following_begins c.requires c.in-Some.ensures.1 c.outcome_count-k-end.ensures c.in-Some.ensures.0, refl)
+outcomes-loop-k-init t c = (following_begins c.requires c.left_after-left.ensures c.outcome_count-k-end.ensures (ltb-false _ _ (sym c.is_beyond.ensures ∙ c.if-is_beyond.false)), refl)
 
 pub outcomes-look-requires : goal.outcomes-look-requires
-outcomes-look-requires t c = outcome_examinable c.requires c.in-Some.ensures.1 c.outcome_count-k-end.ensures c.loop-k.invariant.0 c.loop-k-test.true c.successor-s.ensures c.rest_of-rest.ensures.0 c.sum_with-value.ensures
+outcomes-look-requires t c = outcome_examinable c.requires c.left_after-left.ensures c.outcome_count-k-end.ensures c.loop-k.invariant.0 c.loop-k-test.true c.successor-s.ensures c.rest_of-rest.ensures.0 c.sum_with.ensures
 
 pub outcomes-returns-in-Stopped : goal.outcomes-returns-in-Stopped
-outcomes-returns-in-Stopped t c = outcome_stops c.requires c.in-Some.ensures.1 c.outcome_count-k-end.ensures c.loop-k.invariant.0 c.loop-k-test.true c.successor-s.ensures (seen_decided (outcome_examinable c.requires c.in-Some.ensures.1 c.outcome_count-k-end.ensures c.loop-k.invariant.0 c.loop-k-test.true c.successor-s.ensures c.rest_of-rest.ensures.0 c.sum_with-value.ensures) c.look.ensures _ c.in-Some-look.is) _ c.in-Stopped.is
+outcomes-returns-in-Stopped t c = outcome_stops c.requires c.left_after-left.ensures c.outcome_count-k-end.ensures c.loop-k.invariant.0 c.loop-k-test.true c.successor-s.ensures (seen_decided (outcome_examinable c.requires c.left_after-left.ensures c.outcome_count-k-end.ensures c.loop-k.invariant.0 c.loop-k-test.true c.successor-s.ensures c.rest_of-rest.ensures.0 c.sum_with.ensures) c.look.ensures _ c.in-Some.is) _ c.in-Stopped.is
 
 pub outcomes-returns-in-Failed : goal.outcomes-returns-in-Failed
-outcomes-returns-in-Failed t c = outcome_fails c.requires c.in-Some.ensures.1 c.outcome_count-k-end.ensures c.loop-k.invariant.0 c.loop-k-test.true c.successor-s.ensures (seen_decided (outcome_examinable c.requires c.in-Some.ensures.1 c.outcome_count-k-end.ensures c.loop-k.invariant.0 c.loop-k-test.true c.successor-s.ensures c.rest_of-rest.ensures.0 c.sum_with-value.ensures) c.look.ensures _ c.in-Some-look.is) _ c.in-Failed.is
+outcomes-returns-in-Failed t c = outcome_fails c.requires c.left_after-left.ensures c.outcome_count-k-end.ensures c.loop-k.invariant.0 c.loop-k-test.true c.successor-s.ensures (seen_decided (outcome_examinable c.requires c.left_after-left.ensures c.outcome_count-k-end.ensures c.loop-k.invariant.0 c.loop-k-test.true c.successor-s.ensures c.rest_of-rest.ensures.0 c.sum_with.ensures) c.look.ensures _ c.in-Some.is) _ c.in-Failed.is
 
 pub outcomes-overflow_add-n : goal.outcomes-overflow_add-n
-outcomes-overflow_add-n t c = omega (arith, outcome_small c.requires c.in-Some.ensures.1 c.outcome_count-k-end.ensures c.loop-k.invariant.0 c.loop-k-test.true c.successor-s.ensures (seen_decided (outcome_examinable c.requires c.in-Some.ensures.1 c.outcome_count-k-end.ensures c.loop-k.invariant.0 c.loop-k-test.true c.successor-s.ensures c.rest_of-rest.ensures.0 c.sum_with-value.ensures) c.look.ensures _ c.in-Some-look.is) _ _ _ c.in-Succeeded.is)
+outcomes-overflow_add-n t c = omega (arith, outcome_small c.requires c.left_after-left.ensures c.outcome_count-k-end.ensures c.loop-k.invariant.0 c.loop-k-test.true c.successor-s.ensures (seen_decided (outcome_examinable c.requires c.left_after-left.ensures c.outcome_count-k-end.ensures c.loop-k.invariant.0 c.loop-k-test.true c.successor-s.ensures c.rest_of-rest.ensures.0 c.sum_with.ensures) c.look.ensures _ c.in-Some.is) _ _ _ c.in-Succeeded.is)
 
 pub outcomes-examine-requires : goal.outcomes-examine-requires
 outcomes-examine-requires t c = let y = c.args in let p = c.requires in
-    (omega (arith, c.in-Some.ensures, y.instance.now.guided.ready.weights y.m p.1, c.decreases), seen_open (outcome_examinable c.requires c.in-Some.ensures.1 c.outcome_count-k-end.ensures c.loop-k.invariant.0 c.loop-k-test.true c.successor-s.ensures c.rest_of-rest.ensures.0 c.sum_with-value.ensures) c.look.ensures c.in-None.is)
+    (omega (arith, c.left_after-left.ensures, y.instance.now.guided.ready.weights y.m p.1, ltb-false y.v.d (action_weight y.instance.now.task.now y.m) (sym c.is_beyond.ensures ∙ c.if-is_beyond.false), c.decreases), seen_open (outcome_examinable c.requires c.left_after-left.ensures c.outcome_count-k-end.ensures c.loop-k.invariant.0 c.loop-k-test.true c.successor-s.ensures c.rest_of-rest.ensures.0 c.sum_with.ensures) c.look.ensures c.in-None.is)
 
 pub outcomes-returns-in-Stopped-examine : goal.outcomes-returns-in-Stopped-examine
-outcomes-returns-in-Stopped-examine t c = outcome_stops c.requires c.in-Some.ensures.1 c.outcome_count-k-end.ensures c.loop-k.invariant.0 c.loop-k-test.true c.successor-s.ensures (c.examine.ensures) _ c.in-Stopped-examine.is
+outcomes-returns-in-Stopped-examine t c = outcome_stops c.requires c.left_after-left.ensures c.outcome_count-k-end.ensures c.loop-k.invariant.0 c.loop-k-test.true c.successor-s.ensures (c.examine.ensures) _ c.in-Stopped-examine.is
 
 pub outcomes-returns-in-Failed-examine : goal.outcomes-returns-in-Failed-examine
-outcomes-returns-in-Failed-examine t c = outcome_fails c.requires c.in-Some.ensures.1 c.outcome_count-k-end.ensures c.loop-k.invariant.0 c.loop-k-test.true c.successor-s.ensures (c.examine.ensures) _ c.in-Failed-examine.is
+outcomes-returns-in-Failed-examine t c = outcome_fails c.requires c.left_after-left.ensures c.outcome_count-k-end.ensures c.loop-k.invariant.0 c.loop-k-test.true c.successor-s.ensures (c.examine.ensures) _ c.in-Failed-examine.is
 
 pub outcomes-overflow_add-n-in-Succeeded-examine : goal.outcomes-overflow_add-n-in-Succeeded-examine
-outcomes-overflow_add-n-in-Succeeded-examine t c = omega (arith, outcome_small c.requires c.in-Some.ensures.1 c.outcome_count-k-end.ensures c.loop-k.invariant.0 c.loop-k-test.true c.successor-s.ensures (c.examine.ensures) _ _ _ c.in-Succeeded-examine.is)
+outcomes-overflow_add-n-in-Succeeded-examine t c = omega (arith, outcome_small c.requires c.left_after-left.ensures c.outcome_count-k-end.ensures c.loop-k.invariant.0 c.loop-k-test.true c.successor-s.ensures (c.examine.ensures) _ _ _ c.in-Succeeded-examine.is)
 
 pub outcomes-loop-k-preserved : goal.outcomes-loop-k-preserved
 outcomes-loop-k-preserved t c = let i = c.loop-k.invariant.1 in elim c.match-look.branch [
-  | outcomes-in-Some-look+in-Succeeded w ↦ (rw (w.memory-is, w.c-is, w.n-is) (outcome_succeeds c.requires c.in-Some.ensures.1 c.outcome_count-k-end.ensures c.loop-k.invariant.0 c.loop-k-test.true c.successor-s.ensures (seen_decided (outcome_examinable c.requires c.in-Some.ensures.1 c.outcome_count-k-end.ensures c.loop-k.invariant.0 c.loop-k-test.true c.successor-s.ensures c.rest_of-rest.ensures.0 c.sum_with-value.ensures) c.look.ensures _ w.in-Some-look.is) _ _ _ w.in-Succeeded.is), ap length w.memory-is ∙ i)
-  | outcomes-in-None+in-Succeeded-examine w ↦ (rw (w.memory-is, w.c-is, w.n-is) (outcome_succeeds c.requires c.in-Some.ensures.1 c.outcome_count-k-end.ensures c.loop-k.invariant.0 c.loop-k-test.true c.successor-s.ensures (w.examine.ensures) _ _ _ w.in-Succeeded-examine.is), ap length w.memory-is ∙ w.examine.auto.memory ∙ i)
+  | outcomes-in-Some+in-Succeeded w ↦ (rw (w.memory-is, w.c-is, w.n-is) (outcome_succeeds c.requires c.left_after-left.ensures c.outcome_count-k-end.ensures c.loop-k.invariant.0 c.loop-k-test.true c.successor-s.ensures (seen_decided (outcome_examinable c.requires c.left_after-left.ensures c.outcome_count-k-end.ensures c.loop-k.invariant.0 c.loop-k-test.true c.successor-s.ensures c.rest_of-rest.ensures.0 c.sum_with.ensures) c.look.ensures _ w.in-Some.is) _ _ _ w.in-Succeeded.is), ap length w.memory-is ∙ i)
+  | outcomes-in-None+in-Succeeded-examine w ↦ (rw (w.memory-is, w.c-is, w.n-is) (outcome_succeeds c.requires c.left_after-left.ensures c.outcome_count-k-end.ensures c.loop-k.invariant.0 c.loop-k-test.true c.successor-s.ensures (w.examine.ensures) _ _ _ w.in-Succeeded-examine.is), ap length w.memory-is ∙ w.examine.auto.memory ∙ i)
 ]
 
 pub outcomes-returns : goal.outcomes-returns

@@ -32,24 +32,21 @@ returns-in_default-action_of t c = record {
   writes = arrived-written c.requires.succeeding c.start_of-start.ensures c.in_default-action_of.ensures c.put.ensures refl c.requires.stands;
 }
 
-pub left_after-requires : goal.left_after-requires
-left_after-requires t c = let x = c.requires.succeeding in let o = c.in-Some-action_of.ensures in let a = acts x c.start_of-start.ensures o.0 o.1 in omega (arith, a.within, c.args.self.now.instance.now.guided.ready.few_actions)
-
-pub returns-in_default-left_after : goal.returns-in_default-left_after
-returns-in_default-left_after t c = let x = c.requires.succeeding in let o = c.in-Some-action_of.ensures in let a = acts x c.start_of-start.ensures o.0 o.1 in absurd (c.in_default-left_after.ensures a.light)
+pub left_after-left-requires : goal.left_after-left-requires
+left_after-left-requires t c = let x = c.requires.succeeding in let o = c.in-Some-action_of.ensures in let a = acts x c.start_of-start.ensures o.0 o.1 in (omega (arith, a.within, c.args.self.now.instance.now.guided.ready.few_actions), a.light)
 
 pub outcome_count-k-end-requires : goal.outcome_count-k-end-requires
 outcome_count-k-end-requires t c = let x = c.requires.succeeding in let o = c.in-Some-action_of.ensures in let a = acts x c.start_of-start.ensures o.0 o.1 in omega (arith, a.within, c.args.self.now.instance.now.guided.ready.few_actions)
 
 pub loop-k-init : goal.loop-k-init
-loop-k-init t c = let o = c.in-Some-action_of.ensures in (underway_begins c.requires c.start_of-start.ensures o.0 o.1 c.in-Some-left_after.ensures.1 c.outcome_count-k-end.ensures c.put.ensures refl, refl, refl, refl, refl)
+loop-k-init t c = let o = c.in-Some-action_of.ensures in (underway_begins c.requires c.start_of-start.ensures o.0 o.1 c.left_after-left.ensures c.outcome_count-k-end.ensures c.put.ensures refl, refl, refl, refl, refl)
 
 pub successor-x-requires : goal.successor-x-requires
 successor-x-requires t c = let x = c.requires.succeeding in let o = c.in-Some-action_of.ensures in let a = acts x c.start_of-start.ensures o.0 o.1 in let n = c.args.self.now.instance.now.guided.ready.few_outcomes _ a.within in
     (omega (arith, a.within, c.args.self.now.instance.now.guided.ready.few_actions), omega (arith, n, c.loop-k-test.true, c.outcome_count-k-end.ensures))
 
 pub write_plan-end-requires : goal.write_plan-end-requires
-write_plan-end-requires t c = let x = c.requires.succeeding in let o = c.in-Some-action_of.ensures in let a = acts x c.start_of-start.ensures o.0 o.1 in let f = c.in-Some-left_after.ensures.1 in
+write_plan-end-requires t c = let x = c.requires.succeeding in let o = c.in-Some-action_of.ensures in let a = acts x c.start_of-start.ensures o.0 o.1 in let f = c.left_after-left.ensures in
     (omega (arith, f, c.args.self.now.instance.now.guided.ready.weights c.in-Some-action_of.m a.within, a.light, c.decreases), rw c.loop-k.invariant.1 (next_writable c.loop-k.invariant.0 c.loop-k-test.true c.successor-x.ensures (omega (arith, x.shallow, f))))
 
 pub loop-k-preserved : goal.loop-k-preserved
