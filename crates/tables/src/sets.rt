@@ -21,6 +21,7 @@ impl Iterator for Members {
             return None;
         }
         self.0 = rest & (rest - 1);
+        // Stays: `as`: a count of bits has no `From` into an index.
         Some((rest.trailing_zeros() % 64) as usize)
     }
 }

@@ -20,6 +20,8 @@ use std::marker::Model;
 
 // The abstract states of a pattern with the edges between them: what the build works on, the edges, and for each state those
 // that lead into it, by the lower and the upper part of its index.
+// Stays: the parts of `States` one by one: behind a `States` that is lent to it the pattern's fields would be those of a struct with an `impl Model` behind
+// a field that is a reference, which the borrow checker does not cover (tried).
 #[derive(Drop)]
 pub(crate) struct Graph<'a> {
     pub(crate) task: &'a [u64; 1282],

@@ -37,6 +37,7 @@ fn digits_below(mask: u64, v: usize) -> u64
     if v >= 16 {
         return mask;
     }
+    // Stays: `as`: an index has no `From` into an exponent.
     mask % 16u64.pow(v as u32)
 }
 
