@@ -71,7 +71,7 @@ pub(crate) fn put_spent(lines: &mut Lines<'_>, round: u64, count: u64)
     lines.put_number_line(b"count=", count)
 }
 
-// Behind a word, how many states were expanded: the lines where the search says no more.
+// Behind a word, the count of examinations: the lines where the search says no more.
 pub(crate) fn put_count(lines: &mut Lines<'_>, word: &[u8], count: u64)
     requires { (lines.old.at ≤ 53) × (length word.now ≤ 32) }
     ensures written { Puts (line word.now ++ number_line (bytes "count=") count) lines.old lines.new }
