@@ -4,6 +4,7 @@
 // slot; all slots are used where their number is a power of two.
 // Stays: `as` of a word into a place, and of a part of it into a smaller number: a word has no `From` into either, and `try_from` has a case that never
 // happens. `d < 256`, here, in `written` and in `rounds`: a slot's byte needs the bound of this one number, and a type for it would be made at every call.
+// `1 ≤ length`, here and in `written`: a struct that lends slots on says in each contract that they are the same ones before and after, which is longer.
 ghost use Rattle.std.specs.Prelude.{◌≡◌, ◌<◌, ◌≤◌, true, length};
 ghost use Rattle.search.specs.Memory.{said, result_word, Recalls, Noted};
 
