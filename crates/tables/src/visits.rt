@@ -13,7 +13,8 @@ fn index_in(place: u32) -> usize {
 }
 
 // The entries; the places of the settled states in their order, and how many there are; and the counters.
-// Stays: the number of settled states beside the queue: there is no heap, and the queue is lent by who knows how many states there are.
+// Stays: the number of settled states beside the queue: there is no heap, and the queue is lent by who knows how many states there are. `offsets`, `place`
+// and `cost` side by side: a struct of them would be made for each state, and say no more.
 // Stays: the simple edges have a loop of their own that is inlined into the queue's, and other edges are visited by calls that take the worklist by
 // value. With one loop over all edges of a borrowed worklist its fields are read again after each store, and the candidate of a table of 4,096 states
 // took 1.05 to 1.6 times the instructions; a build may not become slower.

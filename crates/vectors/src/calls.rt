@@ -55,6 +55,7 @@ impl Lent {
     }
 
     // Offsets and values by turns.
+    // Stays: what a line is written to, its numbers and the room for its bytes are handed to each call side by side, as each has need of them.
     // Stays: `as` at the low byte of a number, since a number has no `From` into a byte, and `try_from` would have a case that never comes.
     fn cells(&mut self, out: &impl Print, numbers: &[usize]) -> io::Result<()> {
         let rec = self.rec.as_mut_slice();

@@ -1,6 +1,7 @@
 // The states that wait, each once: a ring of their numbers, and a mark for each. Put and take promise only that what was put in and not taken
 // out is in; nothing rests on their order.
-// Stays: a ring with its count, in arrays: there is no heap for a `VecDeque`.
+// Stays: a ring with its count, in arrays: there is no heap for a `VecDeque`. `1 ≤ N` and `N ≤ 4096` where one is made: a const parameter has no type
+// that bounds it.
 // Stays: `as` of a number of a state: an index has no `From` into what is narrower, and `try_from` has a case that never happens.
 ghost use Rattle.std.specs.Prelude.{◌≡◌, ◌+◌, ◌-◌, ◌%◌, ◌<◌, ◌≤◌, IfSome, IfNone, length};
 ghost use Rattle.tables.specs.Queue.{Queue, Put, Taken};

@@ -85,6 +85,8 @@ fn offer_along(graph: &Graph, entries: &[u16], marks: &[bool], e: usize, i: usiz
 }
 
 // The action of edge e is asked about state i: its entry falls to what the action says, if that is less, and then the state waits.
+// Stays: over the parts of a worklist, with clauses on their lengths, as `ask_only`: as methods of `Worklist` they read it again after each store, and
+// tables of 16^3 states take 1.06 times the instructions (a build may not become slower).
 fn ask<const N: usize>(graph: &Graph, entries: &mut [u16], ring: &mut Ring<N>, e: usize, i: usize)
     requires { (e < graph.now.edge_number) × (i < length entries.old) × (graph.now.number ≡ length entries.old) × (ring.old.states ≡ length entries.old) }
     ensures { (Asked graph.now.space (edge_action graph.now.edges e) i entries.old ring.old.marks ring.old.count entries.new ring.new.places ring.new.marks ring.old.head ring.new.count) × (ring.new.states ≡ ring.old.states) × (ring.new.head ≡ ring.old.head) }
