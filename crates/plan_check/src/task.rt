@@ -16,9 +16,12 @@ use task_record::sound::SoundRecord;
 const MOST_MOVES: u32 = 32;
 
 // Arrival: no action's number.
+// Stays: the search has this number too: it is a byte of plans, and `task_record`, the crate below both, knows no plans.
 const ARRIVED: u8 = 254;
 
 // A sound record, with the two parts of it that each byte asks for. Clauses see the record's bytes.
+// Stays: the bytes, and no `SoundRecord`, whose fields would be those of a struct with an `impl Model` lent inside another, which the borrow checker does
+// not cover (tried).
 #[derive(Drop)]
 pub(crate) struct Task<'a> {
     pub(crate) rec: &'a [u8],

@@ -12,6 +12,7 @@ use search::entry::{SearchAnswer, search};
 use task_record::layout::RECORD_SIZE;
 
 // The lines of a record.
+// Stays: `lines.at ≡ 0`, here, in `report` and at a start's value: it says where lines begin, and holds of no `Lines` afterwards.
 // Stays: `as` at the plan's length, since a word has no `From` into an index, and `try_from` would have a case that never comes.
 fn report_record(rec: &[u8], tables: &mut [u16], plan: &mut [u8], lines: &mut Lines<'_>)
     requires { lines.old.at ≡ 0 }

@@ -3,7 +3,7 @@
 ghost use Rattle.std.specs.Prelude.{◌≡◌, length, replicate, slice_set};
 
 // The one byte of a goal's plan.
-// Stays: the check of plans has this number too: it stands beside the search, which may not rest on it.
+// Stays: the check of plans has this number too: it is a byte of plans, and `task_record`, the crate below both, knows no plans.
 pub(crate) const ARRIVED: u8 = 254;
 
 // A byte of the buffer that no plan has.

@@ -39,8 +39,8 @@ fn from_bit(s: u64, shift: usize) -> u64
     s >> shift
 }
 
-// What the bytes of a word add, from blocks that follow each other.
-// Stays: the first block is read before the loop: most patterns have no other, and a loop over all of them takes a test and a step more for each entry.
+// What the bytes of a word add, from blocks that follow each other. The first block is read before the loop: most patterns have no other, and a loop over
+// all of them takes a test and a step more for each entry.
 fn sum_blocks(sums: &[u16; 4096], at: usize, count: usize, s: u64) -> usize
     requires { (1 ≤ count) × (count ≤ 8) × (at + 256 * count ≤ 4096) }
     ensures { (result ≡ block_sum sums.now at count s) × (result ≤ 65535 * 16) }

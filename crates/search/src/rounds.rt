@@ -3,7 +3,8 @@
 // Asks for a limit whose depths fit the memory.
 // Stays: `as` of a number of 32 bits into a length and of a value into a depth: neither has a `From`, and `try_from` has a case that never happens.
 // `Startable` at three functions: it is a fact about an instance and a visit together, and a type of both would be made anew wherever the depth
-// or the count changes.
+// or the count changes. The plan's buffer beside an instance and a visit: a struct that lends it on says in each contract that it is the same one before
+// and after, which is longer.
 ghost use Rattle.std.specs.Prelude.{◌≡◌, ◌<◌, ◌≤◌, length};
 ghost use Rattle.planning.specs.Search as planning;
 ghost use Rattle.search.specs.Memory.{Remembers};

@@ -1,5 +1,6 @@
 // All tables of a record: the build, and what a search needs before it starts.
-// Stays: the tables beside a record, with `Fits` on their number, as the entries beside a `Space`.
+// Stays: the tables beside a record, with `Fits` on their number, as the entries beside a `Space`. Each entry stands once for either build, here and in
+// `spread`, since both are called by name.
 ghost use Rattle.std.specs.Prelude.{◌≡◌, ◌+◌, ◌≤◌, ◌++◌, length, take, drop};
 ghost use Rattle.task_record.specs.TaskOf.{task_of, start_of};
 ghost use Rattle.patterns.specs.Answers.{tables_by_lines, estimate_by_lines};

@@ -85,8 +85,8 @@ fn entry_after(x: &Space<'_>, entries: &[u16], m: usize, o: usize, s: u64, guess
 }
 
 // Guesses of the indices to which the outcomes of an action lead.
-// Stays: no closure, since a closure has to take any number. With the place of a step cut to 8 in it, tables of 4,096 states took 1.03 to 1.05 times the
-// instructions; a build may not become slower.
+// Stays: a trait, and no closure. Where a closure takes any number, and cuts the place of a step to 8, tables of 4,096 states took 1.03 to 1.05 times the
+// instructions; a build may not become slower. Where it has a clause, `worst_entry` has that clause as a premise; the trait says it once, at its method.
 pub(crate) trait Guess {
     fn index_after(&self, o: usize) -> usize
         requires { o < 8 };

@@ -25,7 +25,8 @@ fn strange(x: u8) -> u8
 }
 
 // Whether every cell is a value or 255. It does not stop at a fault, so that it becomes one vector compare.
-// Stays: a loop, and no `all`, which stops at the first fault.
+// Stays: a loop, and no `all`, which stops at the first fault; `faultless` of task_record asks that its test can be called, and a public function asks
+// nothing of its callers.
 fn all_plain(cells: &[u8]) -> bool
     requires { length cells.now ≡ 16 }
     ensures { result ≡ all_below (λ i. plain_cell (slice_index cells.now i)) 16 }

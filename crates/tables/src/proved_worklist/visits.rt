@@ -30,8 +30,7 @@ struct Arrival {
     entry: u16,
 }
 
-// The index of the digits of a word from v on.
-// Stays: it calls itself, since a loop is unrolled and takes the registers of the loops around it.
+// The index of the digits of a word from v on. It calls itself, since a loop is unrolled and takes the registers of the loops around it.
 fn weigh_from(weights: &[u16; 16], v: usize, s: u64) -> usize
     requires { (v ≤ 16) × (length weights.now ≤ 16) }
     ensures { (result ≡ weigh (drop v weights.now) s) × (result ≤ 983025 * (16 - v)) }
@@ -86,7 +85,8 @@ fn offer_along(graph: &Graph, entries: &[u16], marks: &[bool], e: usize, i: usiz
 
 // The action of edge e is asked about state i: its entry falls to what the action says, if that is less, and then the state waits.
 // Stays: over the parts of a worklist, with clauses on their lengths, as `ask_only`: as methods of `Worklist` they read it again after each store, and
-// tables of 16^3 states take 1.06 times the instructions (a build may not become slower).
+// tables of 16^3 states take 1.06 times the instructions, and it may not take more than the candidate's worklist, whose place it is to take. The bounds of
+// e, i and j, here and below, are each of a single number that an index needs.
 fn ask<const N: usize>(graph: &Graph, entries: &mut [u16], ring: &mut Ring<N>, e: usize, i: usize)
     requires { (e < graph.now.edge_number) × (i < length entries.old) × (graph.now.number ≡ length entries.old) × (ring.old.states ≡ length entries.old) }
     ensures { (Asked graph.now.space (edge_action graph.now.edges e) i entries.old ring.old.marks ring.old.count entries.new ring.new.places ring.new.marks ring.old.head ring.new.count) × (ring.new.states ≡ ring.old.states) × (ring.new.head ≡ ring.old.head) }
@@ -168,8 +168,8 @@ impl<'a, const N: usize> Worklist<'a, N> {
         let two = usize::from(edge.two().weight());
         let ones = usize::from(edge.one().values());
         let twos = usize::from(edge.two().values());
-        // Stays: with the index as `at + y * two + x * one` tables of 16^3 and of 2^12 states take 1.06 times the instructions, and a build may not
-        // become slower.
+        // Stays: with the index as `at + y * two + x * one` tables of 16^3 and of 2^12 states take 1.06 times the instructions, and it may not take
+        // more than the candidate's worklist, whose place it is to take.
         let mut row = at;
         for y in 0..twos {
             let mut i = row;
