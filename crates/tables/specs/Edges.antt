@@ -69,6 +69,14 @@ lane_after lanes = lanes / 4294967296
 unfoldable pub way_back : List Edge → ℕ → ℕ → ℕ
 way_back es e j = (j + edge_back es e) % 65536
 
+-- Edge e is the only one of its action and leaves no digit free, and state i is the one that it leads from to j.
+pub record Only (es : List Edge) (e i j : ℕ) : Type 0 where
+  pub one : lane_weight (edge_lanes es e) ≡ 0
+  pub two : lane_weight (lane_after (edge_lanes es e)) ≡ 0
+  pub free : edge_free es e ≡ 0
+  pub back : i ≡ way_back es e j
+  pub alone : edge_end es e ≡ edge_first es e + 1
+
 -- Edge e leads from state i to state j: j passes the test, and i comes from j by the way back and the free digits of i.
 pub record Before (x : Space) (es : List Edge) (e i j : ℕ) : Type 0 where
   pub near : j < 65536

@@ -3,7 +3,7 @@
 ghost use Rattle.std.specs.Prelude.{◌≡◌, ℕ, ◌+◌, ◌-◌, ◌*◌, ◌<◌, ◌≤◌, true, length, drop, slice_index};
 ghost use Rattle.tables.specs.Steps.{weigh, permitted_at};
 ghost use Rattle.tables.specs.Waiting.{Told};
-ghost use Rattle.tables.specs.Edges.{edge_action, edge_lanes, edge_free, edge_first, edge_end, lane_weight, lane_after, way_back, Choices};
+ghost use Rattle.tables.specs.Edges.{edge_action, Only, Choices};
 ghost use Rattle.tables.specs.Visits.{above, way_forward, Offered, Asked, Laned, Freed, Passed};
 
 use crate::proved_worklist::edge::Edge;
@@ -114,7 +114,7 @@ fn ask_only<const N: usize>(
     j: usize,
     i: usize,
 )
-    requires { (e < graph.now.edge_number) × (i < length entries.old) × (graph.now.number ≡ length entries.old) × (ring.old.states ≡ length entries.old) × (j < length entries.old) × (lane_weight (edge_lanes graph.now.edges e) ≡ 0) × (lane_weight (lane_after (edge_lanes graph.now.edges e)) ≡ 0) × (edge_free graph.now.edges e ≡ 0) × (i ≡ way_back graph.now.edges e j) × (edge_end graph.now.edges e ≡ edge_first graph.now.edges e + 1) }
+    requires { (e < graph.now.edge_number) × (i < length entries.old) × (graph.now.number ≡ length entries.old) × (ring.old.states ≡ length entries.old) × (j < length entries.old) × (Only graph.now.edges e i j) }
     ensures { (Asked graph.now.space (edge_action graph.now.edges e) i entries.old ring.old.marks ring.old.count entries.new ring.new.places ring.new.marks ring.old.head ring.new.count) × (ring.new.states ≡ ring.old.states) × (ring.new.head ≡ ring.old.head) }
 {
     let states = graph.states;

@@ -22,7 +22,7 @@ returns-then-not-is_above g c = let w = c.args.self.now in let p = rw (← c.gra
 pub ask_only-requires : goal.ask_only-requires
 unfolding way_back
 ask_only-requires g c = let w = c.args.self.now in let p = rw (← c.graph.view_is) at c.requires in let n = c.is_plain.ensures c.if-is_plain.true in
-    rw (← c.graph.view_is) (omega (arith, w.ring.now.small), (p.0, above_inside _ _ _ (sym c.is_above.ensures.0 ∙ c.if-not-is_above.false), rw (← c.graph.view_is) at w.all, w.places, p.1, n.0, n.1, c.if-free-eq0.true, omega (arith, c.from.ensures), c.is_only.ensures c.if-is_only.true))
+    rw (← c.graph.view_is) (omega (arith, w.ring.now.small), (p.0, above_inside _ _ _ (sym c.is_above.ensures.0 ∙ c.if-not-is_above.false), rw (← c.graph.view_is) at w.all, w.places, p.1, record { one = n.0; two = n.1; free = c.if-free-eq0.true; back = omega (arith, c.from.ensures); alone = c.is_only.ensures c.if-is_only.true }))
 
 pub returns-then-is_only : goal.returns-then-is_only
 unfolding way_back
