@@ -1,12 +1,12 @@
 -- Sets of patterns as numbers, gathered by `|`: the set of what was seen, and what is left, are the whole. Assumes nothing.
-use mathlib.Core.Path.{◌≡◌, refl, sym, ap, ap₂, ◌∙◌}
+use mathlib.Core.Path.{◌≡◌, refl, sym, ◌∙◌}
 use mathlib.Core.Bool.{Bool, true, false, not, ◌&&◌, ◌||◌, cond}
 use Prim.Native.Nat.{ℕ, zero, suc, ◌+◌, ◌*◌, ◌-◌, ◌/◌, ◌%◌, ◌≤◌, ◌<◌, ◌^◌}
 use native.Mathlib.Nat.{pow-le-pow_right}
 use native.Mathlib.Omega.{arith}
 use lib.Bits.{bit_or, or_block}
 use lib.Dec.{eqb}
-use Rattle.planning.proofs.Test.{by_test, or-false}
+use Rattle.planning.proofs.Test.{by_test}
 use Rattle.patterns.specs.Sets.{set_from}
 
 digit_or : (a b : Bool) → bit_or (cond a 1 0) (cond b 1 0) ≡ cond (a || b) 1 0
@@ -76,28 +76,3 @@ set-named f y n = by_test (eqb y 255)
     and-true : (a : Bool) → (a && true) ≡ a
     and-true true = refl
     and-true false = refl
-
--- What was seen so far makes the set; with what is left it is the target.
-pub record Gathering (n : ℕ) (target left : ℕ → Bool) (set : ℕ) : Type 0 where
-  pub seen : ℕ → Bool
-  pub gathered : set ≡ set_from seen 0 n
-  pub whole : (p : ℕ) → p < n → target p ≡ (seen p || left p)
-
-or_assoc : (a b c : Bool) → (a || (b || c)) ≡ ((a || b) || c)
-or_assoc true b c = refl
-or_assoc false b c = refl
-
-module _ (n : ℕ) (target : ℕ → Bool) where
-  pub gather_start : Gathering n target target 0
-  gather_start = record { seen = λ p. false; gathered = sym (set_none 0 n); whole = λ p l. refl }
-
-  module _ (left : ℕ → Bool) (set : ℕ) (g : Gathering n target left set) where
-    pub gather_more : (more rest : ℕ → Bool) (x : ℕ) → x ≡ set_from more 0 n → ((p : ℕ) → p < n → left p ≡ (more p || rest p)) → Gathering n target rest (bit_or set x)
-    gather_more more rest x e h = record {
-      seen = λ p. g.seen p || more p;
-      gathered = ap₂ bit_or g.gathered e ∙ set_or g.seen more 0 n;
-      whole = λ p l. g.whole p l ∙ ap (λ b. g.seen p || b) (h p l) ∙ or_assoc (g.seen p) (more p) (rest p);
-    }
-
-    pub gather_done : ((p : ℕ) → p < n → left p ≡ false) → set ≡ set_from target 0 n
-    gather_done h = g.gathered ∙ sym (set_ext target g.seen 0 n (λ i l. let k : i < n = omega arith in g.whole i k ∙ ap (λ b. g.seen i || b) (h i k) ∙ or-false (g.seen i)))

@@ -1,7 +1,6 @@
 -- A set that has at most one pattern, as the code tests it: nothing is left of it when its lowest member is taken out. Where the patterns that
--- an action affects are such a set, for every action, the verdict is yes. Assumes nothing.
+-- an action affects are such a set, the next action decides. Assumes nothing.
 use mathlib.Core.Path.{◌≡◌, refl, sym, ap, ◌∙◌}
-use mathlib.Core.Bool.{Bool, true, false}
 use mathlib.Core.List.{List, [], ◌∷◌}
 use Prim.Native.Nat.{ℕ, zero, suc, ◌+◌, ◌-◌, ◌*◌, ◌≤◌, ◌<◌}
 use native.Mathlib.Nat.{pow-le-pow_right}
@@ -13,7 +12,7 @@ use Rattle.planning.specs.Pattern.{additive, verdict}
 use Rattle.planning.proofs.Test.{by_test}
 use Rattle.task_record.specs.Numbers.{action_count, pattern_count}
 use Rattle.task_record.specs.TaskOf.{task_of, patterns_of}
-use Rattle.patterns.specs.Sets.{set_from, Lone, Covers}
+use Rattle.patterns.specs.Sets.{set_from, Lone}
 use Rattle.patterns.proofs.Affected.{verdict-at_start}
 use Rattle.patterns.proofs.Gathering.{set_below}
 use Rattle.patterns.proofs.Reading.{affects_at, affected_from, verdict_from, patterns_passed, pattern_spared, pattern_affected, actions_passed, no_pattern, one_pattern}
@@ -44,59 +43,40 @@ lone_with t h =
     let q : bit_and t t * 2 + 0 ≡ 0 = sym b ∙ rw e at h in
     omega arith
 
--- A set g of at least the affected patterns.
-module _ (r : List ℕ) (m : ℕ) (g : ℕ → Bool) (covers : (p : ℕ) → p < pattern_count r → affects_at r m p ≡ true → g p ≡ true) where
-  spared : (p : ℕ) → p < pattern_count r → g p ≡ false → affects_at r m p ≡ false
-  spared p l e =
-      by_test (affects_at r m p)
-      (λ t. let h = sym e ∙ covers p l t in let z : ◌≡◌ {A = ℕ} 0 1 = cc in absurd (omega arith))
-      (λ t. t)
-
-  none_in : (n k : ℕ) → k + n ≡ pattern_count r → set_from g k n ≡ 0 → affected_from r m k ≡ []
+-- The patterns that action m affects.
+module _ (r : List ℕ) (m : ℕ) where
+  none_in : (n k : ℕ) → k + n ≡ pattern_count r → set_from (affects_at r m) k n ≡ 0 → affected_from r m k ≡ []
   unfolding set_from
   none_in zero k e h = patterns_passed r m k (omega arith)
   none_in (suc n) k e h =
-      by_test (g k)
+      by_test (affects_at r m k)
       (λ t. let f = rw t at h in absurd (omega arith))
-      (λ t. let f = rw t at h in pattern_spared r m k (omega arith) (spared k (omega arith) t) ∙ none_in n (k + 1) (omega arith) (omega arith))
+      (λ t. let f = rw t at h in pattern_spared r m k (omega arith) t ∙ none_in n (k + 1) (omega arith) (omega arith))
 
-  -- The affected patterns are none, or one.
-  at_most_one : {C : Type 0} (n k : ℕ) → k + n ≡ pattern_count r → Lone (set_from g k n)
+  -- They are none, or one.
+  at_most_one : {C : Type 0} (n k : ℕ) → k + n ≡ pattern_count r → Lone (set_from (affects_at r m) k n)
       → (affected_from r m k ≡ [] → C) → ((p : ℕ) → affected_from r m k ≡ p ∷ [] → C) → C
   unfolding set_from
   at_most_one zero k e h none one = none (patterns_passed r m k (omega arith))
   at_most_one (suc n) k e h none one =
-      by_test (g k)
-      (λ t.
-      let q = none_in n (k + 1) (omega arith) (lone_with (set_from g (k + 1) n) (rw t at h)) in
       by_test (affects_at r m k)
-      (λ w. one k (pattern_affected r m k (omega arith) w ∙ ap (λ (l : List ℕ). k ∷ l) q))
-      (λ w. none (pattern_spared r m k (omega arith) w ∙ q)))
+      (λ t. one k (pattern_affected r m k (omega arith) t ∙ ap (λ (l : List ℕ). k ∷ l) (none_in n (k + 1) (omega arith) (lone_with (set_from (affects_at r m) (k + 1) n) (rw t at h)))))
       (λ t.
-      let s = pattern_spared r m k (omega arith) (spared k (omega arith) t) in
-      at_most_one n (k + 1) (omega arith) (lone_without (set_from g (k + 1) n) (rw t at h)) (λ q. none (s ∙ q)) (λ p q. one p (s ∙ q)))
+      let s = pattern_spared r m k (omega arith) t in
+      at_most_one n (k + 1) (omega arith) (lone_without (set_from (affects_at r m) (k + 1) n) (rw t at h)) (λ q. none (s ∙ q)) (λ p q. one p (s ∙ q)))
 
--- Action m affects at most one pattern.
-abbrev pub Alone : List ℕ → ℕ → Type 0
-Alone r m = verdict_from r m ≡ verdict_from r (m + 1)
-
-pub alone : (r : List ℕ) (m set : ℕ) → m < action_count r → Covers (pattern_count r) (affects_at r m) set → Lone set → Alone r m
-alone r m set l c h =
-    at_most_one r m c.other c.covers (pattern_count r) 0 (omega arith) (rw c.made at h)
-    (λ q. no_pattern r m l q)
-    (λ p q. one_pattern r m l p q)
+-- An action that affects at most one pattern makes no conflict.
+pub alone : (r : List ℕ) (m set : ℕ) → m < action_count r → set ≡ set_from (affects_at r m) 0 (pattern_count r) → Lone set → verdict_from r m ≡ verdict_from r (m + 1)
+alone r m set l e h = at_most_one r m (pattern_count r) 0 (omega arith) (rw e at h) (λ q. no_pattern r m l q) (λ p q. one_pattern r m l p q)
 
 -- One pattern can only be affected alone.
-pub alone_few : (r : List ℕ) (m : ℕ) → m < action_count r → pattern_count r < 2 → Alone r m
-alone_few r m h l =
-    let s = set_from (affects_at r m) 0 (pattern_count r) in
-    let b = set_below (affects_at r m) 0 (pattern_count r) (omega arith) in
-    let p = pow-le-pow_right {n = 2} (omega arith) {i = pattern_count r} {j = 1} (omega arith) in
-    alone r m s h (record { other = affects_at r m; made = refl; covers = λ p l e. e }) (lone_small s (omega arith))
-
-pub all_alone : (r : List ℕ) → ((m : ℕ) → m < action_count r → Alone r m) → verdict (task_of r) (patterns_of r) ≡ additive
-all_alone r each = verdict-at_start (task_of r) (patterns_of r) ∙ from (action_count r) 0 (omega arith)
+pub few_additive : (r : List ℕ) → pattern_count r < 2 → verdict (task_of r) (patterns_of r) ≡ additive
+few_additive r l = verdict-at_start (task_of r) (patterns_of r) ∙ from (action_count r) 0 (omega arith)
   where
+    small : (m : ℕ) → set_from (affects_at r m) 0 (pattern_count r) ≤ 1
+    small m = let b = set_below (affects_at r m) 0 (pattern_count r) (omega arith) in
+        let p = pow-le-pow_right {n = 2} (omega arith) {i = pattern_count r} {j = 1} (omega arith) in omega arith
+
     from : (n m : ℕ) → m + n ≡ action_count r → verdict_from r m ≡ additive
     from zero m e = actions_passed r m (omega arith)
-    from (suc n) m e = each m (omega arith) ∙ from n (m + 1) (omega arith)
+    from (suc n) m e = alone r m _ (omega arith) refl (lone_small _ (small m)) ∙ from n (m + 1) (omega arith)

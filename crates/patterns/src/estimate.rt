@@ -4,7 +4,7 @@ ghost use Rattle.patterns.specs.Estimate.{judge_estimate, estimate_check};
 ghost use Rattle.patterns.specs.Answers.{estimate_numbers, estimate_by_lines};
 
 use crate::space::judge_tables;
-use crate::verdict::decide;
+use crate::verdict::first_conflict;
 use task_record::refusal::Refusal;
 use task_record::sound::SoundRecord;
 
@@ -13,7 +13,7 @@ pub(crate) fn judge_estimate(record: &SoundRecord, lent: usize) -> Result<(), Re
     ensures { result ≡ judge_estimate record.now lent }
 {
     judge_tables(record, lent)?;
-    match decide(record) {
+    match first_conflict(record) {
         None => Ok(()),
         Some(found) => Err(Refusal::NotAdditive(found.action)),
     }

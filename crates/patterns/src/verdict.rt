@@ -1,17 +1,15 @@
 // The additivity verdict: whether each action affects at most one pattern.
 ghost use Rattle.std.specs.Prelude.{◌≡◌, ℕ, ◌+◌, ◌*◌, ◌≤◌, ◌<◌, true, cond, eqb, length, get_or};
-ghost use Rattle.planning.specs.Pattern.{affects, affects_pattern, additive, verdict};
-ghost use Rattle.task_record.specs.Layout.{at_pattern, at_outcome};
-ghost use Rattle.task_record.specs.Numbers.{action_count, pattern_count, outcome_count};
+ghost use Rattle.planning.specs.Pattern.{affects_pattern, verdict};
+ghost use Rattle.task_record.specs.Layout.{at_pattern};
+ghost use Rattle.task_record.specs.Numbers.{action_count, pattern_count};
 ghost use Rattle.task_record.specs.TaskOf.{cells_at, action_of, task_of, patterns_of};
-ghost use Rattle.patterns.specs.Sets.{set_from, Lone, Covers};
+ghost use Rattle.patterns.specs.Sets.{set_from, Lone};
 ghost use Rattle.patterns.specs.Additivity.{additivity_of, additivity};
 ghost use Rattle.patterns.specs.Answers.{additivity_numbers, additivity_by_lines};
 
 use std::marker::Model;
-use task_record::cells::{
-    action_count, outcome_cells, outcome_count, pattern_cells, pattern_count,
-};
+use task_record::cells::{action_count, pattern_cells, pattern_count};
 use task_record::layout::{UNNAMED, at_outcome};
 use task_record::refusal::Refusal;
 use task_record::sound::SoundRecord;
@@ -31,12 +29,13 @@ fn named(cell: u8, set: u8) -> u8
     if cell == UNNAMED { 0 } else { set }
 }
 
-// What the outcomes of an action have in common at the cells of a variable, the first at offset `at`: less than 255 where one of them names it.
+// What the outcomes of an action have in common at the cells of a variable, the first at offset `at`: 255 where none of them names it.
 // All eight rows are read, since those that are not used name nothing.
 // Stays: a `for` over numbers, since the cells stand 16 apart: `rec[at..].iter().step_by(16).take(8)` says no more than the offset does.
 fn common_cell(rec: &[u8], at: usize) -> u8
     requires { (at + 112 < length rec.now) × (at ≤ 65536) }
     ensures low { (k : ℕ) → k < 8 → result ≤ get_or rec.now (at + 16 * k) 0 }
+    ensures unnamed { ((k : ℕ) → k < 8 → get_or rec.now (at + 16 * k) 0 ≡ 255) → result ≡ 255 }
     ensures bytes { (k : ℕ) → get_or rec.now k 0 ≤ 255 }
 {
     let mut low = UNNAMED;
@@ -46,6 +45,7 @@ fn common_cell(rec: &[u8], at: usize) -> u8
     low
 }
 
+// Whether a set has at most one pattern.
 #[tactic(auto, unfolding(crate::specs::Sets::Lone))]
 fn is_lone(set: u8) -> bool
     ensures { result ≡ true → Lone set }
@@ -91,71 +91,37 @@ impl<'a> Members<'a> {
         }
     }
 
-    // The patterns that an outcome affects: those of the variables that it names, all sixteen cells at once.
-    // Stays: the bound of m as a clause, here and below: the index needs it, and a type for it would be made of the number at every call.
-    fn outcome_set(&self, m: u8, k: u8) -> u8
-        requires { (m < action_count self.now) × (k < outcome_count self.now m) }
-        ensures { result ≡ set_from (λ p. affects (cells_at self.now (at_pattern p)) (cells_at self.now (at_outcome m k))) 0 (pattern_count self.now) }
-    {
-        let cells = outcome_cells(self.rec, m, k);
-        let mut affected = 0u8;
-        for (v, set) in self.sets.iter().enumerate() {
-            affected |= named(cells[v], *set);
-        }
-        affected
-    }
-
+    // The patterns that an action affects: those of the variables that an outcome names, all sixteen variables at once.
+    // Stays: the bound of m as a clause: the index needs it, and a type for it would be made of the number at every call.
     fn affected_set(&self, m: u8) -> u8
         requires { m < action_count self.now }
         ensures { result ≡ set_from (λ p. affects_pattern (action_of self.now m) (cells_at self.now (at_pattern p))) 0 (pattern_count self.now) }
     {
+        let at = at_outcome(m, 0);
         let mut affected = 0u8;
-        for k in 0..outcome_count(self.rec, m) {
-            affected |= self.outcome_set(m, k);
+        for (v, set) in self.sets.iter().enumerate() {
+            affected |= named(common_cell(self.rec, at + v), *set);
         }
         affected
     }
 
-    // The patterns that an action may affect, all sixteen variables at once.
-    fn touched_set(&self, m: u8) -> u8
-        requires { m < action_count self.now }
-        ensures { Covers (pattern_count self.now) (λ p. affects_pattern (action_of self.now m) (cells_at self.now (at_pattern p))) result }
-    {
-        let at = at_outcome(m, 0);
-        let mut touched = 0u8;
-        for (v, set) in self.sets.iter().enumerate() {
-            touched |= named(common_cell(self.rec, at + v), *set);
-        }
-        touched
-    }
-
-    // Whether each action affects at most one pattern, without the numbers of a conflict.
-    // Stays: by `all` over the actions the value of a state takes 1.04 to 1.09 of the time where there are 64 of them, and it may not become slower.
-    fn is_additive(&self) -> bool
-        ensures { result ≡ true → verdict (task_of self.now) (patterns_of self.now) ≡ additive }
-    {
-        if pattern_count(self.rec) < 2 {
-            return true;
-        }
-        for m in 0..action_count(self.rec) {
-            if !is_lone(self.touched_set(m)) {
-                return false;
-            }
-        }
-        true
-    }
-
-    // The affected patterns of an action are found once; `left` holds those from the current pattern on. After the first that is affected the
-    // next one makes the conflict, and where there is none there is no other pair.
+    // The lowest conflict. The affected patterns of an action are found once; `left` holds those from the current pattern on. After the first that is
+    // affected the next one makes the conflict, and where there is none there is no other pair.
     // Stays: the form that document 01 names: "Loops over moves and pattern pairs left by a label at the first conflicting move".
     fn scan(&self) -> Option<Conflict>
         ensures { result ≡ additivity_of (verdict (task_of self.now) (patterns_of self.now)) }
     {
         let actions = action_count(self.rec);
         let patterns = pattern_count(self.rec);
+        if patterns < 2 {
+            return None;
+        }
         let mut found = None;
         'actions: for m in 0..actions {
             let mut left = self.affected_set(m);
+            if is_lone(left) {
+                continue;
+            }
             for p in 0..patterns {
                 if left % 2 == 1 {
                     for q in p + 1..patterns {
@@ -178,24 +144,19 @@ impl<'a> Members<'a> {
     }
 }
 
-// The first conflict, scanned for only where there is one.
-#[tactic(auto, unfolding(crate::specs::Additivity::additivity_of))]
-pub(crate) fn decide(record: &SoundRecord) -> Option<Conflict>
+// The first conflict of a record's patterns, or none where they are additive.
+pub(crate) fn first_conflict(record: &SoundRecord) -> Option<Conflict>
     ensures { result ≡ additivity_of (verdict (task_of record.now) (patterns_of record.now)) }
 {
-    let members = Members::of(record);
-    if members.is_additive() {
-        return None;
-    }
-    members.scan()
+    Members::of(record).scan()
 }
 
-// The first conflict of the task's patterns, or none where they are additive.
+// The verdict on the patterns of a record that was not checked yet.
 #[tactic(auto, using(crate::proofs::ByLines::additivity_told))]
 pub fn additive(rec: &[u8]) -> Result<Option<Conflict>, Refusal>
     ensures value { result ≡ additivity rec.now }
     ensures numbers { additivity_numbers result ≡ additivity_by_lines rec.now }
 {
     let record = SoundRecord::new(rec)?;
-    Ok(Members::of(&record).scan())
+    Ok(first_conflict(&record))
 }

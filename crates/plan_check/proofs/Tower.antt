@@ -4,10 +4,9 @@ use mathlib.Core.Path.{◌≡◌, sym}
 use mathlib.Core.List.{List, map}
 use Prim.Native.Nat.{ℕ, ◌<◌, ◌≤◌}
 use native.Mathlib.Omega.{arith}
-use lib.ListN.{length, take, drop, length-map}
+use lib.ListN.{take, drop}
 use Rattle.planning.specs.Finite.{Some, tabulate}
 use Rattle.planning.specs.Task.{meets, apply, permits, system}
-use Rattle.planning.proofs.Finite.{length-tabulate}
 use Rattle.planning.proofs.Task.{task_filled}
 use Rattle.task_record.specs.Layout.{at_goal, at_precondition, at_outcome}
 use Rattle.task_record.specs.Numbers.{action_count, outcome_count}
@@ -34,9 +33,6 @@ module _ (r : List ℕ) (sound : Sound r) where
 
   pub tower_few : (tower r).actions ≤ 254
   tower_few = omega (arith, tower_actions r, actions_right r sound)
-
-  pub tower_outcomes : (m : ℕ) (s : List ℕ) → m < (tower r).actions → length ((tower r).successors m s) ≡ outcome_count r m
-  tower_outcomes m s l = rw (tower_successors r m s l, length-map) (length-tabulate (λ k. cells_at r (at_outcome m k)) 0 (outcome_count r m))
 
   pub tower_some_outcome : (m : ℕ) (s : List ℕ) → m < (tower r).actions → Some (λ x. Unit {0}) ((tower r).successors m s)
   unfolding tower system

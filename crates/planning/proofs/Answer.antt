@@ -1,4 +1,4 @@
--- Demand 3 over the definitions, for a well_formed_lem task with additive patterns: what the answers of its search mean. Assumes nothing.
+-- Demand 3 over the definitions, for a well-formed task with additive patterns: what the answers of its search mean. Assumes nothing.
 use mathlib.Core.Path.{◌≡◌}
 use mathlib.Core.List.{List}
 use Prim.Native.Nat.{ℕ, ◌≤◌, ◌<◌}

@@ -1,5 +1,5 @@
--- How large a finite cost can be where the valid states are finitely many, so how many rounds of Definition 2.9 are enough; and when
--- costs that were only ever lowered are the true ones. Over any system. Assumes nothing.
+-- How large a finite cost can be where the valid states are finitely many, so how many rounds of Definition 2.9 are enough; and that
+-- the operator lowers no cost below the true one. Over any system. Assumes nothing.
 use mathlib.Core.Path.{◌≡◌, ◌∙◌}
 use mathlib.Core.Logic.{inl, inr}
 use mathlib.Core.Bool.{Bool, true, false, cond}
@@ -13,7 +13,7 @@ use Rattle.planning.specs.Extended.{ℕ∞, fin, ◌≤?◌, ◌≤∞◌}
 use Rattle.planning.specs.System.{System, bellman, iterate, IsCost, cost_within, Invariant}
 use Rattle.planning.proofs.Test.{T_true, bool_iff, by_test, false_not_T}
 use Rattle.planning.proofs.Finite.{all_of, all_imp, every_imp, every_some}
-use Rattle.planning.proofs.Extended.{ext∞, infinite_below, infinite_above}
+use Rattle.planning.proofs.Extended.{infinite_below, infinite_above}
 use Rattle.planning.proofs.System.{solves, solvable, solves_goal, solves_act, solves_out, bellman_le, solvable_stable, iterate_solvable, cost_solvable, cost_is_fixed_point}
 
 -- More rounds and a larger bound pass where fewer and a smaller do.
@@ -52,20 +52,6 @@ module _ {A : Type 0} (p q : A → Bool) (h : (x : A) → T (p x) → T (q x)) w
       (λ k. absurd (n (rw (← e, k) tt)))
       (λ k. let j : q x ≡ true = T_true (q x) (rw e t) in rw (k, j) (omega (arith, count_mono xs)))
   count_grows (x ∷ xs) s (inr e) t n = omega (arith, cell_mono x, count_grows xs s e t n)
-
--- Value v at s has seen n rounds if it is at most every cost that n rounds show. None is asked of it at first, and fewer rounds and a
--- lower value keep it.
-module _ {S : Type 0} (Y : System S) where
-  unfoldable pub Seen : ℕ → S → ℕ∞ → Type 0
-  Seen n s v = (d : ℕ) → T (solvable Y n d s) → T (v ≤? d)
-
-  pub seen_at_first : (s : S) (v : ℕ∞) → Seen 0 s v
-  unfolding Seen solvable
-  seen_at_first s v d t = absurd t
-
-  pub seen_lower : (n : ℕ) (s : S) (v u : ℕ∞) → u ≤∞ v → Seen n s v → Seen n s u
-  unfolding Seen ◌≤∞◌
-  seen_lower n s v u l h d t = l d (h d t)
 
 module _ {S : Type 0} (Y : System S) (Ok : S → Type 0) (I : Invariant Y Ok) where
   -- Whatever the number of rounds, what passes has a cost within the bound.
@@ -152,33 +138,8 @@ module _ {S : Type 0} (Y : System S) (Ok : S → Type 0) (I : Invariant Y Ok) wh
   unfolding ◌≤∞◌
   bellman_mono f g h s o d t = rw (bellman_le Y f d s) (solves_mono (λ e x. g x ≤? e) (λ e x. f x ≤? e) (λ e x u. h x u e) d s o (rw (bellman_le Y g d s) at t))
 
-  -- One use of the operator, over entries that have seen n rounds or more, sees one more.
-  pub seen_step : (n : ℕ) (f : S → ℕ∞) → ((x : S) → Ok x → Seen Y n x (f x)) → (s : S) → Ok s → Seen Y (suc n) s (bellman Y f s)
-  unfolding Seen solvable
-  seen_step n f h s o d t = rw (bellman_le Y f d s) (solves_mono (solvable Y n) (λ e x. f x ≤? e) (λ e x u. h x u e) d s o t)
-
-  -- Costs that are everywhere at most the operator's value of themselves are at most the cost.
-  seen_by_sub_solution : (f : S → ℕ∞) → ((s : S) → Ok s → f s ≤∞ bellman Y f s) → (n : ℕ) (s : S) → Ok s → Seen Y n s (f s)
-  seen_by_sub_solution f h zero s o = seen_at_first Y s (f s)
-  seen_by_sub_solution f h (suc n) s o = seen_lower Y (suc n) s (bellman Y f s) (f s) (h s o) (seen_step n f (seen_by_sub_solution f h n) s o)
-
-  pub sub_solution_below-cost : (f : S → ℕ∞) → ((s : S) → Ok s → f s ≤∞ bellman Y f s) → (s : S) → Ok s → (v : ℕ∞) → IsCost Y s v → f s ≤∞ v
-  unfolding Seen ◌≤∞◌
-  sub_solution_below-cost f h s o v c d t = seen_by_sub_solution f h (suc d) s o d (rw (← (cost_solvable Y Ok I s o v).0 c d) t)
-
   -- What a builder needs that starts with costs nowhere below the true ones c and lowers them by the operator, in any order.
   module _ (c : S → ℕ∞) (cost-c : (s : S) → Ok s → IsCost Y s (c s)) where
     -- The operator's value is not below the cost either.
     pub upper_bound_step : (f : S → ℕ∞) → ((s : S) → Ok s → c s ≤∞ f s) → (s : S) → Ok s → c s ≤∞ bellman Y f s
     upper_bound_step f above s o = rw (cost_is_fixed_point Y Ok I c cost-c s o) (bellman_mono c f above s o)
-
-    -- When no entry is above the operator's value any more, all are the cost.
-    pub stable_upper_bound_is_cost : (f : S → ℕ∞) → ((s : S) → Ok s → c s ≤∞ f s) → ((s : S) → Ok s → f s ≤∞ bellman Y f s) → (s : S) → Ok s → f s ≡ c s
-    unfolding ◌≤∞◌
-    stable_upper_bound_is_cost f above h s o = ext∞ (f s) (c s) (λ d. bool_iff (f s ≤? d) (c s ≤? d) (above s o d) (sub_solution_below-cost f h s o (c s) (cost-c s o) d))
-
-  -- As many sweeps as states are enough: what is not below the cost and has seen as many rounds is the cost.
-  pub seen_is_cost : (xs : List S) → ((s : S) → Ok s → Some (λ x. x ≡ s) xs) → (n : ℕ) → length xs ≤ n → (s : S) → Ok s → (u v : ℕ∞) → IsCost Y s u → u ≤∞ v → Seen Y n s v → v ≡ u
-  unfolding Seen ◌≤∞◌
-  seen_is_cost xs cover n l s o u v c a h = ext∞ v u (λ d. bool_iff (v ≤? d) (u ≤? d) (a d)
-      (λ t. h d (states_many_rounds xs cover n d s o l (rw (← (cost_solvable Y Ok I s o u).0 c d) t))))

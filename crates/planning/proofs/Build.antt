@@ -1,24 +1,20 @@
--- What a builder of a table needs that lowers entries in place, in any order: laws by index, over lists of entries. It starts with no
--- entry below the built table, replaces entries by the operator's value, and ends when none is above it, or after as many sweeps as
--- there are entries. Assumes nothing.
+-- What a builder of a table needs that lowers entries in place, in any order: laws by index, over lists of entries. It starts with no entry below
+-- the built table, and replaces entries by the operator's value. Assumes nothing.
 use mathlib.Core.Path.{◌≡◌, sym, ◌∙◌, subst}
 use mathlib.Core.List.{List}
-use Prim.Native.Nat.{ℕ, suc, ◌≤◌, ◌<◌}
-use native.Mathlib.Omega.{arith}
+use Prim.Native.Nat.{ℕ, ◌≤◌, ◌<◌}
 use lib.Dec.{T}
-use lib.ListN.{length, get_or}
-use lib.Seq.{ext_get_or}
-use Rattle.planning.specs.Finite.{All, tabulate}
+use lib.ListN.{get_or}
+use Rattle.planning.specs.Finite.{All}
 use Rattle.planning.specs.Extended.{ℕ∞, fin, inf, ◌≤∞◌}
 use Rattle.planning.specs.System.{bellman}
 use Rattle.planning.specs.Task.{Action, Task, system, WellFormed}
 use Rattle.planning.specs.Pattern.{abstraction, AbstractState}
 use Rattle.planning.specs.Table.{index, state_count, state_at, entry_at, weighted_table}
-use Rattle.planning.proofs.Finite.{length-tabulate}
 use Rattle.planning.proofs.System.{bellman_goal, cost_is_fixed_point}
-use Rattle.planning.proofs.Bound.{upper_bound_step, stable_upper_bound_is_cost, Seen, seen_step, seen_is_cost}
+use Rattle.planning.proofs.Bound.{upper_bound_step}
 use Rattle.planning.proofs.Pattern.{abstraction_invariant}
-use Rattle.planning.proofs.Table.{index_below, state_at-index, index_at_state, state_at_abstract, states_cover, table-length, table_is_cost, table_entry}
+use Rattle.planning.proofs.Table.{index_below, state_at-index, index_at_state, state_at_abstract, table_is_cost}
 
 module _ (t : Task) (p : List ℕ) (q : Action → ℕ) where
   abbrev pub entries : ℕ
@@ -35,13 +31,6 @@ module _ (t : Task) (p : List ℕ) (q : Action → ℕ) where
   abbrev pub NotBelow : List ℕ∞ → Type 0
   NotBelow tab = (i : ℕ) → i < entries → built i ≤∞ get_or tab i inf
 
-  -- Value v for entry i has seen n sweeps; every entry of tab has.
-  abbrev pub SeenAt : ℕ → ℕ → ℕ∞ → Type 0
-  SeenAt n i v = Seen (system (abstraction p q t)) n (state_at t.sizes p i) v
-
-  abbrev pub Swept : ℕ → List ℕ∞ → Type 0
-  Swept n tab = (i : ℕ) → i < entries → SeenAt n i (get_or tab i inf)
-
   -- What holds by index holds by abstract state.
   by_state : (P : List ℕ → ℕ∞ → Type 0) (tab : List ℕ∞) → ((i : ℕ) → i < entries → P (state_at t.sizes p i) (get_or tab i inf)) → (s : List ℕ) → AbstractState t p s → P s (entry_at t.sizes p tab s)
   unfolding entry_at
@@ -55,10 +44,6 @@ module _ (t : Task) (p : List ℕ) (q : Action → ℕ) where
     not_below_by_state : (tab : List ℕ∞) → NotBelow tab → (s : List ℕ) → AbstractState t p s → entry_at t.sizes p (weighted_table t p q) s ≤∞ entry_at t.sizes p tab s
     not_below_by_state tab h = by_state (λ s v. entry_at t.sizes p (weighted_table t p q) s ≤∞ v) tab (λ i l. rw (state_entry (weighted_table t p q) i l) (h i l))
 
-    -- A table that agrees by index is the built one.
-    equal_by_entries : (tab : List ℕ∞) → length tab ≡ entries → ((i : ℕ) → i < entries → get_or tab i inf ≡ built i) → tab ≡ weighted_table t p q
-    equal_by_entries tab e h = ext_get_or inf tab (weighted_table t p q) (e ∙ sym (table-length t p q)) (λ i l. h i (rw e at l))
-
     -- An entry of a goal is 0; so a start with 0 at goals and infinity elsewhere is not below.
     pub built_at_goal : (i : ℕ) → i < entries → T ((system (abstraction p q t)).goal (state_at t.sizes p i)) → built i ≡ fin 0
     built_at_goal i l g = sym (state_entry (weighted_table t p q) i l)
@@ -69,22 +54,3 @@ module _ (t : Task) (p : List ℕ) (q : Action → ℕ) where
     pub lowered_not_below : (tab : List ℕ∞) → NotBelow tab → (i : ℕ) → i < entries → built i ≤∞ lowered tab i
     lowered_not_below tab h i l = rw (← state_entry (weighted_table t p q) i l) (upper_bound_step (system (abstraction p q t)) (AbstractState t p) (abstraction_invariant t w p q positive)
         (entry_at t.sizes p (weighted_table t p q)) (table_is_cost t p q w positive) (entry_at t.sizes p tab) (not_below_by_state tab h) (state_at t.sizes p i) (state_at_abstract t w p i))
-
-    -- A table that is not below and has no entry above its lowered one is the built table.
-    pub stable_is_built : (tab : List ℕ∞) → length tab ≡ entries → NotBelow tab → ((i : ℕ) → i < entries → get_or tab i inf ≤∞ lowered tab i) → tab ≡ weighted_table t p q
-    stable_is_built tab e h k = equal_by_entries tab e (λ i l. sym (state_entry tab i l)
-        ∙ stable_upper_bound_is_cost (system (abstraction p q t)) (AbstractState t p) (abstraction_invariant t w p q positive)
-        (entry_at t.sizes p (weighted_table t p q)) (table_is_cost t p q w positive) (entry_at t.sizes p tab) (not_below_by_state tab h)
-        (by_state (λ s v. v ≤∞ bellman (system (abstraction p q t)) (entry_at t.sizes p tab) s) tab k) (state_at t.sizes p i) (state_at_abstract t w p i)
-        ∙ state_entry (weighted_table t p q) i l)
-
-    -- A lowered entry has seen one sweep more.
-    pub lowered_seen : (n : ℕ) (tab : List ℕ∞) → Swept n tab → (i : ℕ) → i < entries → SeenAt (suc n) i (lowered tab i)
-    lowered_seen n tab h i l = seen_step (system (abstraction p q t)) (AbstractState t p) (abstraction_invariant t w p q positive) n (entry_at t.sizes p tab)
-        (by_state (Seen (system (abstraction p q t)) n) tab h) (state_at t.sizes p i) (state_at_abstract t w p i)
-
-    -- As many sweeps as entries build the table.
-    pub swept_is_built : (n : ℕ) → entries ≤ n → (tab : List ℕ∞) → length tab ≡ entries → NotBelow tab → Swept n tab → tab ≡ weighted_table t p q
-    swept_is_built n b tab e h k = equal_by_entries tab e (λ i l. seen_is_cost (system (abstraction p q t)) (AbstractState t p) (abstraction_invariant t w p q positive)
-        (tabulate (state_at t.sizes p) 0 entries) (states_cover t p) n (omega (arith, length-tabulate (state_at t.sizes p) 0 entries)) (state_at t.sizes p i) (state_at_abstract t w p i)
-        (built i) (get_or tab i inf) (table_entry t p q w positive i l) (h i l) (k i l))

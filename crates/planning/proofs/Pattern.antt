@@ -1,4 +1,4 @@
--- Laws of patterns: projection goes along with preconditions, outcomes and goal, so the abstraction of a well_formed_lem task is well formed
+-- Laws of patterns: projection goes along with preconditions, outcomes and goal, so the abstraction of a well-formed task is well formed
 -- and a task projects on it; an action that does not affect a pattern leaves the projection as it is. Assumes nothing.
 use mathlib.Core.Path.{◌≡◌, refl, sym, ap, ◌∙◌}
 use mathlib.Core.Bool.{Bool, true, false, not, ◌&&◌, ◌||◌, cond}

@@ -33,17 +33,6 @@ mutual
   levels_of_at_most_depths done = omega arith
   levels_of_at_most_depths (p then ps) = omega (arith, levels_at_most_depth p, levels_of_at_most_depths ps)
 
-mutual
-  unfolding levels encode
-
-  pub levels_at_most_length : (p : Plan) → levels p ≤ length (encode p)
-  levels_at_most_length arrived = omega arith
-  levels_at_most_length (act m ps) = omega (arith, levels_of_at_most_length ps)
-
-  pub levels_of_at_most_length : (ps : Plans) → levels_of ps ≤ length (encodes ps)
-  levels_of_at_most_length done = omega arith
-  levels_of_at_most_length (p then ps) = omega (arith, levels_at_most_length p, levels_of_at_most_length ps, length-append (encode p) (encodes ps))
-
 -- Equal answers hold equal plans and equal bytes; a failure is no answer.
 parsed_parts : {A : Type 0} (a b : A) (bs cs : List ℕ) → parsed a bs ≡ parsed b cs → (a ≡ b) × (bs ≡ cs)
 parsed_parts a b bs cs e = (cc, cc)
@@ -80,22 +69,14 @@ module _ (outcomes : ℕ → ℕ) where
     decodes-encodes_levels (p then ps) zero f bs h l = absurd h
     decodes-encodes_levels (p then ps) (suc n) f bs h l = rw (append_assoc (encode p) (encodes ps) bs, decode-encode_levels p f (encodes ps ++ bs) h.0 (omega arith), decodes-encodes_levels ps n f bs h.1 (omega arith))
 
-  -- The bytes of a shaped plan, followed by any bytes, are read as that plan and those bytes: with any first number above its depth, and
-  -- with the number of the bytes.
+  -- The bytes of a shaped plan, followed by any bytes, are read as that plan and those bytes, with any first number above its depth.
   pub decode-encode : (p : Plan) (f : ℕ) (bs : List ℕ) → Shaped p → depth p < f → decode outcomes f (encode p ++ bs) ≡ parsed p bs
   decode-encode p f bs h l = decode-encode_levels p f bs h (omega (arith, levels_at_most_depth p))
-
-  pub decode-encode-length : (p : Plan) (bs : List ℕ) → Shaped p → decode outcomes (length (encode p ++ bs)) (encode p ++ bs) ≡ parsed p bs
-  decode-encode-length p bs h = decode-encode_levels p (length (encode p ++ bs)) bs h (omega (arith, levels_at_most_length p, length-append (encode p) bs))
 
   -- The bytes determine the tree, and where it ends: no shaped plan's bytes begin another's.
   pub encode_injective : (p q : Plan) (bs cs : List ℕ) → Shaped p → Shaped q → encode p ++ bs ≡ encode q ++ cs → (p ≡ q) × (bs ≡ cs)
   encode_injective p q bs cs h k e = let f : ℕ = suc (max (depth p) (depth q)) in
       parsed_parts p q bs cs (sym (decode-encode p f bs h (omega arith)) ∙ ap (decode outcomes f) e ∙ decode-encode q f cs k (omega arith))
-
-  -- The case with nothing after the plans.
-  pub encode_determines : (p q : Plan) → Shaped p → Shaped q → encode p ≡ encode q → p ≡ q
-  encode_determines p q h k e = (encode_injective p q [] [] h k (ap (λ bs. bs ++ []) e)).0
 
 -- Where one reading follows another and both give something, the first did and the second went on from there.
 then_parsed : {A B C : Type 0} (r : Parsed A) (k : A → List ℕ → Parsed B) (b : B) (rest : List ℕ) → parse_then r k ≡ parsed b rest →

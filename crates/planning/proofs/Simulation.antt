@@ -1,17 +1,17 @@
--- The same system over other states: where goals, actions, weights and successors correspond under a map of states, costs and examinations
--- are the same. So code may keep states in a form of its own. Assumes nothing.
+-- The same system over other states: where goals, actions, weights and successors correspond under a map of states, examinations are the
+-- same. So code may keep states in a form of its own. Assumes nothing.
 use mathlib.Core.Path.{◌≡◌, refl, ap, ◌∙◌}
-use mathlib.Core.Bool.{◌&&◌, cond}
+use mathlib.Core.Bool.{◌&&◌}
 use mathlib.Core.List.{List, [], ◌∷◌, map}
-use Prim.Native.Nat.{ℕ, zero, suc, ◌+◌, ◌-◌, ◌<◌}
+use Prim.Native.Nat.{ℕ, zero, suc, ◌-◌, ◌<◌}
 use native.Mathlib.Omega.{arith}
 use lib.Dec.{T, leb, eqb}
 use Rattle.planning.specs.Finite.{All}
-use Rattle.planning.specs.Extended.{ℕ∞, fin, inf, ◌≤?◌, add∞, largest, least_from}
-use Rattle.planning.specs.System.{System, applies, bellman, iterate}
+use Rattle.planning.specs.Extended.{ℕ∞, fin, inf, ◌≤?◌}
+use Rattle.planning.specs.System.{System, applies}
 use Rattle.planning.specs.Plan.{Plan, act}
 use Rattle.planning.specs.Search.{Result, succeeded, failed, stopped, and_then, examine_outcomes, try_actions, try_action, examine, examine_with, examination, Answer, end_round, rounds, search_from, search}
-use Rattle.planning.proofs.Test.{and_l, by_test, choose_ext, choose_same}
+use Rattle.planning.proofs.Test.{and_l, choose_ext, choose_same}
 use Rattle.planning.proofs.Fuel.{then_ext, actions_ext}
 
 end_ext : (d : ℕ) (r : Result Plan) (k j : ℕ → Answer) → ((c : ℕ) → k c ≡ j c) → end_round d r k ≡ end_round d r j
@@ -33,31 +33,6 @@ module _ {R S : Type 0} (Z : System R) (Y : System S) (π : R → S) (Ok : R →
   pub same_applies : (m : ℕ) (r : R) → m < Z.actions → Ok r → applies Z m r ≡ applies Y m (π r)
   unfolding applies
   same_applies m r l o = rw (E.same_enabled m r l o, E.same_goal r o)
-
-  -- Costs.
-  largest-map : (f : S → ℕ∞) (g : R → ℕ∞) → ((r : R) → Ok r → g r ≡ f (π r)) → (xs : List R) → All Ok xs → largest g xs ≡ largest f (map π xs)
-  largest-map f g h [] o = refl
-  largest-map f g h (x ∷ xs) o = rw (h x o.0, largest-map f g h xs o.1)
-
-  least_ext : (k n : ℕ) (f g : ℕ → ℕ∞) → ((m : ℕ) → m < k + n → f m ≡ g m) → least_from k n f ≡ least_from k n g
-  least_ext k zero f g h = refl
-  least_ext k (suc n) f g h = rw (h k (omega arith), least_ext (suc k) n f g (λ m l. h m (omega arith)))
-
-  pub same_bellman : (f : S → ℕ∞) (g : R → ℕ∞) → ((r : R) → Ok r → g r ≡ f (π r)) → (r : R) → Ok r → bellman Z g r ≡ bellman Y f (π r)
-  unfolding bellman
-  same_bellman f g h r o = ap (λ b. cond b (fin 0) (least_from 0 Z.actions (λ m. cond (applies Z m r) (add∞ (fin (Z.weight m)) (largest g (Z.successors m r))) inf))) (E.same_goal r o)
-      ∙ ap (λ v. cond (Y.goal (π r)) (fin 0) v) (least_ext 0 Z.actions _ _ (λ m l. one m (omega arith)) ∙ ap (λ n. least_from 0 n (λ m. cond (applies Y m (π r)) (add∞ (fin (Y.weight m)) (largest f (Y.successors m (π r)))) inf)) E.same_actions)
-    where
-      one : (m : ℕ) → m < Z.actions → cond (applies Z m r) (add∞ (fin (Z.weight m)) (largest g (Z.successors m r))) inf ≡ cond (applies Y m (π r)) (add∞ (fin (Y.weight m)) (largest f (Y.successors m (π r)))) inf
-      one m l = by_test (applies Z m r)
-          (λ e. rw (← same_applies m r l o, e) (ap (λ w. add∞ (fin w) (largest g (Z.successors m r))) (E.same_weight m l) ∙ ap (λ v. add∞ (fin (Y.weight m)) v)
-          (largest-map f g h (Z.successors m r) (E.closed m r l o (rw e tt)) ∙ ap (largest f) (E.same_successors m r l o (rw e tt)))))
-          (λ e. rw (← same_applies m r l o, e))
-
-  pub same_iterate : (n : ℕ) (r : R) → Ok r → iterate Z n r ≡ iterate Y n (π r)
-  unfolding iterate
-  same_iterate zero r o = refl
-  same_iterate (suc n) r o = same_bellman (iterate Y n) (iterate Z n) (same_iterate n) r o
 
   -- Examinations, with an estimate that corresponds too.
   module _ (h : S → ℕ∞) (g : R → ℕ∞) (same-estimate : (r : R) → Ok r → g r ≡ h (π r)) (budget : ℕ) where

@@ -121,12 +121,9 @@ module _ {S : Type 0} (Y : System S) (Ok : S → Type 0) (I : Invariant Y Ok) wh
   pub cost_unique : (s : S) → Ok s → (v u : ℕ∞) → IsCost Y s v → IsCost Y s u → v ≡ u
   cost_unique s o v u a b = ext∞ v u (λ d. (cost_solvable s o v).0 a d ∙ sym ((cost_solvable s o u).0 b d))
 
-  -- Every fixed point of the Bellman operator is the cost; so there is only one.
+  -- Every fixed point of the Bellman operator is the cost.
   pub fixed_point_is_cost : (f : S → ℕ∞) → ((s : S) → Ok s → f s ≡ bellman Y f s) → (s : S) → Ok s → IsCost Y s (f s)
   fixed_point_is_cost f h s o = (cost_solvable s o (f s)).1 (λ d. bellman_solvable (λ n. f) (λ n. h) (suc d) d s o (omega arith))
-
-  pub fixed_point_unique : (f g : S → ℕ∞) → ((s : S) → Ok s → f s ≡ bellman Y f s) → ((s : S) → Ok s → g s ≡ bellman Y g s) → (s : S) → Ok s → f s ≡ g s
-  fixed_point_unique f g h k s o = cost_unique s o (f s) (g s) (fixed_point_is_cost f h s o) (fixed_point_is_cost g k s o)
 
   -- The costs are a fixed point.
   pub cost_is_fixed_point : (f : S → ℕ∞) → ((s : S) → Ok s → IsCost Y s (f s)) → (s : S) → Ok s → f s ≡ bellman Y f s

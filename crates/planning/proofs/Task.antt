@@ -1,4 +1,4 @@
--- Laws of tasks: actions lead from states to states, so a well_formed_lem task is a system as the laws ask; and an empty goal is met by every
+-- Laws of tasks: actions lead from states to states, so a well-formed task is a system as the laws ask; and an empty goal is met by every
 -- state. Assumes nothing.
 use mathlib.Core.Path.{◌≡◌}
 use mathlib.Core.Bool.{◌||◌}

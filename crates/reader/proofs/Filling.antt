@@ -11,7 +11,7 @@ use lib.ListN.{length}
 use borrow.Author.Tests.{lt-ltb, ltb-true, ltb-false, le-leb, leb-true, eq-eqb}
 use Rattle.task_record.specs.Layout.{record_size, at_sizes, at_goal, at_start, at_pattern, at_action}
 use Rattle.task_record.specs.Numbers.{byte, variable_count, action_count, pattern_count, limit_of, budget_of, size_of, outcome_count}
-use Rattle.task_record.specs.Record.{head_ok, size_ok, value_ok, assignment_ok, state_ok, state_cell_ok, pattern_ok, count_ok, cell_ok, Sound}
+use Rattle.task_record.specs.Record.{head_ok, size_ok, value_ok, assignment_ok, state_ok, pattern_ok, count_ok, cell_ok, Sound}
 use Rattle.reader.specs.Grammar.{blank}
 use Rattle.planning.proofs.Test.{by_test}
 use Rattle.task_record.proofs.Tests.{both, both_left, both_right, either, one_of}
@@ -218,8 +218,7 @@ module _ (r : List ℕ) (f : Filled r (variable_count r) (action_count r)) (some
 
   -- the start
   pub start-cell_right : (v : ℕ) → v < 16 → cell_ok r (at_start + v) ≡ true
-  unfolding state_cell_ok
-  start-cell_right v l = let e : at_start + v - at_start ≡ v = omega arith in start_at r v l ∙ rw e (start v l)
+  start-cell_right v l = start_at r v l ∙ start v l
 
   -- the patterns
   pub pattern_cell_right : (i : ℕ) → i < 128 → cell_ok r (at_pattern 0 + i) ≡ true

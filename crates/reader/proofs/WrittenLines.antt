@@ -2,7 +2,7 @@
 use mathlib.Core.Path.{◌≡◌, refl, sym, ◌∙◌}
 use mathlib.Core.Bool.{true, false, false≢true}
 use mathlib.Core.List.{List, [], ◌∷◌, ◌++◌}
-use Prim.Native.Nat.{ℕ, ◌+◌, ◌-◌, ◌*◌, ◌/◌, ◌%◌, ◌≤◌, ◌<◌}
+use Prim.Native.Nat.{ℕ, ◌+◌, ◌*◌, ◌/◌, ◌%◌, ◌≤◌, ◌<◌}
 use native.Mathlib.Nat.{zero-add}
 use native.Mathlib.Omega.{arith}
 use lib.ListN.{length, get_or, set}
@@ -10,7 +10,7 @@ use lib.Seq.{sets, drop-append_seam}
 use borrow.Author.Tests.{le-leb, eq-eqb, leb-true}
 use Rattle.task_record.specs.Layout.{at_variables, at_actions, at_patterns, at_limit, at_budget, at_sizes, at_goal, at_start, at_pattern, at_action, at_precondition, at_outcome}
 use Rattle.task_record.specs.Numbers.{byte, variable_count, action_count, pattern_count, limit_of, budget_of, size_of, outcome_count}
-use Rattle.task_record.specs.Record.{cell_ok, head_ok, state_ok, state_cell_ok, pattern_ok, Sound}
+use Rattle.task_record.specs.Record.{cell_ok, head_ok, state_ok, pattern_ok, Sound}
 use Rattle.task_record.specs.TaskOf.{cells_at}
 use Rattle.reader.specs.Bytes.{bytes}
 use Rattle.reader.specs.Text.{line_break, has_key}
@@ -140,10 +140,7 @@ module _ (t : List ℕ) (sound : Sound t) where
   start_whole = let n = sound_length t sound in length_of_part t 16 at_start (omega arith)
 
   start_cell : (i : ℕ) → i < 16 → state_ok t (0 + i) (get_or (cells_at t at_start) i 0) ≡ true
-  unfolding state_cell_ok
-  start_cell i l =
-      let e : at_start + i - at_start ≡ 0 + i = omega arith in
-      rw (cell_of_part t 16 at_start i l) (rw e at (sym (start_at t i l) ∙ sound_cell t sound (at_start + i) (omega arith)))
+  start_cell i l = rw (cell_of_part t 16 at_start i l, zero-add) (sym (start_at t i l) ∙ sound_cell t sound (at_start + i) (omega arith))
 
   pattern_whole : (p : ℕ) → p < pattern_count t → length (cells_at t (at_pattern p)) ≡ 16
   pattern_whole p h = let n = sound_length t sound in let k = patterns_right t sound in length_of_part t 16 (at_pattern p) (omega arith)

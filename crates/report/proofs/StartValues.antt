@@ -3,9 +3,8 @@
 use mathlib.Core.Path.{◌≡◌, ap, ◌∙◌}
 use mathlib.Core.List.{List}
 use Prim.Native.Nat.{ℕ, ◌≤◌}
-use native.Mathlib.Nat.{zero-add, sub-zero}
 use native.Mathlib.Omega.{arith}
-use borrow.Author.Tests.{eq-eqb, leb-true}
+use borrow.Author.Tests.{leb-true}
 use lib.ListN.{length, drop}
 use lib.Seq.{take-take}
 use Rattle.planning.specs.Pattern.{Additive}
@@ -14,13 +13,12 @@ use Rattle.planning.proofs.Verdict.{verdict-additive}
 use Rattle.std.proofs.Common.{Ok}
 use Rattle.task_record.specs.Layout.{at_start, at_budget}
 use Rattle.task_record.specs.Numbers.{variable_count, budget_of}
-use Rattle.task_record.specs.Record.{head_ok, cell_ok, state_cell_ok, record_check, Sound}
-use Rattle.task_record.specs.State.{first_bad_value, judge_state, state_check, GoodState}
+use Rattle.task_record.specs.Record.{head_ok, cell_ok, record_check, Sound}
+use Rattle.task_record.specs.State.{state_check}
 use Rattle.task_record.specs.TaskOf.{cells_at, task_of, patterns_of, start_of}
-use Rattle.task_record.proofs.Scanning.{first_none}
 use Rattle.task_record.proofs.Soundness.{sound_cell}
 use Rattle.task_record.proofs.SoundTask.{variables_right}
-use Rattle.task_record.proofs.States.{start_good}
+use Rattle.task_record.proofs.States.{start_good, good_checked}
 use Rattle.patterns.specs.Space.{entries_needed}
 use Rattle.patterns.specs.Estimate.{judge_estimate, estimate_check}
 use Rattle.patterns.specs.Value.{value_of, values_of, state_value}
@@ -28,13 +26,6 @@ use Rattle.patterns.proofs.Built.{call_on_built}
 use Rattle.patterns.proofs.Refusals.{after_ok, ready_means}
 use Rattle.patterns.proofs.Room.{fits_small}
 use Rattle.tables.specs.RecordTables.{built_over, tables_prepared}
-
--- A state that is good passes the check.
-good_passes : (r s : List ℕ) → GoodState r s → judge_state r s ≡ Ok tt
-unfolding judge_state first_bad_value state_cell_ok
-good_passes r s g =
-    let e = first_none (state_cell_ok r s 0) 0 16 (λ i l. rw (zero-add, sub-zero) (g.cell i l)) in
-    rw (eq-eqb (length s) 16 g.whole, e)
 
 module _ (r : List ℕ) (lent : ℕ) (ready : estimate_check r lent ≡ Ok tt) where
   pub ready_sound : Sound r
@@ -52,8 +43,7 @@ module _ (r : List ℕ) (lent : ℕ) (ready : estimate_check r lent ≡ Ok tt) w
   ready_additive = (verdict-additive (task_of r) (patterns_of r)).0 (ready_means r lent ready_judged).1
 
   start_checked : state_check r (cells_at r at_start) ≡ Ok tt
-  unfolding Sound
-  start_checked = rw (ready_sound) (good_passes r (cells_at r at_start) (start_good r ready_sound))
+  start_checked = good_checked r (cells_at r at_start) ready_sound (start_good r ready_sound)
 
   start_values : values_of r (cells_at r at_start) ≡ start_of r
   unfolding values_of start_of

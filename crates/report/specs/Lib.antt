@@ -1,7 +1,12 @@
--- The definitions that the contracts cite, in reading order: a number in decimal, the lines, what is printed for a text, a buffer that is
--- written to.
+-- The definitions that the contracts cite, in reading order.
+
+-- A number in decimal, as it is printed.
 pub mod Decimal
+-- The lines that are printed.
 pub mod Lines
+-- What a run prints for a text.
 pub mod Report
+-- The sample tower and its examples, each text beside the lines that it prints.
 pub mod Samples
+-- A buffer that bytes are written to, past its end too.
 pub mod Writing

@@ -11,7 +11,7 @@ use Rattle.planning.specs.Plan.{Plan, encode}
 use Rattle.planning.specs.Search.{succeeded, failed, stopped, examination, found, over, spent, none, end_round, rounds, search_from, search, plan_bytes, plan_buffer}
 use Rattle.planning.specs.Search as planning
 use Rattle.planning.proofs.Shift.{succeeded_anywhere}
-use Rattle.tables.specs.Packed.{packed_system}
+use Rattle.packed_task.specs.Packed.{packed_system}
 use Rattle.search.specs.declared.instance.Instance.{Instance}
 use Rattle.search.specs.declared.entry.SearchAnswer.TheVariants as outcome
 use Rattle.search.specs.Buffer.{Holds}

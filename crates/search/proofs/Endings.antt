@@ -7,7 +7,7 @@ use lib.Bits.{bit_and, bit_or}
 use Rattle.planning.specs.Finite.{choose, tabulate}
 use Rattle.planning.specs.Plan.{Plan, arrived, act, Plans, done, ◌then◌, encode, encodes}
 use Rattle.planning.specs.Search.{Result, succeeded, failed, stopped, and_then, examine_outcomes}
-use Rattle.tables.specs.Packed.{outcome_count, action_weight, keep_mask, set_value, packed_system}
+use Rattle.packed_task.specs.Packed.{outcome_count, action_weight, keep_mask, set_value, packed_system}
 use Rattle.search.specs.declared.examine.Ending.TheVariants.{Stopped, Failed, Succeeded}
 use Rattle.search.specs.Examination.{plan_size, plan_head, plans_size, visit_count, size_by, ending_of}
 use Rattle.search.specs.Memory.{Remembers}

@@ -6,8 +6,8 @@ use lib.Count.{count_trailing_zeros}
 use Rattle.planning.specs.Finite.{tabulate}
 use Rattle.planning.specs.Plan.{Plan, Plans, done}
 use Rattle.planning.specs.Search.{Result}
-use Rattle.tables.specs.Packed.{outcome_count, action_weight, keep_mask, set_value, packed_system}
-use Rattle.tables.specs.Sets.{spread, meet_from}
+use Rattle.packed_task.specs.Packed.{outcome_count, action_weight, keep_mask, set_value, packed_system}
+use Rattle.packed_task.specs.Sets.{spread, meet_from}
 use Rattle.search.specs.declared.examine.Ending.{Ending}
 use Rattle.search.specs.declared.instance.Instance.{Instance}
 use Rattle.search.specs.declared.examine.Ending.TheVariants.{Stopped, Failed, Succeeded}
@@ -122,7 +122,7 @@ module _ {instance : Instance} {memory : List Slot} {s value d count m : ℕ} (p
         remembers = i.remembers;
         within = i.within;
         shallow = omega (arith, v.shallow, g);
-        valued = carried instance.task.now instance.rows.now instance.guide.offsets instance.tables.now instance.guide.owners instance.guide.actions instance.guide.patterns instance.guide.variables instance.guided.owned s m k x (get_or instance.guide.owners m 0) p.1 (omega (arith, t, e)) u refl value rest w (v.valued.exact (omega (arith, p.2))) y z;
+        valued = carried instance.task.now instance.weights.now instance.guide.offsets instance.tables.now instance.guide.owners instance.guide.actions instance.guide.patterns instance.guided.owned s m k x (get_or instance.guide.owners m 0) p.1 (omega (arith, t, e)) u refl value rest w (v.valued.exact (omega (arith, p.2))) y z;
       }
 
       next : Resumes (guided_examination instance left) (x ∷ tabulate (λ j. bit_or (bit_and s (keep_mask instance.task.now m j)) (set_value instance.task.now m j)) (k + 1) (end - (k + 1))) whole c n

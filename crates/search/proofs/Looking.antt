@@ -3,7 +3,7 @@ use Rattle.std.proofs.Common.{◌≡◌, ℕ, ◌+◌, ◌-◌, ◌<◌, ◌≤�
 use Rattle.planning.specs.System.{Invariant}
 use Rattle.planning.specs.Plan.{arrived}
 use Rattle.planning.specs.Search.{succeeded, failed}
-use Rattle.tables.specs.Packed.{packed_system}
+use Rattle.packed_task.specs.Packed.{packed_system}
 use Rattle.search.specs.declared.examine.Opening.{Opening}
 use Rattle.search.specs.declared.examine.Ending.{Ending}
 use Rattle.search.specs.declared.examine.Ending.TheVariants.{Stopped, Failed, Succeeded}

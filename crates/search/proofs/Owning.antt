@@ -11,25 +11,24 @@ use Rattle.planning.specs.Pattern.{affects, affects_pattern, affected_from, Addi
 use Rattle.planning.proofs.Test.{by_test}
 use Rattle.planning.proofs.Finite.{all_at, not_some_of, length-tabulate, get_or_tabulate}
 use Rattle.planning.proofs.Verdict.{affected_all}
-use Rattle.tables.specs.Packed.{pack_by, picking, leaving, setting, outcome_count, keep_mask, set_value, compiled}
+use Rattle.packed_task.specs.Packed.{pack_by, picking, leaving, setting, outcome_count, keep_mask, set_value, compiled}
 use Rattle.tables.specs.Steps.{weigh, weights_from}
-use Rattle.tables.proofs.Packing.{digits_equal, leaving-digit, setting-digit}
-use Rattle.tables.proofs.Compiled.{outcome_count_is, keep_mask_is, set_value_is}
-use Rattle.tables.proofs.CompiledRecord.{part_few}
-use Rattle.tables.proofs.SoundPacked.{sound_packable, compiled_outcomes}
+use Rattle.packed_task.proofs.Packing.{digits_equal, leaving-digit, setting-digit}
+use Rattle.packed_task.proofs.Compiled.{outcome_count_is, keep_mask_is, set_value_is}
+use Rattle.packed_task.proofs.CompiledRecord.{part_few}
+use Rattle.packed_task.proofs.SoundPacked.{sound_packable, compiled_outcomes}
 use Rattle.task_record.specs.Layout.{at_pattern, at_outcome}
-use Rattle.task_record.specs.Numbers.{variable_count, action_count, pattern_count}
+use Rattle.task_record.specs.Numbers.{action_count, pattern_count}
 use Rattle.task_record.specs.Numbers as record-numbers
 use Rattle.task_record.specs.Record.{Sound}
 use Rattle.task_record.specs.TaskOf.{cells_at, action_of, task_of, patterns_of}
 use Rattle.task_record.proofs.Soundness.{sound_length}
 use Rattle.task_record.proofs.SoundTask.{actions_right, outcomes_right, length_of_part}
 use Rattle.patterns.proofs.Reading.{patterns_length, pattern_at, actions_length, action_at_lem}
-use Rattle.search.specs.Value.{packed_index}
-use Rattle.search.specs.Rows.{RowsOf}
+use Rattle.search.specs.Weights.{WeightsOf}
 use Rattle.search.specs.Owned.{Owned, Marked, touches}
-use Rattle.search.proofs.RowsFilled.{earlier, sizes_number}
-use Rattle.search.proofs.RowValues.{index_weight}
+use Rattle.search.proofs.WeightsFilled.{earlier}
+use Rattle.search.proofs.WeightValues.{index_weight}
 
 -- A word after an outcome, digit by digit.
 changed_block : (s a b x y : ℕ) → x < 16 → y < 16 → bit_or (bit_and s (a * 16 + x)) (b * 16 + y) ≡ bit_or (bit_and (s / 16) a) b * 16 + bit_or (bit_and (s % 16) x) y
@@ -191,15 +190,15 @@ module _ (r : List ℕ) (sound : Sound r) where
             few : (m : ℕ) → m < action_count r → length (affected_from 0 (patterns_of r) (action_at (task_of r) m)) ≤ 1
             few m l = all_at (λ a. length (affected_from 0 (patterns_of r) a) ≤ 1) (task_of r).actions no_action add m (rw (actions_length r) l)
 
-  pub owning_ends : (owners : List ℕ) (p : ℕ) → pattern_count r ≤ p → Owning owners p → (rows offsets : List ℕ) → RowsOf (task_of r).sizes (patterns_of r) rows offsets →
-      Owned (compiled (task_of r)) rows (action_count r) (pattern_count r) (variable_count r) owners
-  owning_ends owners p b g rows offsets f = record { unmoved = λ s m k q l n h e. stays s m k q l n h e }
+  pub owning_ends : (owners : List ℕ) (p : ℕ) → pattern_count r ≤ p → Owning owners p → (weights : List (List ℕ)) (offsets : List ℕ) → WeightsOf (task_of r).sizes (patterns_of r) weights offsets →
+      Owned (compiled (task_of r)) weights (action_count r) (pattern_count r) owners
+  owning_ends owners p b g weights offsets f = record { unmoved = λ s m k q l n h e. stays s m k q l n h e }
     where
       stays : (s m k q : ℕ) → m < action_count r → k < outcome_count (compiled (task_of r)) m → q < pattern_count r → (q ≡ get_or owners m 0 → ⊥) →
-          packed_index rows q 0 (variable_count r) (bit_or (bit_and s (keep_mask (compiled (task_of r)) m k)) (set_value (compiled (task_of r)) m k)) ≡ packed_index rows q 0 (variable_count r) s
-      stays s m k q l n h e = let i = index_weight (task_of r) (sound_packable r sound) (patterns_of r) rows offsets f in let c : q < length (patterns_of r) = rw (patterns_length r) h in
-          rw (← sizes_number r sound) (i _ q c ∙ word_unmoved m l (get_or (patterns_of r) q []) k s (rw (compiled_outcomes r sound m l) at n)
-          (not-true _ (λ t. e (sym (g.owns m q l (omega arith) t)))) ∙ sym (i s q c))
+          weigh (get_or weights q []) (bit_or (bit_and s (keep_mask (compiled (task_of r)) m k)) (set_value (compiled (task_of r)) m k)) ≡ weigh (get_or weights q []) s
+      stays s m k q l n h e = let i = index_weight (task_of r) (sound_packable r sound) (patterns_of r) weights offsets f in let c : q < length (patterns_of r) = rw (patterns_length r) h in
+          i _ q c ∙ word_unmoved m l (get_or (patterns_of r) q []) k s (rw (compiled_outcomes r sound m l) at n)
+          (not-true _ (λ t. e (sym (g.owns m q l (omega arith) t)))) ∙ sym (i s q c)
 
 -- Marking, action by action.
 pub record Marking (task : List ℕ) (mask p : ℕ) (old new : List ℕ) (i : ℕ) : Type 0 where

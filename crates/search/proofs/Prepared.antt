@@ -11,8 +11,8 @@ use Rattle.task_record.specs.TaskOf.{task_of, patterns_of, start_of}
 use Rattle.task_record.specs.declared.refusal.Refusal.{Refusal}
 use Rattle.patterns.specs.Additivity.{additivity_of}
 use Rattle.patterns.specs.Estimate.{estimate_check}
-use Rattle.tables.specs.Packed.{pack_by, low, compiled}
-use Rattle.tables.specs.Sets.{sets_filled}
+use Rattle.packed_task.specs.Packed.{pack_by, low, compiled}
+use Rattle.packed_task.specs.Sets.{sets_filled}
 use Rattle.patterns.specs.Space.{entries_needed}
 use Rattle.tables.specs.RecordTables.{built_over, tables_prepared, words_prepared, sets_prepared, start_prepared}
 use Rattle.tables.proofs.BuiltTables.{ready_buildable}

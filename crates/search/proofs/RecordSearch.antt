@@ -15,17 +15,17 @@ use Rattle.task_record.specs.Record.{head_ok, cell_ok, Sound}
 use Rattle.task_record.specs.TaskOf.{task_of, patterns_of, start_of}
 use Rattle.task_record.proofs.Soundness.{sound_cell}
 use Rattle.task_record.proofs.SoundTask.{variables_right, actions_right, patterns_right, sound_well_formed, sound_start}
-use Rattle.tables.specs.Packed.{pack_by, low, cells_of, packed_system, compiled}
+use Rattle.packed_task.specs.Packed.{pack_by, low, cells_of, packed_system, compiled}
 use Rattle.patterns.proofs.Built.{unit_weights}
-use Rattle.tables.proofs.Packing.{cells_pack}
+use Rattle.packed_task.proofs.Packing.{cells_pack}
 use Rattle.patterns.proofs.Reading.{patterns_length, actions_length}
-use Rattle.tables.specs.Sets.{spread, SetsOf, sets_filled}
-use Rattle.tables.proofs.ApplyingSets.{applying_enabled, spread-wide}
-use Rattle.tables.proofs.SetsFilled.{filled-sets}
-use Rattle.tables.proofs.Simulating.{PackedState, packed_state, packed_simulates}
-use Rattle.tables.proofs.SoundPacked.{sound_packable, compiled_weight, compiled_outcomes_few}
+use Rattle.packed_task.specs.Sets.{spread, SetsOf, sets_filled}
+use Rattle.packed_task.proofs.ApplyingSets.{applying_enabled, spread-wide}
+use Rattle.packed_task.proofs.SetsFilled.{filled-sets}
+use Rattle.packed_task.proofs.Simulating.{PackedState, packed_state, packed_simulates}
+use Rattle.packed_task.proofs.SoundPacked.{sound_packable, compiled_weight, compiled_outcomes_few}
 use Rattle.search.specs.Value.{packed_value}
-use Rattle.search.specs.Rows.{RowsOf}
+use Rattle.search.specs.Weights.{WeightsOf}
 use Rattle.search.specs.Examination.{Ready, Applying}
 use Rattle.search.specs.Answer.{answer_of, packed_search}
 use Rattle.search.specs.Entry.{HoldsTables, answer_within, search_of}
@@ -33,8 +33,8 @@ use Rattle.search.specs.declared.entry.SearchAnswer.{SearchAnswer}
 use Rattle.search.specs.declared.entry.SearchAnswer.TheVariants as outcome
 use Rattle.search.specs.declared.rounds.TooLong.{TooLong}
 use Rattle.task_record.specs.declared.refusal.Refusal.TheVariants.{ShortPlan}
-use Rattle.search.proofs.RowsFilled.{sizes_number}
-use Rattle.search.proofs.RowValues.{packed_value_lem}
+use Rattle.search.proofs.WeightsFilled.{sizes_number}
+use Rattle.search.proofs.WeightValues.{packed_value_lem}
 
 module _ (r : List ℕ) (sound : Sound r) where
   pub limit_right : limit_of r ≤ 32
@@ -75,35 +75,34 @@ module _ (r : List ℕ) (sound : Sound r) where
           rw f (filled-sets (compiled (task_of r)) old 18446744073709551615 (action_count r) ((variable_count r + 1) / 2) (actions_right r sound)) in
           rw (actions_length r) g
 
-  module _ (small : Small (task_of r) (patterns_of r)) (rows offsets tabs : List ℕ) (f : RowsOf (task_of r).sizes (patterns_of r) rows offsets)
+  module _ (small : Small (task_of r) (patterns_of r)) (weights : List (List ℕ)) (offsets tabs : List ℕ) (f : WeightsOf (task_of r).sizes (patterns_of r) weights offsets)
       (b : HoldsTables r tabs) where
-    -- The value of a word from rows and built tables is the summed estimate of its state.
+    -- The value of a word from weights and built tables is the summed estimate of its state.
     pub packed_estimate : (s : ℕ) → PackedState (task_of r) s →
-        packed_value rows offsets tabs (length (patterns_of r)) (length (task_of r).sizes) s ≡ estimate (task_of r) (patterns_of r)
+        packed_value weights offsets tabs (length (patterns_of r)) s ≡ estimate (task_of r) (patterns_of r)
         (cells_of (length (task_of r).sizes) s)
-    packed_estimate s o = packed_value_lem (task_of r) (sound_packable r sound) (patterns_of r) rows offsets f tabs s o
+    packed_estimate s o = packed_value_lem (task_of r) (sound_packable r sound) (patterns_of r) weights offsets f tabs s o
         ∙ rw b.built (value_of_built (task_of r) (cells_of (length (task_of r).sizes) s) o.0 (unit_weights r) (patterns_of r) small (drop (length (tables (task_of r) (patterns_of r))) tabs))
 
     -- So the search of words is the search of the task.
-    pub packed_search_lem : (budget : ℕ) → packed_search (compiled (task_of r)) rows offsets tabs (action_count r) (pattern_count r) (variable_count r) budget
+    pub packed_search_lem : (budget : ℕ) → packed_search (compiled (task_of r)) weights offsets tabs (action_count r) (pattern_count r) budget
         (limit_of r) (pack_by low (start_of r)) ≡ answer_within budget r
     unfolding answer
-    packed_search_lem budget = rw (← actions_length r, ← patterns_length r, ← sizes_number r sound)
+    packed_search_lem budget = rw (← actions_length r, ← patterns_length r)
         (same_search (packed_system (compiled (task_of r)) (length (task_of r).actions)) (system (task_of r)) (cells_of (length (task_of r).sizes))
         (PackedState (task_of r))
         (packed_simulates (task_of r) (sound_well_formed r sound) (sound_packable r sound)) (estimate (task_of r) (patterns_of r))
-        (packed_value rows offsets tabs (length (patterns_of r)) (length (task_of r).sizes)) packed_estimate budget (limit_of r)
+        (packed_value weights offsets tabs (length (patterns_of r))) packed_estimate budget (limit_of r)
         (pack_by low (start_of r))
         (packed_state (task_of r) (sound_well_formed r sound) (sound_packable r sound) (start_of r) (sound_start r sound))
         ∙ ap (search (system (task_of r)) (estimate (task_of r) (patterns_of r)) budget (limit_of r))
         (cells_pack (task_of r).sizes (start_of r) (sound_packable r sound).values_few (sound_start r sound)))
 
     -- The same for numbers and words that are known to be the record's.
-    pub searched : {task : List ℕ} {actions patterns variables budget given limit s : ℕ} → task ≡ compiled (task_of r) → actions ≡ action_count r →
-        patterns ≡ pattern_count r → variables ≡ variable_count r →
-        budget ≡ given → limit ≡ limit_of r → s ≡ pack_by low (start_of r) →
-        packed_search task rows offsets tabs actions patterns variables budget limit s ≡ answer_within given r
-    searched {given = given} e a p v b l s = rw (e, a, p, v, b, l, s) (packed_search_lem given)
+    pub searched : {task : List ℕ} {actions patterns budget given limit s : ℕ} → task ≡ compiled (task_of r) → actions ≡ action_count r →
+        patterns ≡ pattern_count r → budget ≡ given → limit ≡ limit_of r → s ≡ pack_by low (start_of r) →
+        packed_search task weights offsets tabs actions patterns budget limit s ≡ answer_within given r
+    searched {given = given} e a p b l s = rw (e, a, p, b, l, s) (packed_search_lem given)
 
 -- The rounds' answer, as the search gives it.
 pub answered_so : (n : ℕ) (a : planning.Answer) {x : SearchAnswer} → answer_of n a ≡ Ok x → search_of n a ≡ Ok x

@@ -11,7 +11,7 @@ use Rattle.planning.specs.Plan.{Plan, arrived, act, Plans, done, ◌then◌, enc
 use Rattle.planning.specs.Search.{Result, succeeded, failed, stopped, and_then, or_else, examine_outcomes, try_actions, try_action, examination}
 use Rattle.planning.proofs.Budget.{count_of, outcomes_grow, count_grows}
 use Rattle.planning.proofs.Shift.{succeeded_anywhere}
-use Rattle.tables.specs.Packed.{action_weight, outcome_count, keep_mask, set_value, goal_mask, goal_value, packed_system}
+use Rattle.packed_task.specs.Packed.{action_weight, outcome_count, keep_mask, set_value, goal_mask, goal_value, packed_system}
 use Rattle.search.specs.declared.examine.Opening.{Opening}
 use Rattle.search.specs.declared.examine.Ending.{Ending}
 use Rattle.search.specs.declared.instance.Instance.{Instance}

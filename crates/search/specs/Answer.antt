@@ -3,7 +3,7 @@ use Rattle.std.specs.Prelude.{◌≡◌, ℕ, ◌+◌, ◌-◌, ◌<◌, ◌≤�
 use Rattle.planning.specs.Plan.{Plan}
 use Rattle.planning.specs.Search.{succeeded, found, over, spent, none, plan_buffer, rounds, search}
 use Rattle.planning.specs.Search as planning
-use Rattle.tables.specs.Packed.{packed_system}
+use Rattle.packed_task.specs.Packed.{packed_system}
 use Rattle.search.specs.Examination.{plan_size}
 use Rattle.search.specs.Value.{packed_value, Estimated}
 use Rattle.search.specs.Packed.{guided_examination, guided_value}
@@ -15,13 +15,13 @@ use Rattle.search.specs.declared.rounds.Unfinished.{Unfinished}
 use Rattle.search.specs.declared.instance.Instance.{Instance}
 use Rattle.search.specs.declared.memory.Slot.{Slot}
 
--- The search of a compiled task from the packed state s with the estimate from rows.
-abbrev pub packed_search : (task rows offsets tables : List ℕ) (actions patterns variables budget limit s : ℕ) → planning.Answer
-packed_search task rows offsets tables actions patterns variables budget limit s = search (packed_system task actions) (packed_value rows offsets tables patterns variables) budget limit s
+-- The search of a compiled task from the packed state s with the estimate from weights.
+abbrev pub packed_search : (task : List ℕ) (weights : List (List ℕ)) (offsets tables : List ℕ) (actions patterns budget limit s : ℕ) → planning.Answer
+packed_search task weights offsets tables actions patterns budget limit s = search (packed_system task actions) (packed_value weights offsets tables patterns) budget limit s
 
 -- The same of an instance, and its rounds from round d on with the count c.
 abbrev pub guided_search : Instance → ℕ → planning.Answer
-guided_search i s = packed_search i.task.now i.rows.now i.guide.offsets i.tables.now i.guide.actions i.guide.patterns i.guide.variables i.guide.budget i.guide.limit s
+guided_search i s = packed_search i.task.now i.weights.now i.guide.offsets i.tables.now i.guide.actions i.guide.patterns i.guide.budget i.guide.limit s
 
 abbrev pub guided_rounds : Instance → (s d c : ℕ) → planning.Answer
 guided_rounds i s d c = rounds (packed_system i.task.now i.guide.actions) (guided_value i) i.guide.budget i.guide.limit s (i.guide.limit + 1 - d) d c

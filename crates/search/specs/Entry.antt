@@ -18,7 +18,7 @@ use Rattle.task_record.specs.declared.refusal.Refusal.{Refusal}
 use Rattle.task_record.specs.declared.refusal.Refusal.TheVariants.{ShortPlan}
 use Rattle.patterns.specs.Answers.{large_pattern, short_tables, not_additive}
 use Rattle.patterns.specs.Estimate.{estimate_check}
-use Rattle.tables.specs.Packed.{pack_by, low, compiled}
+use Rattle.packed_task.specs.Packed.{pack_by, low, compiled}
 use Rattle.search.specs.Examination.{Applying}
 use Rattle.search.specs.Answer.{buffer_of}
 use Rattle.search.specs.declared.entry.SearchAnswer.{SearchAnswer}

@@ -1,4 +1,4 @@
-// A record whose search is prepared, as a type: nothing was refused, its task is compiled, and its tables stand. What the rows, the owners and the
+// A record whose search is prepared, as a type: nothing was refused, its task is compiled, and its tables stand. What the weights, the owners and the
 // guide ask of a record is known of every such one.
 ghost use Rattle.search.specs.Entry.{Prepared};
 

@@ -1,11 +1,10 @@
 // The index of a state in a pattern's table by the bytes of its word: for each byte that the pattern has, one entry says what its two
 // digits add. There is room for 16 blocks of 256 entries; a pattern that finds none is summed digit by digit.
-// Asks for rows that hold weights, and for at most 8 patterns and 16 variables.
-ghost use Rattle.std.specs.Prelude.{◌≡◌, ◌+◌, ◌*◌, ◌/◌, ◌%◌, ◌^◌, ◌<◌, ◌≤◌};
-ghost use Rattle.search.specs.Value.{packed_index};
-ghost use Rattle.search.specs.ByteRows.{block_sum, BytesOf, Linear, SumsFilled, BlockFilled, SpanFilled, PatternPlaced};
+// Asks for at most 8 patterns.
+ghost use Rattle.std.specs.Prelude.{◌≡◌, ◌+◌, ◌*◌, ◌/◌, ◌%◌, ◌^◌, ◌<◌, ◌≤◌, ℕ, [], slice_index, slice_index_or};
+ghost use Rattle.tables.specs.Steps.{weigh};
+ghost use Rattle.search.specs.ByteRows.{block_sum, BytesOf, BlockFilled, SpanFilled, PatternPlaced};
 
-use crate::column::Column;
 use crate::estimate::index_of;
 use crate::instance::Instance;
 
@@ -24,8 +23,8 @@ pub(crate) struct Places {
     pub spans: [Option<Span>; 8],
 }
 
-// Stays: `as`: a word has no `From` into a place, and `try_from` has a case that never happens. `tables` has the same line for its sets: as a public
-// function there, with its promise, it would be longer than what it saves here.
+// Stays: `as`: a word has no `From` into a place, and `try_from` has a case that never happens. `packed_task` has the same line for its sets: as a
+// public function there, with its promise, it would be longer than what it saves here.
 fn lowest_byte(s: u64) -> usize
     ensures { (result ≡ s % 256) × (result < 256) }
 {
@@ -57,10 +56,10 @@ fn sum_blocks(sums: &[u16; 4096], at: usize, count: usize, s: u64) -> usize
 // The index of a state in the table of pattern p.
 pub(crate) fn index_by_bytes(instance: &Instance, s: u64, p: usize) -> usize
     requires { p < instance.now.guide.patterns }
-    ensures { (result ≡ packed_index instance.now.rows.now p 0 instance.now.guide.variables s) × (result ≤ 65535 * 16) }
+    ensures { (result ≡ weigh (slice_index_or instance.now.weights.now p []) s) × (result ≤ 983025 * 16) }
 {
     match instance.places.spans[p] {
-        None => index_of(instance, s, p),
+        None => index_of(&instance.weights[p], s),
         Some(span) => {
             let rest = from_bit(s, 8 * span.first);
             sum_blocks(&instance.places.sums, span.at, span.count, rest)
@@ -68,36 +67,27 @@ pub(crate) fn index_by_bytes(instance: &Instance, s: u64, p: usize) -> usize
     }
 }
 
-// The entries of a block whose upper digit adds `high`.
-// Stays: by number: over a `zip` of a part of `sums` with `low` a proof knows no cell of `sums` afterwards.
-fn fill_sums(sums: &mut [u16; 4096], at: usize, low: [u16; 16], high: u16)
-    requires { at + 16 ≤ 4096 }
-    ensures { SumsFilled low high sums.old sums.new at }
-{
-    for l in 0..16usize {
-        sums[at + l] = low[l].wrapping_add(high);
-    }
-}
-
-fn fill_block(sums: &mut [u16; 4096], at: usize, low: [u16; 16], high: [u16; 16])
-    requires { at + 256 ≤ 4096 }
+// The block of a byte whose digits have these weights.
+// Stays: by number: what stands there is said of the number, and over a part of `sums` a proof knows no other cell of `sums` afterwards.
+fn fill_block(sums: &mut [u16; 4096], at: usize, low: u16, high: u16)
+    requires { (at + 256 ≤ 4096) × (low + high ≤ 4369) }
     ensures { BlockFilled low high sums.old sums.new at }
 {
-    for (h, upper) in high.iter().enumerate() {
-        fill_sums(sums, at + 16 * h, low, *upper);
+    for x in 0..256u16 {
+        sums[at + usize::from(x)] = x % 16 * low + x / 16 * high;
     }
 }
 
-// The blocks of a span; false if the most that a byte adds would be no entry.
-fn fill_span(column: &Column, sums: &mut [u16; 4096], span: Span) -> bool
+// The blocks of a span; false if the most that a byte adds would be no entry: fifteen times its two weights.
+fn fill_span(weights: &[u16; 16], sums: &mut [u16; 4096], span: Span) -> bool
     requires { (span.first + span.count ≤ 8) × (span.at + 256 * span.count ≤ 4096) }
-    ensures { SpanFilled column.now.rows.now column.now.variables column.now.p span.first span.count sums.old sums.new span.at result }
+    ensures { SpanFilled weights.now span.first span.count sums.old sums.new span.at result }
 {
     for j in 0..span.count {
         let v = 2 * (span.first + j);
-        let low = column.values_of(v);
-        let high = column.values_of(v + 1);
-        if low[15].checked_add(high[15]).is_none() {
+        let low = weights[v];
+        let high = weights[v + 1];
+        if low.saturating_add(high) > 4369 {
             return false;
         }
         fill_block(sums, span.at + 256 * j, low, high);
@@ -105,13 +95,26 @@ fn fill_span(column: &Column, sums: &mut [u16; 4096], span: Span) -> bool
     true
 }
 
-// The blocks of a pattern from `at` on, if there is room for them, and where the next ones begin.
-fn place_pattern(column: &Column, sums: &mut [u16; 4096], at: usize) -> (Option<Span>, usize)
-    requires { at ≤ 4096 }
-    ensures { PatternPlaced column.now.rows.now column.now.variables column.now.p sums.old sums.new at result.0 result.1 }
+// The first variable that has a weight, and the place after the last.
+fn first_used(weights: &[u16; 16]) -> usize
+    ensures { (result ≤ 16) × ((v : ℕ) → v < result → slice_index weights.now v ≡ 0) }
 {
-    let first = column.first_used() / 2;
-    let end = (column.end_used() + 1) / 2;
+    weights.iter().position(|&w| w != 0).unwrap_or(16)
+}
+
+fn end_used(weights: &[u16; 16]) -> usize
+    ensures { (result ≤ 16) × ((v : ℕ) → result ≤ v → slice_index weights.now v ≡ 0) }
+{
+    16 - weights.iter().rev().position(|&w| w != 0).unwrap_or(16)
+}
+
+// The blocks of a pattern from `at` on, if there is room for them, and where the next ones begin.
+fn place_pattern(weights: &[u16; 16], sums: &mut [u16; 4096], at: usize) -> (Option<Span>, usize)
+    requires { at ≤ 4096 }
+    ensures { PatternPlaced weights.now sums.old sums.new at result.0 result.1 }
+{
+    let first = first_used(weights) / 2;
+    let end = (end_used(weights) + 1) / 2;
     if end <= first {
         return (None, at);
     }
@@ -120,26 +123,20 @@ fn place_pattern(column: &Column, sums: &mut [u16; 4096], at: usize) -> (Option<
         return (None, at);
     }
     let span = Span { first, count, at };
-    if !fill_span(column, sums, span) {
+    if !fill_span(weights, sums, span) {
         return (None, at);
     }
     (Some(span), at + 256 * count)
 }
 
 // The blocks of every pattern.
-pub(crate) fn fill_places(
-    rows: &[u16; 2048],
-    patterns: usize,
-    variables: usize,
-    places: &mut Places,
-)
-    requires { (patterns ≤ 8) × (variables ≤ 16) × (Linear rows.now patterns variables) }
-    ensures { BytesOf rows.now patterns variables places.new }
+pub(crate) fn fill_places(weights: &[[u16; 16]; 8], patterns: usize, places: &mut Places)
+    requires { patterns ≤ 8 }
+    ensures { BytesOf weights.now patterns places.new }
 {
     let mut at = 0usize;
     for p in 0..patterns {
-        let column = Column { rows, p, variables };
-        let (span, end) = place_pattern(&column, &mut places.sums, at);
+        let (span, end) = place_pattern(&weights[p], &mut places.sums, at);
         places.spans[p] = span;
         at = end;
     }

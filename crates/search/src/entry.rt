@@ -10,7 +10,7 @@ use crate::byte_rows::{Places, fill_places};
 use crate::guide::guide_of;
 use crate::instance::Instance;
 use crate::rounds::{TooLong, run_rounds};
-use crate::rows::fill_rows;
+use crate::weights::fill_weights;
 use tables::record_tables::prepare;
 use task_record::cells::budget;
 use task_record::refusal::Refusal;
@@ -33,16 +33,16 @@ fn search_built(built: &BuiltTask, plan: &mut [u8]) -> Result<SearchAnswer, TooL
         sums: [0; 4096],
         spans: [None; 8],
     };
-    let mut rows = [0u16; 2048];
+    let mut weights = [[0u16; 16]; 8];
     let mut offsets = [0u32; 8];
-    fill_rows(built, &mut rows, &mut offsets);
+    fill_weights(built, &mut weights, &mut offsets);
     let guide = guide_of(built, offsets);
-    fill_places(&rows, guide.patterns, guide.variables, &mut places);
+    fill_places(&weights, guide.patterns, &mut places);
     let instance = Instance {
         task: built.task,
         sets: built.sets,
         places: &places,
-        rows: &rows,
+        weights: &weights,
         guide,
         tables: built.tables,
     };

@@ -1,11 +1,11 @@
-// The estimate of a packed state from rows: its index in a pattern's table, the entry there, and its value.
+// The estimate of a packed state from weights: its index in a pattern's table, the entry there, and its value.
 // Stays: `as` of a word and of a table's place into an index: they have no `From` into one, and `try_from` has a case that never happens.
 // Asks for a pattern of the instance; the tables may be any.
 // Stays: `p < instance.guide.patterns`, here and in `byte_rows` and `carried`: each index needs the bound of this one number, and a type for it would
 // be made at every call.
-ghost use Rattle.std.specs.Prelude.{◌≡◌, ◌+◌, ◌*◌, ◌%◌, ◌<◌, ◌≤◌, slice_index, slice_index_or};
+ghost use Rattle.std.specs.Prelude.{◌≡◌, ◌+◌, ◌*◌, ◌<◌, ◌≤◌, [], slice_index, slice_index_or};
 ghost use Rattle.patterns.specs.Value.{value_of};
-ghost use Rattle.search.specs.Value.{packed_index};
+ghost use Rattle.tables.specs.Steps.{weigh};
 ghost use Rattle.search.specs.Packed.{guided_value};
 
 use crate::instance::Instance;
@@ -13,22 +13,27 @@ use crate::instance::Instance;
 // An infinite entry as a number. Where it stands for a value, that is above every depth.
 pub(crate) const INFINITE: u64 = 65535;
 
-fn lowest_digit(s: u64) -> usize
-    ensures { (result ≡ s % 16) × (result < 16) }
+// A digit times a weight.
+fn times(x: u64, w: u16) -> usize
+    requires { x < 16 }
+    ensures { (result ≡ x * w) × (result ≤ 983025) }
 {
-    (s % 16) as usize
+    x as usize * usize::from(w)
 }
 
-// The index of a state in the table of pattern p.
-pub(crate) fn index_of(instance: &Instance, s: u64, p: usize) -> usize
-    requires { p < instance.now.guide.patterns }
-    ensures { (result ≡ packed_index instance.now.rows.now p 0 instance.now.guide.variables s) × (result ≤ 65535 * 16) }
+// The index of a state by a pattern's weights. It ends with the last digit that is not 0.
+// Stays: one digit at a time, where `tables` takes four for its build: compiled into the cycle, four take up to 1.05 of the instructions of a search. Most
+// patterns have blocks.
+pub(crate) fn index_of(weights: &[u16; 16], s: u64) -> usize
+    ensures { (result ≡ weigh weights.now s) × (result ≤ 983025 * 16) }
 {
     let mut i = 0usize;
     let mut rest = s;
-    for v in 0..instance.guide.variables {
-        let x = lowest_digit(rest);
-        i += usize::from(instance.rows[(16 * v + x) * 8 + p]);
+    for w in weights {
+        if rest == 0 {
+            return i;
+        }
+        i += times(rest % 16, *w);
         rest /= 16;
     }
     i
@@ -44,7 +49,7 @@ fn entry_at(tables: &[u16], i: usize) -> u16
 
 // The cost that the table of pattern p gives at an index.
 pub(crate) fn cost_at(instance: &Instance, p: usize, i: usize) -> u64
-    requires { (p < instance.now.guide.patterns) × (i ≤ 65535 * 16) }
+    requires { (p < instance.now.guide.patterns) × (i ≤ 983025 * 16) }
     ensures { (result ≡ slice_index_or instance.now.tables.now (slice_index instance.now.guide.offsets p + i) 65535) × (result < 65536) }
 {
     u64::from(entry_at(instance.tables, instance.guide.offsets[p] as usize + i))
@@ -56,7 +61,7 @@ pub(crate) fn value_of(instance: &Instance, s: u64) -> Option<u64>
 {
     let mut sum = 0u64;
     for p in 0..instance.guide.patterns {
-        let e = cost_at(instance, p, index_of(instance, s, p));
+        let e = cost_at(instance, p, index_of(&instance.weights[p], s));
         if e == INFINITE {
             return None;
         }

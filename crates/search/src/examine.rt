@@ -10,11 +10,13 @@ ghost use Rattle.search.specs.Cycle.{Examinable, Openable, Examines, Glanced};
 
 use crate::buffer::ARRIVED;
 use crate::carried::{rest_of, sum_with};
-use crate::compiled::{is_beyond, is_goal, left_after, outcome_count, successor};
+use crate::depth::{is_beyond, left_after};
 use crate::instance::Instance;
 use crate::memory::{Slot, note, recall};
-use tables::applying::applying;
-use tables::sets::Members;
+use packed_task::applying::applying;
+use packed_task::compiled_task::{is_goal, outcome_count, successor};
+use packed_task::numbers::{ActionNumber, OutcomeNumber};
+use packed_task::sets::Members;
 
 // How an examination begins.
 #[derive(Clone, Copy)]
@@ -128,15 +130,16 @@ fn outcomes(instance: &Instance, memory: &mut [Slot], m: usize, v: Visit) -> End
     requires { (Examinable instance.now memory.old v.s v.value v.d v.count) × (m < instance.now.guide.actions) × (v.value < 256) }
     ensures { Examines plans_size plans_head (guided_examination instance.now) instance.now.guide.budget (guided_outcomes instance.now v.d v.s m v.count) v.count memory.new result }
 {
-    if is_beyond(instance.task, m, v.d) {
+    let action = ActionNumber { number: m };
+    if is_beyond(instance.task, action, v.d) {
         return Ending::Failed(v.count);
     }
-    let left = left_after(instance.task, m, v.d);
+    let left = left_after(instance.task, action, v.d);
     let rest = rest_of(instance, v.s, m, v.value);
     let mut c = v.count;
     let mut n = 0u32;
-    for k in 0..outcome_count(instance.task, m) {
-        let s = successor(instance.task, v.s, m, k);
+    for k in 0..outcome_count(instance.task, action) {
+        let s = successor(instance.task, v.s, action, OutcomeNumber { number: k });
         let w = Visit {
             s,
             value: sum_with(instance, s, m, rest),

@@ -2,7 +2,7 @@
 // Asks for a built task.
 ghost use Rattle.std.specs.Prelude.{◌≡◌, ℕ, List};
 ghost use Rattle.task_record.specs.TaskOf.{task_of, patterns_of};
-ghost use Rattle.search.specs.Rows.{RowsOf};
+ghost use Rattle.search.specs.Weights.{WeightsOf};
 ghost use Rattle.search.specs.Owned.{Owned};
 ghost use Rattle.search.specs.Guide.{Sized};
 
@@ -28,7 +28,7 @@ pub(crate) struct Guide {
 pub(crate) fn guide_of(built: &BuiltTask, offsets: [u32; 8]) -> Guide
     ensures sized { Sized built.now.rec.now built.now.budget result }
     ensures placed { result.offsets ≡ offsets }
-    ensures owned { (rows begins : List ℕ) → RowsOf (task_of built.now.rec.now).sizes (patterns_of built.now.rec.now) rows begins → Owned built.now.task.now rows result.actions result.patterns result.variables result.owners }
+    ensures owned { (weights : List (List ℕ)) (begins : List ℕ) → WeightsOf (task_of built.now.rec.now).sizes (patterns_of built.now.rec.now) weights begins → Owned built.now.task.now weights result.actions result.patterns result.owners }
 {
     let mut owners = [8u8; 64];
     fill_owners(built, &mut owners);

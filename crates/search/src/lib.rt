@@ -1,4 +1,4 @@
-// The search of a record's task (`entry`): its rows, the estimate of a packed state, examining states and outcomes (`examine`), what is remembered of
+// The search of a record's task (`entry`): the weights of its patterns, the estimate of a packed state, examining states and outcomes (`examine`), what is remembered of
 // them (`memory`), rounds, and writing the plan that was found (`write`).
 #![tactic(auto)]
 
@@ -6,8 +6,7 @@ mod buffer;
 mod built;
 mod byte_rows;
 mod carried;
-mod column;
-mod compiled;
+mod depth;
 pub mod entry;
 mod estimate;
 mod examine;
@@ -16,6 +15,6 @@ mod instance;
 mod memory;
 mod owners;
 mod rounds;
-mod rows;
+mod weights;
 mod write;
 mod written;

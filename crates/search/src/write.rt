@@ -11,12 +11,14 @@ ghost use Rattle.search.specs.Packed.{guided_examination};
 ghost use Rattle.search.specs.Written.{Names, Succeeding, Starts, Writable};
 
 use crate::buffer::{ARRIVED, put};
-use crate::compiled::{is_goal, left_after, outcome_count, successor};
+use crate::depth::left_after;
 use crate::estimate::{INFINITE, value_of};
 use crate::examine::{Ending, Visit, examine_any};
 use crate::instance::Instance;
 use crate::memory::{EMPTY, Slot, recall};
 use crate::written::{find_passage, note_passage};
+use packed_task::compiled_task::{is_goal, outcome_count, successor};
+use packed_task::numbers::{ActionNumber, OutcomeNumber};
 
 // How a plan begins: the number of its bytes, and the first of them.
 #[derive(Clone, Copy)]
@@ -96,9 +98,10 @@ impl<'a> Writer<'a> {
         let Some(m) = action_of(start.first) else {
             return end;
         };
-        let left = left_after(instance.task, m, d);
-        for k in 0..outcome_count(instance.task, m) {
-            let x = successor(instance.task, s, m, k);
+        let action = ActionNumber { number: m };
+        let left = left_after(instance.task, action, d);
+        for k in 0..outcome_count(instance.task, action) {
+            let x = successor(instance.task, s, action, OutcomeNumber { number: k });
             end = self.write_plan(x, left, end);
         }
         note_passage(self.written, s, d, at, start.size);

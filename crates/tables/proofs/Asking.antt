@@ -1,17 +1,20 @@
 -- Laws of what an action says along its edges, and of asking it about one state. Assumes nothing.
-use Rattle.std.proofs.Common.{◌≡◌, ℕ, zero, suc, ◌+◌, ◌*◌, ◌<◌, ◌≤◌, min, max, true, false, ◌⊎◌, Bool, List, length, get_or, drop, set, sym, refl, ap, ◌∙◌, inl, inr, mul-le-mul, zero-add, arith, length-set, drop_of_length-le, get_or-set_other, le-ltb}
+use Rattle.std.proofs.Common.{◌≡◌, ℕ, zero, suc, ◌+◌, ◌*◌, ◌/◌, ◌%◌, ◌<◌, ◌≤◌, min, max, true, false, ◌⊎◌, Bool, List, [], ◌∷◌, length, get_or, drop, set, sym, refl, ap, ◌∙◌, inl, inr, mul-le-mul, zero-add, arith, length-set, drop_of_length-le, get_or-set_other, le-ltb, ◌^◌, lt-ltb}
 use native.Mathlib.Decide.{ℕ_discrete, dec_lt}
 use lib.Bits.{bit_and, and_zero_r}
 use lib.ListN.{get_or-eq_default}
-use Rattle.tables.specs.Packed.{outcome_count, action_weight}
+use Rattle.packed_task.specs.Packed.{outcome_count, action_weight}
 use Rattle.tables.specs.Steps.{Space, weigh, worst, raised, outcome_entry, offer, offer_at, permitted_at, none, more}
 use Rattle.tables.specs.Waiting.{index_after, Waits, Heard, low, later}
 use Rattle.tables.specs.Queue.{Queue, Put}
-use Rattle.tables.specs.Edges.{edge_back, edge_action, edge_weight, edge_lanes, edge_free, edge_first, edge_end, lane_weight, lane_sum, lane_after, way_back, Before, EdgesOf}
-use Rattle.tables.specs.Visits.{way_forward, Offered, Asked}
-use Rattle.tables.specs.declared.proved_worklist.edge.Edge.{Edge}
+use Rattle.tables.specs.Edges.{edge_back, edge_action, edge_weight, edge_lanes, edge_free, edge_first, edge_end, lane_weight, lane_sum, lane_after, way_back, Plain, Single, Before, EdgesOf}
+use Rattle.tables.specs.Visits.{way_forward, Offered, Says, Only, Asked, AskedFrom}
+use Rattle.tables.specs.declared.worklist.edge.Edge.{Edge}
 use Rattle.tables.proofs.Settled.{inside}
-use Rattle.tables.proofs.Sweeping.{weigh-zero, total-set, false_true}
+use Rattle.task_record.proofs.Tests.{false_true}
+use Rattle.tables.proofs.Stepping.{weigh-zero, weigh_step, total-set}
+use Rattle.tables.proofs.Bitwise.{deeper}
+use Rattle.tables.proofs.Digits.{sixteens_next}
 use Rattle.tables.proofs.Law.{worst_at, outcome_bound, heard_lowered, heard_here}
 use Rattle.tables.proofs.Visiting.{going_none}
 
@@ -20,11 +23,23 @@ pub weigh-over : (w : List ℕ) (v s : ℕ) → length w ≤ v → weigh (drop v
 unfolding weigh
 weigh-over w v s l = rw (drop_of_length-le w l)
 
+-- Digits that are 0 add nothing.
+pub weigh_skip : (w : List ℕ) (k v s a : ℕ) → s ≡ a * 16 ^ k → weigh (drop v w) s ≡ weigh (drop (v + k) w) (s / 16 ^ k)
+weigh_skip w zero v s a e = let z : v + 0 ≡ v = omega arith in let y : s / 16 ^ 0 ≡ s = omega arith in rw (z, y) refl
+weigh_skip w (suc k) v s a e = let z : v + suc k ≡ v + 1 + k = omega arith in let n = sixteens_next s k a e in let f = rw n.0 at (weigh_step w v s) in
+    rw (z, sym (deeper s k)) (omega (arith, f) ∙ weigh_skip w k (v + 1) (s / 16) a n.1)
+
 pub weigh_apart : (w : List ℕ) (s free : ℕ) → free ≡ 0 → weigh w (bit_and s free) ≡ 0
 weigh_apart w s free e = rw (e, and_zero_r s) (weigh-zero w)
 
 pub lane_low : (digit weight : ℕ) → digit < 16 → weight < 65536 → digit * weight ≤ 983025
 lane_low digit weight l b = let x : digit ≤ 15 = omega arith in let y : weight ≤ 65535 = omega arith in let p = mul-le-mul x y in omega (arith, p)
+
+-- The index of a word of small weights.
+pub weigh_few : (ws : List ℕ) (s : ℕ) → ((i : ℕ) → get_or ws i 0 < 65536) → weigh ws s ≤ 983025 * length ws
+unfolding weigh
+weigh_few [] s h = omega arith
+weigh_few (w ∷ ws) s h = let r = weigh_few ws (s / 16) (λ i. h (suc i)) in let b : w < 65536 = h 0 in let m = lane_low (s % 16) w (omega arith) b in omega (arith, r, m)
 
 -- A lane without weight adds nothing.
 pub lane_none : (lane s : ℕ) → lane_weight lane ≡ 0 → lane_sum lane s ≡ 0
@@ -57,11 +72,6 @@ raised_cut w v = either (dec_lt (w + v) 65535)
     either : Dec (w + v < 65535) → raised (min w 65535) v ≡ raised w v
     either (yes l) = let e : min w 65535 ≡ w = omega arith in rw e
     either (no l) = rw (le-ltb (w + v) 65535 (omega arith), le-ltb (min w 65535 + v) 65535 (omega arith))
-
--- Nothing makes an infinite entry finite.
-raised_infinite : (w v : ℕ) → v ≡ 65535 → raised w v ≡ 65535
-unfolding raised
-raised_infinite w v z = rw (le-ltb (w + v) 65535 (omega arith))
 
 -- Where edge g leads from state i.
 abbrev pub onward : Space → List Edge → ℕ → ℕ → ℕ
@@ -128,41 +138,48 @@ module _ {x : Space} {sizes : List ℕ} {es : List Edge} {t : List ℕ} {k e i f
       let y = q ∙ rw (o.weight e l) (raised_cut (action_weight x.task (edge_action es e)) most) ∙ ap (raised (action_weight x.task (edge_action es e))) z in
       record { said = λ h. y; nothing = λ h. low (omega (arith, y, h, c)) }
 
--- An edge without a free digit leads from the state before j to j alone.
-only_on : (x : Space) (es : List Edge) (e i j : ℕ) → edge_back es e < 65536 → j < 65536 → lane_weight (edge_lanes es e) ≡ 0 → lane_weight (lane_after (edge_lanes es e)) ≡ 0 → edge_free es e ≡ 0 → i ≡ way_back es e j → onward x es i e ≡ j
+-- An edge whose first lane alone is free leads to j from the states that the lane's values give, and no others.
+pub single_on : (x : Space) (es : List Edge) (e i j : ℕ) → edge_back es e < 65536 → j < 65536 → Single es e → i ≡ way_back es e j + lane_sum (edge_lanes es e) (get_or x.states i 0) → onward x es i e ≡ j
 unfolding way_forward way_back
-only_on x es e i j c d m n f a = let s = get_or x.states i 0 in
-    rw (lane_none (edge_lanes es e) s m, lane_none (lane_after (edge_lanes es e)) s n, weigh_apart x.weights s (edge_free es e) f) (omega (arith, a, c, d))
+single_on x es e i j c d p a = let s = get_or x.states i 0 in rw (lane_none (lane_after (edge_lanes es e)) s p.two, weigh_apart x.weights s (edge_free es e) p.free) (omega (arith, a, c, d))
 
--- Where it is the only edge of its action, that says its weight and the entry of j.
-pub offered_only : {x : Space} {sizes : List ℕ} {es : List Edge} {t : List ℕ} {marks : List Bool} {k e i j r : ℕ} → EdgesOf x sizes (length t) es k → e < k → i < length t → length t ≤ 4096 → permitted_at x (edge_action es e) i ≡ true →
-    j < length t → lane_weight (edge_lanes es e) ≡ 0 → lane_weight (lane_after (edge_lanes es e)) ≡ 0 → edge_free es e ≡ 0 → i ≡ way_back es e j → edge_end es e ≡ edge_first es e + 1 →
-    get_or t i 0 ≤ 65535 → get_or t j 0 ≤ 65535 → r ≡ raised (edge_weight es e) (get_or t j 0) → Offered x t marks (edge_action es e) i r
-offered_only {x} {sizes} {es} {t} {marks} {k} {e} {i} {j} {r} o l b few p d m n f a single c u q = either (ℕ_discrete (get_or t j 0) 65535)
+pub single_before : (x : Space) (es : List Edge) (e i j : ℕ) → Single es e → Before x es e i j → i ≡ way_back es e j + lane_sum (edge_lanes es e) (get_or x.states i 0)
+single_before x es e i j p b = let s = get_or x.states i 0 in let y = lane_none (lane_after (edge_lanes es e)) s p.two in let z = weigh_apart x.weights s (edge_free es e) p.free in omega (arith, b.sum, y, z)
+
+-- One that leaves no digit free leads from the state before j to j.
+pub plain_on : (x : Space) (es : List Edge) (e i j : ℕ) → edge_back es e < 65536 → j < 65536 → Plain es e → i ≡ way_back es e j → onward x es i e ≡ j
+plain_on x es e i j c d p a = let n = lane_none (edge_lanes es e) (get_or x.states i 0) p.one in single_on x es e i j c d (record { two = p.two; free = p.free }) (omega (arith, a, n))
+
+raised_less : (w v said : ℕ) → said ≡ v + w → said < 65535 → said ≡ raised w v
+unfolding raised
+raised_less w v said e l = let s : w + v < 65535 = omega arith in rw (lt-ltb (w + v) 65535 s) (omega (arith, e))
+
+-- The only edge of an action says the entry that it leads to and its weight.
+offered_only : {x : Space} {sizes : List ℕ} {es : List Edge} {t : List ℕ} {marks : List Bool} {k e i said : ℕ} → EdgesOf x sizes (length t) es k → e < k → i < length t → length t ≤ 4096 → permitted_at x (edge_action es e) i ≡ true →
+    Only x es t e i said → Offered x t marks (edge_action es e) i said
+offered_only {x} {sizes} {es} {t} {marks} {k} {e} {i} {said} o l b few p s =
+    offered_end o l b few p (offering_next o l b few p (offering_start x es t e i) s.after (get_or t s.after 0) first (inside t s.after 0 65535 s.says.near) near (get_or t s.after 0) (omega arith) small finite) (omega (arith, s.alone)) s.says.small
+    (raised_less (edge_weight es e) (get_or t s.after 0) said s.says.said_is (omega (arith, s.says.less, s.says.small)))
   where
-    is : get_or t j 0 ≡ get_or t j 65535
-    is = inside t j 0 65535 d
-
     near : edge_first es e < edge_end es e
-    near = omega (arith, single)
+    near = omega (arith, s.alone)
 
-    first : j ≡ onward x es i (edge_first es e)
-    first = let w = o.own e l in let z : edge_first es e ≡ e = omega (arith, w.after, w.before, single) in rw z (sym (only_on x es e i j (o.back e l) (omega (arith, d, few)) m n f a))
+    small : get_or t s.after 0 ≤ 65535
+    small = omega (arith, s.says.said_is, s.says.less, s.says.small)
 
-    start : Offering x es t e i (edge_first es e) 0
-    start = offering_start x es t e i
+    finite : get_or t s.after 0 ≡ 65535 → ⊥
+    finite z = omega (arith, z, s.says.said_is, s.says.less, s.says.small)
 
-    either : Dec (get_or t j 0 ≡ 65535) → Offered x t marks (edge_action es e) i r
-    either (yes z) = offered_infinite o l b few p start j (get_or t j 0) first is near (q ∙ raised_infinite (edge_weight es e) (get_or t j 0) z) c z
-    either (no z) = offered_end o l b few p (offering_next o l b few p start j (get_or t j 0) first is near (get_or t j 0) (omega arith) u z) (omega (arith, single)) c q
+    first : s.after ≡ onward x es i (edge_first es e)
+    first = let w = o.own e l in let z : edge_first es e ≡ e = omega (arith, w.after, w.before, s.alone) in rw z (sym s.there)
 
 -- The action is asked about one state.
 module _ {x : Space} {m i : ℕ} {t q : List ℕ} {marks : List Bool} {h c : ℕ} (l : i < length t) (k : Queue (length t) q marks h c) where
   pub asked_never : permitted_at x m i ≡ false → Asked x m i t marks c t q marks h c
-  asked_never e = record { going = going_none k; heard = λ p. false_true (sym e ∙ p) }
+  asked_never e = record { going = λ j n. going_none k; heard = λ p. false_true (sym e ∙ p) }
 
   pub asked_miss : (v : ℕ) → Offered x t marks m i v → get_or t i 0 ≤ v → Asked x m i t marks c t q marks h c
-  asked_miss v o b = record { going = going_none k; heard = λ p. either (dec_lt v 65535) }
+  asked_miss v o b = record { going = λ j n. going_none k; heard = λ p. either (dec_lt v 65535) }
     where
       either : Dec (v < 65535) → Heard x t marks m i
       either (yes a) = low (omega (arith, o.said a, b))
@@ -170,7 +187,7 @@ module _ {x : Space} {m i : ℕ} {t q : List ℕ} {marks : List Bool} {h c : ℕ
 
   hit : {q₁ : List ℕ} {marks₁ : List Bool} {d : ℕ} → m < x.actions → permitted_at x m i ≡ true → offer_at x t m i < get_or t i 0 → Put (length t) q marks h c i q₁ marks₁ d → Asked x m i t marks c (set t i (offer_at x t m i)) q₁ marks₁ h d
   hit {q₁} {marks₁} {d} a e f p = let w = offer_at x t m i in let n = total-set t i w l in let b : w ≤ get_or t i 0 = omega (arith, f) in record {
-    going = record {
+    going = λ j o. record {
       moved = record {
         long = length-set t i w;
         steps = more m i a l e f none;
@@ -180,6 +197,7 @@ module _ {x : Space} {m i : ℕ} {t q : List ℕ} {marks : List Bool} {h c : ℕ
         falls = omega (arith, f, p.few, n);
       };
       queue = rw (length-set t i w) p.queue;
+      stays = get_or-set_other t i j w 0 o;
     };
     heard = λ a. heard_here x t marks marks₁ m i w l b p.still p.here refl;
   }
@@ -191,3 +209,19 @@ module _ {x : Space} {m i : ℕ} {t q : List ℕ} {marks : List Bool} {h c : ℕ
   pub asked_hit : {u q₁ : List ℕ} {marks₁ : List Bool} {n d : ℕ} (v : ℕ) → m < x.actions → permitted_at x m i ≡ true → get_or t i 0 ≤ 65535 → Offered x t marks m i v → v < get_or t i 0 → u ≡ set t i v → n ≡ length t →
       Put n q marks h c i q₁ marks₁ d → Asked x m i t marks c u q₁ marks₁ h d
   asked_hit v a e b o f g y p = let z = o.said (omega (arith, b, f)) in let g₁ = rw z at g in rw g₁ (hit a e (omega (arith, z, f)) (rw y at p))
+
+-- The only edge of its action.
+pub asked_only : {x : Space} {sizes : List ℕ} {es : List Edge} {t q u q₁ : List ℕ} {marks marks₁ : List Bool} {k e i said h c n d : ℕ} → EdgesOf x sizes (length t) es k → e < k → i < length t → length t ≤ 4096 → Queue (length t) q marks h c →
+    permitted_at x (edge_action es e) i ≡ true → Only x es t e i said → u ≡ set t i said → n ≡ length t → Put n q marks h c i q₁ marks₁ d → Asked x (edge_action es e) i t marks c u q₁ marks₁ h d
+asked_only {said = said} o l b few k p s g y z = asked_hit b k said (o.known _ l) p s.says.small (offered_only o l b few p s) s.says.less g y z
+
+-- The entry that is said to be less is not the one that says so.
+pub less_other : (t : List ℕ) (i j w said : ℕ) → said ≡ get_or t j 0 + w → said < get_or t i 0 → j ≡ i → ⊥
+less_other t i j w said s l e = let f = rw e at s in omega (arith, f, l)
+
+module _ {x : Space} {es : List Edge} {t : List ℕ} {marks : List Bool} {e i j said h c : ℕ} (s : Says es t e i j said) where
+  pub asked_from : {u q₁ : List ℕ} {marks₁ : List Bool} {d : ℕ} → Asked x (edge_action es e) i t marks c u q₁ marks₁ h d → AskedFrom x es e j i t marks c u q₁ marks₁ h d
+  asked_from a = record { going = a.going j (less_other t i j (edge_weight es e) said s.said_is s.less); heard = λ p n. a.heard p }
+
+  pub asked_elsewhere : {q : List ℕ} → Queue (length t) q marks h c → (Before x es e i j → ⊥) → AskedFrom x es e j i t marks c t q marks h c
+  asked_elsewhere k f = record { going = going_none k; heard = λ p n. absurd (f n) }

@@ -2,12 +2,12 @@
 use Rattle.std.proofs.Common.{◌≡◌, ℕ, zero, suc, ◌+◌, ◌-◌, ◌*◌, ◌<◌, ◌≤◌, Bool, true, false, not, List, sym, refl, ◌∙◌, arith}
 use lib.Bits.{bit_and}
 use lib.Count.{count_trailing_zeros}
-use Rattle.tables.specs.Packed.{outcome_count}
-use Rattle.tables.specs.Sets.{set_from}
-use Rattle.tables.specs.Steps.{idles}
+use Rattle.packed_task.specs.Packed.{outcome_count}
+use Rattle.packed_task.specs.Sets.{set_from}
+use Rattle.packed_task.specs.Within.{idles}
 use Rattle.tables.specs.Edges.{outcomes_from}
-use Rattle.tables.proofs.SetWords.{Left, left_all, Next, next_left, none_left}
-use Rattle.tables.proofs.Sweeping.{false_true}
+use Rattle.packed_task.proofs.SetWords.{Left, left_all, Next, next_left, none_left}
+use Rattle.task_record.proofs.Tests.{false_true}
 
 -- The outcomes that are left to count: those of the next action that does not idle and of the actions after it.
 outcomes_skip : (a : List ℕ) (k from d n : ℕ) → ((j : ℕ) → from ≤ j → j < from + d → idles a k j ≡ true) → outcomes_from a k from (d + n) ≡ outcomes_from a k (from + d) n

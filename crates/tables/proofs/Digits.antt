@@ -1,5 +1,7 @@
 -- An outcome backwards, digit by digit: what the state after it has, and how the index of the state before it comes from it. Assumes nothing.
-use Rattle.std.proofs.Common.{◌≡◌, ℕ, zero, suc, ◌+◌, ◌-◌, ◌*◌, ◌/◌, ◌%◌, ◌^◌, ◌<◌, ◌≤◌, ◌⊎◌, List, [], ◌∷◌, length, get_or, sym, refl, ap, ◌∙◌, inl, inr, ⊎_elim, mul-le-mul_right, pow-suc, arith, pow_pos, pow-add}
+use Rattle.std.proofs.Common.{◌≡◌, ℕ, zero, suc, ◌+◌, ◌-◌, ◌*◌, ◌/◌, ◌%◌, ◌^◌, ◌<◌, ◌≤◌, ◌⊎◌, List, [], ◌∷◌, length, get_or, sym, refl, ap, ◌∙◌, inl, inr, ⊎_elim, mul-le-mul_right, mul_assoc, pow-suc, arith, pow_pos, pow-add}
+use native.Mathlib.Decide.{ℕ_discrete}
+use lib.Count.{count_trailing_zeros}
 use native.Mathlib.Nat.{pow-le-pow_right}
 use lib.ListN.{get_or-eq_default}
 use lib.Bits.{bit_and, bit_or, or_block, and_zero_l, and_zero_r, or_zero_l, or_zero_r, and_le_l, and_le_r, or_add_and}
@@ -23,7 +25,7 @@ or_div a b = let h = or_digits a b in let l = or_small (a % 16) (b % 16) (omega 
 pub further_digit : (x u : ℕ) → x / 16 / 16 ^ u % 16 ≡ x / 16 ^ (u + 1) % 16
 further_digit x u = let e : suc u ≡ u + 1 = omega arith in ap (λ y. y % 16) (deeper x u ∙ rw e)
 
-lowest : (x : ℕ) → x % 16 ≡ digit x 0
+pub lowest : (x : ℕ) → x % 16 ≡ digit x 0
 lowest x = let z : x / 16 ^ 0 ≡ x = omega arith in sym (ap (λ y. y % 16) z)
 
 -- The state after an outcome.
@@ -110,10 +112,10 @@ fits-lowest {k} {keeps} {need} {value} {sets} {s} f = ⊎_elim
     fixed a b d e = let v : value % 16 ≡ s % 16 = sym e ∙ rw d (and_all (s % 16) (omega arith)) in rw (a, b, d, v) (facts_set (sets % 16) (s % 16) (omega arith) (omega arith))
 
 -- The parts of the words, digit by digit.
-sub_mod : (a b : ℕ) → a % 16 ≤ b % 16 → a / 16 ≤ b / 16 → (b - a) % 16 ≡ b % 16 - a % 16
+pub sub_mod : (a b : ℕ) → a % 16 ≤ b % 16 → a / 16 ≤ b / 16 → (b - a) % 16 ≡ b % 16 - a % 16
 sub_mod a b h l = omega arith
 
-sub_div : (a b : ℕ) → a % 16 ≤ b % 16 → a / 16 ≤ b / 16 → (b - a) / 16 ≡ b / 16 - a / 16
+pub sub_div : (a b : ℕ) → a % 16 ≤ b % 16 → a / 16 ≤ b / 16 → (b - a) / 16 ≡ b / 16 - a / 16
 sub_div a b h l = omega arith
 
 module _ (k keeps : ℕ) where
@@ -271,8 +273,26 @@ place_small u l = let p = pow-le-pow_right {n = 16} (omega arith) {i = u} {j = 1
 pub place_word : (u : ℕ) → u < 16 → 1 * 2 ^ (4 * u) % 18446744073709551616 ≡ 16 ^ u
 place_word u l = let p = (place_small u l).0 in let e : 1 * 2 ^ (4 * u) ≡ 16 ^ u = omega (arith, place_is u) in rw e (omega (arith, p))
 
+-- A word is a multiple of the power of 2 that its lowest ones stand above, and so of that of 16.
+trailing_times : (k n : ℕ) → (a : ℕ) × (n ≡ a * 2 ^ count_trailing_zeros k n)
+unfolding count_trailing_zeros
+trailing_times zero n = (n, omega arith)
+trailing_times (suc k) n = either (trailing_times k (n / 2)) (ℕ_discrete (n % 2) 0)
+  where
+    either : (a : ℕ) × (n / 2 ≡ a * 2 ^ count_trailing_zeros k (n / 2)) → Dec (n % 2 ≡ 0) → (a : ℕ) × (n ≡ a * 2 ^ count_trailing_zeros (suc k) n)
+    either h (yes e) = let z = count_trailing_zeros k (n / 2) in let m = mul_assoc h.0 (2 ^ z) 2 in rw e (h.0, rw (pow-suc 2 z) (omega (arith, e, h.1, m)))
+    either h (no e) = let o : n % 2 ≡ 1 = omega arith in rw o (n, omega arith)
+
+pub trailing_sixteens : (n u : ℕ) → u * 4 ≤ count_trailing_zeros 64 n → (a : ℕ) × (n ≡ a * 16 ^ u)
+trailing_sixteens n u l = let h = trailing_times 64 n in let z = count_trailing_zeros 64 n in let e : z ≡ z - 4 * u + 4 * u = omega (arith, l) in
+    (h.0 * 2 ^ (z - 4 * u), h.1 ∙ ap (λ y. h.0 * 2 ^ y) e ∙ ap (λ y. h.0 * y) (pow-add 2 (z - 4 * u) (4 * u)) ∙ rw (place_is u) (sym (mul_assoc h.0 (2 ^ (z - 4 * u)) (16 ^ u))))
+
+-- Its lowest digit is 0 then, and the others are a multiple of the power below.
+pub sixteens_next : (n u a : ℕ) → n ≡ a * 16 ^ suc u → (n % 16 ≡ 0) × (n / 16 ≡ a * 16 ^ u)
+sixteens_next n u a e = let h : n ≡ a * 16 ^ u * 16 = e ∙ ap (λ y. a * y) (pow-suc 16 u) ∙ sym (mul_assoc a (16 ^ u) 16) in (omega (arith, h), omega (arith, h))
+
 -- Free digits without digit u, which is free.
-next_digit : (x u : ℕ) → digit x (suc u) ≡ digit (x / 16) u
+pub next_digit : (x u : ℕ) → digit x (suc u) ≡ digit (x / 16) u
 next_digit x u = let z : u + 1 ≡ suc u = omega arith in sym (rw z at (further_digit x u))
 
 pub digit-least : (u f : ℕ) → digit f u ≡ 15 → 15 * 16 ^ u ≤ f
@@ -316,3 +336,24 @@ weigh_without (x ∷ ws) (suc u) w f e = let r = f - 15 * 16 ^ suc u in let i = 
     let a : bit_and w r % 16 ≡ bit_and w f % 16 = and_mod w r ∙ ap (λ y. bit_and (w % 16) y) (without_mod u f e) ∙ sym (and_mod w f) in
     let d : bit_and w r / 16 ≡ bit_and (w / 16) (f / 16 - 15 * 16 ^ u) = and_div w r ∙ ap (λ y. bit_and (w / 16) y) (without_div u f) in
     rw (a, d, and_div w f, next_digit w u) (omega (arith, i))
+
+-- A digit of a word, taken out of it.
+less_mod : (s d : ℕ) → d ≤ s / 16 → (s - d * 16) % 16 ≡ s % 16
+less_mod s d h = let e : s - d * 16 ≡ (s / 16 - d) * 16 + s % 16 = omega (arith, h) in rw e (omega arith)
+
+less_div : (s d : ℕ) → d ≤ s / 16 → (s - d * 16) / 16 ≡ s / 16 - d
+less_div s d h = omega (arith, h)
+
+digit_under : (u x : ℕ) → digit x u * 16 ^ u ≤ x
+digit_under zero x = let h = lowest x in omega (arith, h)
+digit_under (suc u) x = let h = digit_under u (x / 16) in rw (next_digit x u, pow-suc 16 u) (omega (arith, h))
+
+pub weigh_less : (ws : List ℕ) (u s : ℕ) → weigh ws s ≡ digit s u * get_or ws u 0 + weigh ws (s - digit s u * 16 ^ u)
+unfolding weigh
+weigh_less [] u s = rw (none_there [] u refl) (omega arith)
+weigh_less (w ∷ ws) zero s = let r = s - digit s 0 * 16 ^ 0 in let h = lowest s in let a : r % 16 ≡ 0 = omega (arith, h) in let b : r / 16 ≡ s / 16 = omega (arith, h) in
+    rw (a, b) (omega (arith, ap (λ y. y * w) h))
+weigh_less (w ∷ ws) (suc u) s = let r = s - digit s (suc u) * 16 ^ suc u in let d = digit (s / 16) u * 16 ^ u in
+    let e : digit s (suc u) * 16 ^ suc u ≡ d * 16 = rw (next_digit s u, pow-suc 16 u) (omega arith) in let h : d ≤ s / 16 = digit_under u (s / 16) in
+    let a : r % 16 ≡ s % 16 = rw e (less_mod s d h) in let b : r / 16 ≡ s / 16 - d = rw e (less_div s d h) in let i = weigh_less ws u (s / 16) in
+    rw (a, b, next_digit s u) (omega (arith, i))

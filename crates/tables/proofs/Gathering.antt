@@ -4,8 +4,8 @@ use native.Mathlib.Nat.{pow-le-pow_right}
 use lib.Bits.{bit_or, or_zero_r, or_block}
 use mir.Val.{bool_byte}
 use Rattle.planning.proofs.Test.{by_test}
-use Rattle.tables.specs.Sets.{set_from}
-use Rattle.tables.proofs.SetWords.{set_below}
+use Rattle.packed_task.specs.Sets.{set_from}
+use Rattle.packed_task.proofs.SetWords.{set_below}
 
 -- No number yet.
 pub set_none : (f : ℕ → Bool) (m : ℕ) → 0 ≡ set_from f m 0

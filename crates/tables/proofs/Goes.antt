@@ -3,7 +3,7 @@ use Rattle.std.proofs.Common.{ℕ, Bool, List, length, refl, ◌∙◌}
 use Rattle.tables.specs.Graph.{Graphed}
 use Rattle.tables.specs.Queue.{Queue}
 use Rattle.tables.specs.Worklist.{Goes}
-use Rattle.tables.specs.declared.proved_worklist.visits.Worklist.{Worklist}
+use Rattle.tables.specs.declared.worklist.visits.Worklist.{Worklist}
 use Rattle.tables.proofs.Rounds.{queue_as}
 
 module _ {N : ℕ} where

@@ -7,11 +7,12 @@ use lib.ListN.{get_or-eq_default}
 use Rattle.planning.specs.Finite.{any_from}
 use Rattle.planning.proofs.Test.{by_test}
 use Rattle.planning.proofs.Finite.{any_out, any_in, get_or_tabulate, length-tabulate}
-use Rattle.tables.specs.Packed.{outcome_count, action_weight}
-use Rattle.tables.specs.Steps.{weigh, Space, is_goal, after, worst, raised, outcome_entry, offer, offer_at, none, started, Settled}
+use Rattle.packed_task.specs.Packed.{outcome_count, action_weight}
+use Rattle.tables.specs.Steps.{weigh, Space, worst, raised, outcome_entry, offer, offer_at, none, started, Settled}
+use Rattle.packed_task.specs.Within.{is_goal, after}
 use Rattle.tables.proofs.Settled.{inside, then}
-use Rattle.tables.proofs.Sweeping.{raised_high}
-use Rattle.tables.specs.Waiting.{index_after, Waits, Heard, low, later, Leads, Asks, Kept, Moved, Told, is, again}
+use Rattle.tables.proofs.Stepping.{raised_high}
+use Rattle.tables.specs.Waiting.{index_after, Waits, Heard, low, later, Leads, Asks, Kept, Moved}
 use Rattle.tables.specs.Visits.{Level}
 
 -- The largest of some numbers is at least each, and depends on them alone.
@@ -133,11 +134,6 @@ moved_then p q = record {
   still = λ j w. q.still j (p.still j w);
   falls = omega (arith, p.falls, q.falls);
 }
-
--- What was told of an entry is still so, or its state waits again.
-pub told_moved : {x : Space} {t : List ℕ} {marks : List Bool} {new : List ℕ} {marks₁ : List Bool} {c d j e : ℕ} → Moved x t marks c new marks₁ d → Told t marks j e → Told new marks₁ j e
-told_moved {j = j} p (is h) = ⊎_elim (λ e. is (e ∙ h)) again (p.lowered j)
-told_moved {j = j} p (again w) = again (p.still j w)
 
 -- A state was taken out, and then every action that leads to it was heard: what the worklist keeps is kept.
 pub kept_visited : {x : Space} {first t : List ℕ} {marks marks₁ : List Bool} {new : List ℕ} {marks₂ : List Bool} {c d : ℕ} (j : ℕ) → ((k : ℕ) → (k ≡ j → ⊥) → Waits marks k → Waits marks₁ k) → Moved x t marks₁ c new marks₂ d →

@@ -3,14 +3,15 @@ use Rattle.std.proofs.Common.{◌≡◌, ℕ, ◌+◌, ◌-◌, ◌*◌, ◌<◌
 use native.Mathlib.Decide.{ℕ_discrete, dec_lt}
 use lib.Bits.{bit_and, bit_or}
 use lib.Count.{count_trailing_zeros}
-use Rattle.tables.specs.Packed.{pre_mask, pre_value, outcome_count, action_weight, keep_mask, set_value}
-use Rattle.tables.specs.Steps.{weigh, Space, idles}
+use Rattle.packed_task.specs.Packed.{pre_mask, pre_value, outcome_count, action_weight, keep_mask, set_value}
+use Rattle.tables.specs.Steps.{weigh, Space}
+use Rattle.packed_task.specs.Within.{idles}
 use Rattle.tables.specs.Edges.{no_edge, edge_at, edge_action, edge_end, StandsFor, Beside, EdgesOf, outcomes_from, named, freed, test_mask, test_value, Regular}
 use Rattle.tables.specs.Incoming.{Tests}
 use Rattle.tables.specs.Made.{LaneOf, Same, back_of, EdgeFor, bare, EdgeIs, Untouched, Served, Group, SpanIs, Spanned, ActionPut}
-use Rattle.tables.specs.declared.proved_worklist.edge.Edge.{Edge}
-use Rattle.tables.proofs.SetWords.{Left, Next, none_left}
-use Rattle.tables.proofs.Sweeping.{false_true}
+use Rattle.tables.specs.declared.worklist.edge.Edge.{Edge}
+use Rattle.packed_task.proofs.SetWords.{Left, Next, none_left}
+use Rattle.task_record.proofs.Tests.{false_true}
 use Rattle.tables.proofs.Counting.{next_of, outcomes_next}
 use Rattle.tables.proofs.WaysBack.{edge_plain, edge_back_small, edge_free_lem, served_edge}
 
@@ -25,9 +26,9 @@ pub edge_made : (a : List ℕ) (k : ℕ) (ws sizes : List ℕ) (m o gain loss ba
       free = rest₂;
       back = back;
       weight = weight;
-      action = m;
       first = 0;
-      end = 0;
+      action = m;
+      many = 0;
     })
 unfolding named freed test_mask test_value
 edge_made a k ws sizes m o gain loss back weight lane₁ rest₁ lane₂ rest₂ g f b w x y =
@@ -147,7 +148,7 @@ acting_end v s = record {
 pub spanned_none : {es : List Edge} {first end : ℕ} → Spanned es es first first end
 spanned_none = record { long = refl; others = λ f. refl; before = λ f b. refl; span = λ f l b. absurd (omega arith) }
 
-pub spanned_next : (es es₁ : List Edge) (w : Edge) (first e end : ℕ) → first ≤ e → e < length es → bare w ≡ bare (edge_at es₁ e) → (w.first ≡ first) × (w.end ≡ end) → Spanned es es₁ first e end → Spanned es (set es₁ e w) first (e + 1) end
+pub spanned_next : (es es₁ : List Edge) (w : Edge) (first e end : ℕ) → first ≤ e → e < length es → bare w ≡ bare (edge_at es₁ e) → (w.first ≡ first) × (w.first + w.many ≡ end) → Spanned es es₁ first e end → Spanned es (set es₁ e w) first (e + 1) end
 spanned_next es es₁ w first e end l r same is v = record {
   long = length-set es₁ e w ∙ v.long;
   others = λ f. others_of f (ℕ_discrete f e);
@@ -163,8 +164,8 @@ spanned_next es es₁ w first e end l r same is v = record {
     others_of f (no z) = ap bare (get_or-set_other es₁ e f w no_edge z) ∙ v.others f
 
     at : (f : ℕ) → first ≤ f → f < e + 1 → Dec (f < e) → SpanIs (set es₁ e w) f first end
-    at f a b (yes d) = let h = get_or-set_other es₁ e f w no_edge (λ z. omega arith) in let g = v.span f a d in record { begins = ap (λ (y : Edge). y.first) h ∙ g.begins; ends = ap (λ (y : Edge). y.end) h ∙ g.ends }
-    at f a b (no d) = let z : f ≡ e = omega arith in rw z (record { begins = ap (λ (y : Edge). y.first) here ∙ is.0; ends = ap (λ (y : Edge). y.end) here ∙ is.1 })
+    at f a b (yes d) = let h = get_or-set_other es₁ e f w no_edge (λ z. omega arith) in let g = v.span f a d in record { begins = ap (λ (y : Edge). y.first) h ∙ g.begins; ends = ap (λ (y : Edge). y.first + y.many) h ∙ g.ends }
+    at f a b (no d) = let z : f ≡ e = omega arith in rw z (record { begins = ap (λ (y : Edge). y.first) here ∙ is.0; ends = ap (λ (y : Edge). y.first + y.many) here ∙ is.1 })
 
 -- The edges of the actions of a set, so far: edge e is one of those of its action.
 pub record Inside (x : Space) (sizes : List ℕ) (es : List Edge) (c e : ℕ) : Type 0 where
@@ -212,7 +213,7 @@ module _ {x : Space} {sizes : List ℕ} {room rest : ℕ} {es : List Edge} {c : 
         begins = g.begins;
         ends = g.ends;
         fits = omega (arith, g.fits, p.grows);
-        span = let h = p.untouched.same e z in record { begins = ap (λ (w : Edge). w.first) h ∙ g.span.begins; ends = ap (λ (w : Edge). w.end) h ∙ g.span.ends };
+        span = let h = p.untouched.same e z in record { begins = ap (λ (w : Edge). w.first) h ∙ g.span.begins; ends = ap (λ (w : Edge). w.first + w.many) h ∙ g.span.ends };
         group = group_kept (λ f l. alike_untouched f (omega (arith, g.fits)) p.untouched) g.group;
       }
       each_of e b (no z) = record {

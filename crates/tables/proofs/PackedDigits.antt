@@ -1,7 +1,7 @@
 -- The digits of packed lists. Assumes nothing.
 use Rattle.std.proofs.Common.{◌≡◌, ℕ, zero, suc, ◌+◌, ◌*◌, ◌/◌, ◌%◌, ◌^◌, ◌<◌, eqb, ◌⊎◌, List, [], ◌∷◌, get_or, sym, refl, ap, ◌∙◌, inl, inr, arith}
 use Rattle.planning.proofs.Test.{by_test}
-use Rattle.tables.specs.Packed.{pack_by, picking}
+use Rattle.packed_task.specs.Packed.{pack_by, picking}
 use Rattle.tables.specs.Edges.{digit, PlainMask}
 use Rattle.tables.proofs.Digits.{further_digit}
 

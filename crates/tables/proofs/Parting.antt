@@ -7,8 +7,8 @@ use Rattle.planning.specs.Finite.{All}
 use Rattle.planning.specs.Pattern.{keep}
 use Rattle.planning.specs.Table.{state_count, state_at}
 use Rattle.planning.proofs.Test.{by_test}
-use Rattle.tables.specs.Packed.{pack_by, picking, low}
-use Rattle.tables.proofs.Packing.{pack-keep, low_digit}
+use Rattle.packed_task.specs.Packed.{pack_by, picking, low}
+use Rattle.packed_task.proofs.Packing.{pack-keep, low_digit}
 use Rattle.tables.proofs.PackedDigits.{picking-digit, plain_mask}
 use Rattle.tables.specs.Steps.{Sized}
 use Rattle.tables.proofs.Spacing.{count_positive, count_fewer, size_at, sizes_fewer, Weighed}
@@ -109,7 +109,7 @@ sized_fewer {sizes} {p} {n} v l h = record {
 
 -- The index is split after v variables.
 pub split_at : (sizes p : List ℕ) (n v lower mask low₁ : ℕ) → Sized sizes p n → v ≤ n → mask ≡ pack_by picking p → lower ≡ state_count (take v sizes) p → low₁ ≡ mask % 16 ^ v →
-    state_count (take v sizes) p ≤ 64 → state_count (take n sizes) p ≤ 1024 * state_count (take v sizes) p → Split sizes p n mask lower low₁
+    state_count (take v sizes) p ≤ 64 → 5 * state_count (take n sizes) p ≤ (state_count (take n sizes) p + 5) * state_count (take v sizes) p → Split sizes p n mask lower low₁
 split_at sizes p n v lower mask low₁ z l m e k few wide =
     let c : lower ≡ state_count (take n sizes) (take v p) = e ∙ sym (count_first v n sizes p l) in
     let a : low₁ ≡ pack_by picking (take v p) = k ∙ rw m (pack_first v p) in
@@ -121,14 +121,14 @@ split_at sizes p n v lower mask low₁ z l m e k few wide =
       lower_few = rw e few;
       inside = omega (arith, a, m, pack_others v p);
       whole = ap (λ y. y * lower) f ∙ sym d;
-      upper_few = (let w : state_count (take n sizes) p < 1025 * lower = omega (arith, wide, e, one) in let g = (native.Mathlib.Nat.div-lt_iff_lt-mul one).1 w in omega (arith, g));
+      upper_few = (let g : 5 * state_count (take n sizes) (upper_part v p) * lower ≤ (state_count (take n sizes) p + 5) * lower = omega (arith, d, rw (← e) at wide) in rw f (native.Mathlib.Nat.le_of_mul-le-mul_right g one));
       parted = λ states s. rw (b, a, c) (states_parted v (take n sizes) p states z.values_some s (rw (← c, e) few));
     }
 
 -- The lower variables end where one more would make too many states, or with the last.
 pub lower_stops : (sizes p : List ℕ) (n w v next : ℕ) → Sized sizes p n → Weighed sizes p n w v → v < n → w ≤ 64 → next ≡ cond (eqb (get_or p v 0) 1) (w * get_or sizes v 0) w → 64 < next →
-    (v ≤ n) × (state_count (take v sizes) p ≤ 64) × (state_count (take n sizes) p ≤ 1024 * state_count (take v sizes) p)
-lower_stops sizes p n w v next s h l few e large = (omega arith, omega (arith, h.count), omega (arith, h.count, s.states_few, five))
+    (v ≤ n) × (state_count (take v sizes) p ≤ 64) × (5 * state_count (take n sizes) p ≤ (state_count (take n sizes) p + 5) * state_count (take v sizes) p)
+lower_stops sizes p n w v next s h l few e large = (omega arith, omega (arith, h.count), rw (← h.count) wide)
   where
     sixteen : get_or sizes v 0 ≤ 16
     sixteen = size_at sizes (λ z. z ≤ 16) n v s.values_few l (omega (arith, h.long, s.variables_few))
@@ -139,5 +139,8 @@ lower_stops sizes p n w v next s h l few e large = (omega arith, omega (arith, h
     five : 5 ≤ w
     five = by_test (eqb (get_or p v 0) 1) (λ q. let i : next ≡ w * get_or sizes v 0 = rw q at e in omega (arith, grown)) (λ q. let i : next ≡ w = rw q at e in absurd (omega arith))
 
-pub lower_whole : (sizes p : List ℕ) (n w v : ℕ) → Weighed sizes p n w v → n ≤ v → w ≤ 64 → (v ≤ n) × (state_count (take v sizes) p ≤ 64) × (state_count (take n sizes) p ≤ 1024 * state_count (take v sizes) p)
-lower_whole sizes p n w v h l few = let e : v ≡ n = omega (arith, h.at) in let k = h.count in (h.at, omega arith, rw e (omega arith))
+    wide : 5 * state_count (take n sizes) p ≤ (state_count (take n sizes) p + 5) * w
+    wide = omega (arith, native.Mathlib.Nat.mul-le-mul_left (state_count (take n sizes) p + 5) five)
+
+pub lower_whole : (sizes p : List ℕ) (n w v : ℕ) → Weighed sizes p n w v → n ≤ v → w ≤ 64 → (v ≤ n) × (state_count (take v sizes) p ≤ 64) × (5 * state_count (take n sizes) p ≤ (state_count (take n sizes) p + 5) * state_count (take v sizes) p)
+lower_whole sizes p n w v h l few = let e : v ≡ n = omega (arith, h.at) in let k = h.count in (h.at, omega arith, rw e (native.Mathlib.Nat.mul-le-mul_right (state_count (take n sizes) p) (omega arith)))

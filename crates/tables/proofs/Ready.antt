@@ -7,12 +7,11 @@ use Rattle.task_record.specs.Numbers.{variable_count, action_count}
 use Rattle.task_record.specs.Record.{Sound}
 use Rattle.task_record.specs.TaskOf.{cells_at}
 use Rattle.patterns.proofs.Sizes.{sizes_taken}
-use Rattle.tables.specs.Packed.{pack_by, picking}
-use Rattle.tables.specs.Sets.{set_from}
-use Rattle.tables.specs.Steps.{idles}
+use Rattle.packed_task.specs.Packed.{pack_by, picking}
+use Rattle.packed_task.specs.Sets.{set_from}
+use Rattle.packed_task.specs.Within.{idles}
 use Rattle.tables.specs.Patterned.{Ready, Chosen, PatternOf}
-use Rattle.tables.proofs.SoundPacked.{sound_readable}
-use Rattle.tables.proofs.Building.{sound_lookable}
+use Rattle.packed_task.proofs.SoundPacked.{sound_readable}
 use Rattle.tables.proofs.Standing.{sound_walkable}
 use Rattle.tables.proofs.TableChain.{pattern_sized, built_is_table}
 
@@ -22,7 +21,6 @@ module _ {r task sizes : List ℕ} {p : ℕ} (sound : Sound r) (c : Chosen r tas
       Ready (record { task = task; actions = actions; variables = n; sizes = sizes; picked = picked; mask = mask; live = live })
   sound_ready m l = record {
     readable = rw (c.task_is, a) (sound_readable r sound);
-    lookable = rw (m, c.task_is, a, v, q) (sound_lookable r sound (cells_at r (at_pattern p)));
     walkable = rw (m, c.task_is, a, v, q) (sound_walkable r sound p c.known sizes c.sixteen c.few);
     sized = rw (v, q) (pattern_sized r sound sizes c.sixteen (cells_at r (at_pattern p)) c.few);
     masked = m;

@@ -4,7 +4,7 @@ use native.Mathlib.Nat.{mod-eq-sub-mod, mod-add-mod}
 use native.Mathlib.Decide.{ℕ_discrete, dec_lt}
 use Rattle.tables.specs.Waiting.{Waits}
 use Rattle.tables.specs.Queue.{waiting, slot, Queue, Put, Taken}
-use Rattle.tables.proofs.Sweeping.{false_true}
+use Rattle.task_record.proofs.Tests.{false_true}
 
 -- Places of a ring of r places: one behind the end is one at the beginning, and two that are less than r apart differ.
 pub past_ring : (at r : ℕ) → r ≤ at → at < r + r → at - r ≡ at % r

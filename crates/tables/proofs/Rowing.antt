@@ -8,25 +8,18 @@ use native.Mathlib.Decide.{dec_lt}
 use Rattle.std.proofs.lemmas.List.{get_or_append_left, get_or-append-add, get_or-drop, get_or-take}
 use lib.Bits.{bit_and, bit_or}
 use Rattle.planning.proofs.Test.{by_test}
-use Rattle.tables.specs.Sets.{set_from, lowest_need, need_at, SlotsOf}
+use Rattle.packed_task.specs.Sets.{set_from, lowest_need, need_at, SlotsOf}
 use Rattle.tables.specs.Edges.{edge_mask, edge_value, digit, PlainMask}
 use Rattle.tables.specs.Incoming.{Row, Tests, Parted, Incoming, edge_need, digit_meet, digits_meet, digit_suits, part_suits, PartFilled, EdgeRow}
-use Rattle.tables.specs.declared.proved_worklist.edge.Edge.{Edge}
-use Rattle.tables.proofs.SetWords.{set_same, set_meet, set_join}
-use Rattle.tables.proofs.Bitwise.{further, deeper, and_mod, and_div, and_all}
+use Rattle.tables.specs.declared.worklist.edge.Edge.{Edge}
+use Rattle.packed_task.proofs.SetWords.{set_same, set_meet, set_join}
+use Rattle.tables.proofs.Bitwise.{further, deeper, and_digit, and_all}
 
 -- What is needed of digit v, and digit v of a meet.
 need_digit : (need value v : ℕ) → need_at need value v ≡ cond (eqb (digit need v) 0) 16 (digit value v)
 unfolding need_at lowest_need
 need_digit need value zero = let a : need / 16 ^ 0 ≡ need = omega arith in let b : value / 16 ^ 0 ≡ value = omega arith in rw (a, b)
 need_digit need value (suc v) = need_digit (need / 16) (value / 16) v ∙ rw (deeper need v, deeper value v)
-
-and_from : (a b u : ℕ) → bit_and a b / 16 ^ u ≡ bit_and (a / 16 ^ u) (b / 16 ^ u)
-and_from a b zero = let x : (y : ℕ) → y / 16 ^ 0 ≡ y = λ y. omega arith in rw (x (bit_and a b), x a, x b)
-and_from a b (suc u) = rw (← deeper (bit_and a b) u, ← deeper a u, ← deeper b u, and_div a b) (and_from (a / 16) (b / 16) u)
-
-and_digit : (a b u : ℕ) → digit (bit_and a b) u ≡ bit_and (digit a u) (digit b u)
-and_digit a b u = rw (and_from a b u) (and_mod (a / 16 ^ u) (b / 16 ^ u))
 
 all_of_digit : (a b u : ℕ) → digit b u ≡ 15 → digit (bit_and a b) u ≡ digit a u
 all_of_digit a b u e = and_digit a b u ∙ rw e (and_all (digit a u) (omega arith))
@@ -152,9 +145,6 @@ pub record RowsTo (states : List ℕ) (es : List Edge) (old new : List ℕ) (k l
   pub long : length new ≡ length old
   pub rows : (d : ℕ) → d < c → 64 * d < k → EdgeRow states es (drop ((lower + upper) * d) new) low high lower upper (64 * d) (min 64 (k - 64 * d))
 
-pub rows_to_start : {states : List ℕ} {es : List Edge} {old : List ℕ} {k low high lower upper : ℕ} → RowsTo states es old old k low high lower upper 0
-rows_to_start = record { within = omega arith; long = refl; rows = λ d l. absurd (omega arith) }
-
 row_same : {states : List ℕ} {es : List Edge} {row new : List ℕ} {low high lower upper first count : ℕ} → EdgeRow states es row low high lower upper first count → ((i : ℕ) → i < lower + upper → get_or new i 0 ≡ get_or row i 0) →
     EdgeRow states es new low high lower upper first count
 row_same {lower = lower} r g = record { lows = λ l b. g l (omega arith) ∙ r.lows l b; highs = λ h b. g (lower + h) (omega arith) ∙ r.highs h b }
@@ -197,7 +187,7 @@ rows_to_next {states} {es} {old} {u} {row} {k} {low} {high} {lower} {upper} {c} 
 
 -- The meet of the two sets of a row misses no edge.
 both_true : (a b : Bool) → (a && b) ≡ false → a ≡ true → b ≡ true → ⊥
-both_true a b e f g = let z : true ≡ false = sym (rw (f, g)) ∙ e in Rattle.tables.proofs.Sweeping.false_true (sym z)
+both_true a b e f g = let z : true ≡ false = sym (rw (f, g)) ∙ e in Rattle.task_record.proofs.Tests.false_true (sym z)
 
 row_of : {states : List ℕ} {es : List Edge} (sets : List ℕ) {n k low high lower upper c : ℕ} (base : ℕ) → Tests es k → Parted states n lower low high → n ≡ upper * lower → EdgeRow states es (drop base sets) low high lower upper (64 * c) (min 64 (k - 64 * c)) →
     (j : ℕ) → j < n → 64 * c < k → Row es (get_or states j 0) k c (bit_and (get_or sets (base + j % lower) 0) (get_or sets (base + lower + j / lower) 0))
@@ -228,11 +218,6 @@ incoming_of {sets = sets} {lower = lower} {upper = upper} t p e room v l = recor
   row = λ a j d b y. row_of sets ((lower + upper) * d) t p e (v.rows d (omega arith) y) j b y;
 }
 
--- No sets, or no states.
-pub incoming_none : {states : List ℕ} {es : List Edge} {sets : List ℕ} {n k low high lower upper : ℕ} → Parted states n lower low high → n ≡ upper * lower →
-    (1 ≤ length sets → (d : ℕ) → 64 * d < k → (lower + upper) * d + lower + upper ≤ length sets) → (1 ≤ length sets → n ≡ 0) → Incoming states es n k lower upper sets
-incoming_none p e room none = record { lower_some = p.lower_some; upper_whole = omega (arith, e); room = room; row = λ a j d b y. absurd (let z = none a in omega arith) }
-
 -- Edges that were tested one by one.
 pub row_tested : (es : List Edge) (word k c count r : ℕ) → count ≡ min 64 (k - 64 * c) → 64 * c < k → r ≡ set_from (λ q. eqb (bit_and word (edge_mask es (64 * c + q))) (edge_value es (64 * c + q))) 0 count → Row es word k c r
 row_tested es word k c count r e l h = record {
@@ -242,12 +227,12 @@ row_tested es word k c count r e l h = record {
   inside = omega arith;
   whole = λ q d g. omega arith;
   is = h;
-  missed = λ q d f g. Rattle.tables.proofs.Sweeping.false_true (sym f ∙ eq-eqb (bit_and word (edge_mask es (64 * c + q))) (edge_value es (64 * c + q)) g);
+  missed = λ q d f g. Rattle.task_record.proofs.Tests.false_true (sym f ∙ eq-eqb (bit_and word (edge_mask es (64 * c + q))) (edge_value es (64 * c + q)) g);
 }
 
 -- There are sets.
 pub filled : (sets : List ℕ) → eqb (length sets) 0 ≡ false → length sets ≡ 0 → ⊥
-filled sets e z = Rattle.tables.proofs.Sweeping.false_true (sym e ∙ eq-eqb (length sets) 0 z)
+filled sets e z = Rattle.task_record.proofs.Tests.false_true (sym e ∙ eq-eqb (length sets) 0 z)
 
 -- The upper part of an index, and where its sets are.
 pub upper_is : (j lower h : ℕ) → h * lower ≤ j → j - h * lower < lower → h ≡ j / lower

@@ -1,7 +1,7 @@
 -- Entries that were lowered step by step from the start, and that no action says less of, are the table of the pattern: the steps never go
 -- below the costs, and what is stable is not above them. Assumes nothing.
-use Rattle.std.proofs.Common.{◌≡◌, ℕ, zero, suc, ◌+◌, ◌-◌, ◌<◌, ◌≤◌, max, Bool, true, false, cond, not, ◌&&◌, T, eqb, ltb, leb, List, [], ◌∷◌, map, length, get_or, set, sym, refl, ap, ◌∙◌, subst, ap₂, zero-add, arith, le→leb, ltb→lt, lt→ltb, leb→le, length-set, get_or-set_other, get_or-set_same, ext_get_or}
-use native.Mathlib.Decide.{ℕ_discrete, dec_le}
+use Rattle.std.proofs.Common.{◌≡◌, ℕ, zero, suc, ◌+◌, ◌-◌, ◌<◌, ◌≤◌, max, Bool, true, false, cond, ◌&&◌, T, eqb, ltb, leb, List, [], ◌∷◌, map, length, get_or, set, sym, refl, ap, ◌∙◌, subst, ap₂, zero-add, arith, le→leb, ltb→lt, lt→ltb, leb→le, length-set, get_or-set_other, get_or-set_same, ext_get_or}
+use native.Mathlib.Decide.{ℕ_discrete}
 use lib.Bits.{bit_and}
 use lib.ListN.{length-map, get_or-map}
 use Rattle.planning.specs.Finite.{All, every}
@@ -10,7 +10,7 @@ use Rattle.planning.specs.System.{System, applies}
 use Rattle.planning.specs.Task.{Action, Task, apply, action_at, system, fits_sizes, WellFormed}
 use Rattle.planning.specs.Pattern.{mask, mask_action, abstraction, AbstractState}
 use Rattle.planning.specs.Table.{index, state_count, state_at, entry_at, weighted_table, table, entry_of, cost_of, EntriesBelow}
-use Rattle.planning.proofs.Test.{T_true, not_T_false, false_not_T, bool_iff, and_in, and_l, and_r, by_test}
+use Rattle.planning.proofs.Test.{T_true, false_not_T, bool_iff, and_in, and_l, and_r, by_test}
 use Rattle.planning.proofs.Finite.{all_imp, all_at, every_imp, any_out, get_or_tabulate, map-map}
 use Rattle.planning.proofs.Extended.{mono?, ext∞, zero_le∞}
 use Rattle.planning.proofs.System.{solvable, solves_act, solves_out, bellman_le, cost_solvable}
@@ -18,11 +18,12 @@ use Rattle.planning.proofs.Pattern.{mask_fits, mask_stays_abstract, action_maske
 use Rattle.planning.proofs.Table.{index_below, state_at-index, state_at_abstract, table-length, table_entry}
 use Rattle.planning.proofs.Build.{NotBelow, lowered, built_at_goal, lowered_not_below}
 use Rattle.planning.proofs.Task.{apply_keeps_sizes, action_well_formed}
-use Rattle.tables.specs.Packed.{pack_by, picking, low, action_weight, outcome_count, keep_mask, compiled}
-use Rattle.tables.specs.Packable.{Packable}
-use Rattle.tables.specs.Steps.{weigh, Space, is_goal, idles, worst, raised, outcome_entry, offer, offer_at, permitted_at, Steps, none, more, Stable, started}
-use Rattle.tables.proofs.Compiled.{outcome_count_is, action_weight_is}
-use Rattle.tables.proofs.Abstracted.{goal_is, permitted_is, after_is, idle_outcome}
+use Rattle.packed_task.specs.Packed.{pack_by, picking, low, action_weight, outcome_count, keep_mask, compiled}
+use Rattle.packed_task.specs.Packable.{Packable}
+use Rattle.tables.specs.Steps.{weigh, Space, worst, raised, outcome_entry, offer, offer_at, permitted_at, Steps, none, more, Stable, started}
+use Rattle.packed_task.specs.Within.{is_goal, idles}
+use Rattle.packed_task.proofs.Compiled.{outcome_count_is, action_weight_is}
+use Rattle.packed_task.proofs.Abstracted.{goal_is, permitted_is, after_is, idle_outcome}
 
 -- The space stands for the abstraction of t by p.
 pub record Stands (t : Task) (p : List ℕ) (x : Space) : Type 0 where
@@ -245,11 +246,9 @@ module _ (t : Task) (w : WellFormed t) (k : Packable t) (p : List ℕ) (x : Spac
       let a = any_out 0 (outcome_count x.task m) (λ o. eqb (bit_and (keep_mask x.task m o) x.mask) x.mask) (rw q tt) in
       idle_at m i l b h u a.0 (omega (arith, a.1)) (borrow.Author.Tests.eqb-true (bit_and (keep_mask x.task m a.0) x.mask) x.mask (T_true (eqb (bit_and (keep_mask x.task m a.0) x.mask) x.mask) a.2))
 
-  -- Entries that are 0 at goals, of which no action says less, and that are not below the costs. What no action says less of is at most
-  -- every cost below 65,535; entries of at most 1 need no test, since every action adds at least 1.
+  -- Entries that are 0 at goals, of which no action says less, and that are not below the costs: they are at most every cost below 65,535.
   module _ (e : List ℕ) (n : length e ≡ states) (above : Above e)
-      (goal_zero : (i : ℕ) → i < states → T (abstracted.goal (state_of i)) → get_or e i 0 ≡ 0)
-      (stable : (m i : ℕ) → m < x.actions → i < length e → is_goal x.task x.mask (get_or x.states i 0) ≡ false → 2 ≤ get_or e i 0 → idles x.task x.mask m ≡ false → permitted_at x m i ≡ true → get_or e i 0 ≤ offer_at x e m i) where
+      (goal_zero : (i : ℕ) → i < states → T (abstracted.goal (state_of i)) → get_or e i 0 ≡ 0) (stable : Stable x e) where
     entry_of_state : (y : List ℕ) (d : ℕ) → d < 65535 → AbstractState t p y → get_or e (index t.sizes p y) 0 ≤ d → T (costs e y ≤? d)
     entry_of_state y d h o q = let b : index t.sizes p y < length e = rw n (index_below t.sizes p y o.0) in
         rw (cost_at_lem e y, cost_le (get_or e (index t.sizes p y) 65535) d h) (le→leb _ d (rw (inside e (index t.sizes p y) 65535 0 b) q))
@@ -258,19 +257,10 @@ module _ (t : Task) (w : WellFormed t) (k : Packable t) (p : List ℕ) (x : Spac
     said-below : (m i d : ℕ) (l : m < length t.actions) (b : i < states) → d < 65535 → abstracted.weight m ≤ d → T (applies abstracted m (state_of i)) → idles x.task x.mask m ≡ false →
         T (every (λ y. costs e y ≤? (d - abstracted.weight m)) (abstracted.successors m (state_of i))) → get_or e i 0 ≤ d
     unfolding applies
-    said-below m i d l b h v c q bounded = either (dec_le 2 (get_or e i 0))
-      where
-        T_false_not : (u : Bool) → T u → not u ≡ false
-        T_false_not true h = refl
-        T_false_not false h = absurd h
-
-        either : Dec (2 ≤ get_or e i 0) → get_or e i 0 ≤ d
-        either (no z) = omega (arith, (abstraction_invariant t w p weight_of positive).weight_positive m (abstract_bound m l))
-        either (yes z) = let rest = d - abstracted.weight m in
-            let most : largest_entry m i l b e ≤ rest = leb→le _ rest (rw (largest_entry_le m i l b e rest (omega arith)) bounded) in
-            let said = offer_at_lem m i l b e ∙ raised-within (abstracted.weight m) (largest_entry m i l b e) (omega arith) in
-            let g : is_goal x.task x.mask (get_or x.states i 0) ≡ false = goal_at i b ∙ not_T_false _ (λ u. false_not_T (T_false_not (abstracted.goal (state_of i)) u) (and_r (abstracted.enabled m (state_of i)) _ c)) in
-            omega (arith, said, stable m i (rw r.actions_are l) (rw n b) g z q (permitted_at_lem m i l b ∙ T_true _ (and_l (abstracted.enabled m (state_of i)) _ c)))
+    said-below m i d l b h v c q bounded = let rest = d - abstracted.weight m in
+        let most : largest_entry m i l b e ≤ rest = leb→le _ rest (rw (largest_entry_le m i l b e rest (omega arith)) bounded) in
+        let said = offer_at_lem m i l b e ∙ raised-within (abstracted.weight m) (largest_entry m i l b e) (omega arith) in
+        omega (arith, said, stable.low m i (rw r.actions_are l) (rw n b) q (permitted_at_lem m i l b ∙ T_true _ (and_l (abstracted.enabled m (state_of i)) _ c)))
 
     stable_below : (f d i : ℕ) → d < 65535 → i < states → T (solvable abstracted f d (state_of i)) → get_or e i 0 ≤ d
     unfolding solvable applies
@@ -294,7 +284,7 @@ module _ (t : Task) (w : WellFormed t) (k : Packable t) (p : List ℕ) (x : Spac
             mono? (cost_of (get_or e i 65535)) c d (leb→le c d u) (rw (cost_le (get_or e i 65535) c h) (le→leb _ c (rw (inside e i 65535 0 (rw n b)) (stable_below (suc c) c i h b solved))))
 
     -- So the entries are the table.
-    pub entries_are_table : EntriesBelow 65535 (table t p) → e ≡ map entry_of (table t p)
+    entries_are_table : EntriesBelow 65535 (table t p) → e ≡ map entry_of (table t p)
     unfolding table entry_of
     entries_are_table small = ext_get_or 65535 e (map entry_of (weighted_table t p weight_of)) (n ∙ sym (length-map (weighted_table t p weight_of) entry_of ∙ table-length t p weight_of))
         (λ i l. sym (entry_of-cost (get_or e i 65535)) ∙ ap entry_of (costs_equal small i (rw n at l)) ∙ sym (get_or-map entry_of (weighted_table t p weight_of) i inf))
@@ -304,4 +294,4 @@ module _ (t : Task) (w : WellFormed t) (k : Packable t) (p : List ℕ) (x : Spac
     goal_zero i l g = let z : get_or (started x.task x.mask x.states states) i 0 ≡ 0 = started_at i l 0 ∙ rw (T_true (abstracted.goal (state_of i)) g) in omega (arith, steps_lower s i)
 
     pub settled_is_table : EntriesBelow 65535 (table t p) → e ≡ map entry_of (table t p)
-    settled_is_table = entries_are_table e n (steps_above s (sym (steps_length s) ∙ n) started-above) goal_zero (λ m i l b g z. stable.low m i l b)
+    settled_is_table = entries_are_table e n (steps_above s (sym (steps_length s) ∙ n) started-above) goal_zero stable

@@ -1,14 +1,16 @@
 -- The weights of a pattern's variables and the words of its abstract states, variable by variable. Assumes nothing.
-use Rattle.std.proofs.Common.{◌≡◌, ℕ, zero, suc, ◌+◌, ◌-◌, ◌*◌, ◌/◌, ◌%◌, ◌^◌, ◌<◌, ◌≤◌, Bool, true, false, cond, eqb, List, [], ◌∷◌, ◌++◌, length, get_or, take, set, replicate, sym, refl, ap, ◌∙◌, append_assoc, mul-le-mul_right, mod-eq_of_lt, div-lt_iff_lt-mul, mul-le-mul, pow-suc, mul-one, div-one, add-one, arith, length-append, length-set, length-take-le, get_or-set_other, take-suc, get_or-set_same}
+use Rattle.std.proofs.Common.{◌≡◌, ℕ, zero, suc, ◌+◌, ◌-◌, ◌*◌, ◌/◌, ◌%◌, ◌^◌, ◌<◌, ◌≤◌, Bool, true, false, cond, T, eqb, ltb, List, [], ◌∷◌, ◌++◌, length, get_or, take, set, replicate, sym, refl, ap, ◌∙◌, append_assoc, mul-le-mul_right, mod-eq_of_lt, div-lt_iff_lt-mul, mul-le-mul, pow-suc, mul-one, div-one, add-one, arith, length-append, length-set, length-take-le, get_or-set_other, take-suc, get_or-set_same, ltb→lt}
 use native.Mathlib.Nat.{div-eq_of_lt, div-div-eq-div-mul, add-mul-div_right, add-mul-mod_self_right, add-div_right, pow-le-pow_right}
 use native.Mathlib.Decide.{dec_lt}
+use lib.Arith.{digits_div, digits_mod}
 use lib.Seq.{set_at}
 use Rattle.planning.specs.Finite.{All}
-use Rattle.planning.specs.Table.{state_count, state_at}
-use Rattle.planning.proofs.Test.{by_test}
-use Rattle.tables.specs.Packed.{pack_by, low}
+use Rattle.planning.specs.Task.{in_sizes}
+use Rattle.planning.specs.Table.{index_from, state_count, state_at}
+use Rattle.planning.proofs.Test.{and_l, and_r, by_test}
+use Rattle.packed_task.specs.Packed.{pack_by, low}
 use Rattle.tables.specs.Steps.{weigh, weights_from, Sized, Extended}
-use Rattle.tables.proofs.Packing.{pack_snoc, pack-fits, low_digit}
+use Rattle.packed_task.proofs.Packing.{pack_snoc, pack-fits, low_digit}
 
 -- One variable more, at the end.
 abbrev in_pattern : List ℕ → ℕ → Bool
@@ -153,6 +155,18 @@ pub weigh_padded : (w : List ℕ) (j s : ℕ) → weigh (w ++ replicate j 0) s �
 unfolding weigh
 weigh_padded [] j s = weigh_none j s
 weigh_padded (x ∷ w) j s = ap (λ n. s % 16 * x + n) (weigh_padded w j (s / 16))
+
+-- The weights give the index.
+pub weigh-index : (w : ℕ) (zs p s : List ℕ) → All (λ z. z ≤ 16) zs → T (in_sizes zs s) → weigh (weights_from w zs p) (pack_by low s) ≡ index_from w zs p s
+unfolding weigh weights_from pack_by index_from in_sizes
+weigh-index w [] p s b o = refl
+weigh-index w (z ∷ zs) p [] b o = absurd o
+weigh-index w (z ∷ zs) [] (x ∷ s) b o = let d : x % 16 < 16 = omega arith in
+    rw (digits_mod (pack_by low s) d, digits_div (pack_by low s) d, weigh-index w zs [] s b.1 (and_r (ltb x z) _ o)) (omega arith)
+weigh-index w (z ∷ zs) (q ∷ p) (x ∷ s) b o = let d : x % 16 < 16 = omega arith in let l : x < z = ltb→lt x z (and_l (ltb x z) _ o) in let m : x < 16 = omega (arith, b.0) in
+    rw (digits_mod (pack_by low s) d, digits_div (pack_by low s) d, mod-eq_of_lt m) (by_test (eqb q 1)
+    (λ e. rw (e, weigh-index (w * z) zs p s b.1 (and_r (ltb x z) _ o)))
+    (λ e. rw (e, weigh-index w zs p s b.1 (and_r (ltb x z) _ o)) (omega arith)))
 
 -- The words that were made w at a time.
 pub extended_start : (old : List ℕ) (w place : ℕ) → Extended old old w w place

@@ -1,13 +1,13 @@
--- The space of a pattern of a well_formed_lem task is regular: what the edges ask holds of it, and so it does of a sound record. Assumes nothing.
-use Rattle.std.proofs.Common.{◌≡◌, ℕ, zero, suc, ◌+◌, ◌-◌, ◌*◌, ◌/◌, ◌%◌, ◌<◌, ◌≤◌, Bool, true, false, cond, ◌&&◌, ◌||◌, T, eqb, ltb, ◌⊎◌, List, [], ◌∷◌, ◌++◌, length, get_or, take, replicate, sym, refl, ap, ◌∙◌, inl, inr, mod-lt, arith, eqb→eq, length-append, le-ltb}
+-- The space of a pattern of a well-formed task is regular: what the edges ask holds of it, and so it does of a sound record. Assumes nothing.
+use Rattle.std.proofs.Common.{◌≡◌, ℕ, zero, suc, ◌+◌, ◌-◌, ◌*◌, ◌/◌, ◌%◌, ◌<◌, ◌≤◌, Bool, true, false, cond, ◌&&◌, ◌||◌, T, eqb, ltb, ◌⊎◌, List, [], ◌∷◌, ◌++◌, length, get_or, take, replicate, sym, refl, ap, ◌∙◌, inl, inr, mod-lt, ⊎_elim, arith, eqb→eq, length-append, le-ltb, get_or-take, lt-ltb, ltb→lt}
 use native.Mathlib.Nat.{pow-le-pow_right}
 use native.Mathlib.Decide.{dec_lt}
 use lib.ListN.{length-replicate, get_or-eq_default}
 use Rattle.planning.specs.Finite.{All}
-use Rattle.planning.specs.Task.{Task, apply, action_at, fits_sizes, WellFormed}
-use Rattle.planning.specs.Pattern.{mask, AbstractState}
+use Rattle.planning.specs.Task.{Task, apply, action_at, in_sizes, fits_sizes, WellFormed}
+use Rattle.planning.specs.Pattern.{keep, mask, AbstractState}
 use Rattle.planning.specs.Table.{index, state_count, state_at}
-use Rattle.planning.proofs.Test.{by_test}
+use Rattle.planning.proofs.Test.{by_test, and_l, and_r, and_in}
 use Rattle.planning.proofs.Finite.{all_at}
 use Rattle.planning.proofs.Pattern.{mask_fits, mask_stays_abstract}
 use Rattle.planning.proofs.Table.{index_below, index_at_state, state_at-index, state_at_abstract}
@@ -22,17 +22,20 @@ use Rattle.task_record.proofs.Soundness.{sound_cell}
 use Rattle.task_record.proofs.SoundTask.{patterns_right, cell_of_part, sizes_length, sound_well_formed}
 use Rattle.patterns.proofs.Reading.{actions_length}
 use Rattle.patterns.proofs.Sizes.{sizes_taken, pattern_whole}
-use Rattle.tables.specs.Packed.{pack_by, picking, low, naming, leaving, setting, outcome_count, compiled}
-use Rattle.tables.specs.Packable.{Packable}
-use Rattle.tables.specs.Steps.{weights_from, Space, space, after}
-use Rattle.tables.proofs.Packing.{low_digit, naming-digit, leaving-digit, setting-digit, pack-below}
-use Rattle.tables.proofs.Compiled.{pre_mask_is, pre_value_is, outcome_count_is, keep_mask_is, set_value_is}
-use Rattle.tables.proofs.Simulating.{packable_action}
-use Rattle.tables.proofs.Abstracted.{after_is, weigh-index}
-use Rattle.tables.proofs.Spacing.{length_weights, weigh_padded}
-use Rattle.tables.proofs.SoundPacked.{sound_packable}
+use Rattle.packed_task.specs.Packed.{pack_by, picking, low, naming, leaving, setting, cells_of, outcome_count, compiled}
+use Rattle.packed_task.specs.Packable.{all_cells_fit, Packable}
+use Rattle.tables.specs.Steps.{weigh, weights_from, Space, space}
+use Rattle.packed_task.specs.Within.{after}
+use Rattle.packed_task.proofs.Packing.{low_digit, naming-digit, leaving-digit, setting-digit, pack-below, pack_cells}
+use Rattle.tables.proofs.Digits.{lowest, next_digit}
+use Rattle.tables.proofs.GoalWords.{word_below}
+use Rattle.packed_task.proofs.Compiled.{goal_mask_is, goal_value_is, pre_mask_is, pre_value_is, outcome_count_is, keep_mask_is, set_value_is}
+use Rattle.packed_task.proofs.Simulating.{packable_action}
+use Rattle.packed_task.proofs.Abstracted.{after_is}
+use Rattle.tables.proofs.Spacing.{weigh-index, length_weights, weigh_padded}
+use Rattle.packed_task.proofs.SoundPacked.{sound_packable}
 use Rattle.tables.proofs.Settled.{Stands}
-use Rattle.tables.proofs.Sweeping.{false_true}
+use Rattle.task_record.proofs.Tests.{false_true}
 use Rattle.tables.specs.Incoming.{Parted}
 use Rattle.tables.specs.Waiting.{index_after}
 use Rattle.tables.specs.Edges.{digit, Regular, Walkable}
@@ -60,6 +63,32 @@ take_get zero l u = omega arith
 take_get (suc n) [] u = omega arith
 take_get (suc n) (x ∷ l) zero = omega arith
 take_get (suc n) (x ∷ l) (suc u) = take_get n l u
+
+take_short : (n : ℕ) (l : List ℕ) → length (take n l) ≤ n
+take_short zero l = omega arith
+take_short (suc n) [] = omega arith
+take_short (suc n) (x ∷ l) = omega (arith, take_short n l)
+
+-- The cells of a word.
+cells_in : (zs : List ℕ) (s : ℕ) → ((u : ℕ) → u < length zs → digit s u < get_or zs u 0) → T (in_sizes zs (cells_of (length zs) s))
+unfolding in_sizes cells_of
+cells_in [] s f = tt
+cells_in (z ∷ zs) s f = and_in (ltb (s % 16) z) _ (rw (lt-ltb (s % 16) z (let h = f 0 (omega arith) in omega (arith, h, lowest s))) tt) (cells_in zs (s / 16) (λ u l. rw (next_digit s u) at (f (suc u) (omega arith))))
+
+cells_kept : (m : ℕ) (p : List ℕ) (s : ℕ) → ((u : ℕ) → eqb (get_or p u 0) 1 ≡ false → digit s u ≡ 0) → keep 0 p (cells_of m s) ≡ cells_of m s
+unfolding keep cells_of
+cells_kept zero p s f = refl
+cells_kept (suc m) [] s f = let z : s % 16 ≡ 0 = lowest s ∙ f 0 refl in rw (z, cells_kept m [] (s / 16) (λ u e. sym (next_digit s u) ∙ f (suc u) e))
+cells_kept (suc m) (b ∷ p) s f = rw (cells_kept m p (s / 16) (λ u e. sym (next_digit s u) ∙ f (suc u) e)) (by_test (eqb b 1) (λ e. rw e) (λ e. let z : s % 16 ≡ 0 = lowest s ∙ f 0 e in rw (e, z)))
+
+-- A value that is named is below its size.
+named_below : (u : ℕ) (zs c : List ℕ) → T (all_cells_fit zs c) → u < length zs → naming (get_or c u 255) ≡ 15 → setting (get_or c u 255) < get_or zs u 0
+unfolding all_cells_fit
+named_below u [] c h l e = absurd (omega arith)
+named_below u (z ∷ zs) [] h l e = let f : ◌≡◌ {A = ℕ} 0 15 = e in absurd (omega arith)
+named_below zero (z ∷ zs) (y ∷ c) h l e = by_test (eqb y 255) (λ q. let f : ◌≡◌ {A = ℕ} 0 15 = rw q at e in absurd (omega arith))
+    (λ q. let b : y < z = ltb→lt y z (rw q at (and_l (eqb y 255 || ltb y z) _ h)) in rw q (omega (arith, b)))
+named_below (suc u) (z ∷ zs) (y ∷ c) h l e = named_below u zs c (and_r (eqb y 255 || ltb y z) _ h) (omega arith) e
 
 module _ (t : Task) (w : WellFormed t) (k : Packable t) (p : List ℕ) (x : Space) (r : Stands t p x) (sizes : List ℕ) (n : ℕ)
     (sized : take n sizes ≡ t.sizes) (short : length p ≤ 16) (few : state_count t.sizes p ≤ 4096) (only : (u : ℕ) → length t.sizes ≤ u → eqb (get_or p u 0) 1 ≡ false) where
@@ -109,6 +138,25 @@ module _ (t : Task) (w : WellFormed t) (k : Packable t) (p : List ℕ) (x : Spac
         let b = index_below t.sizes p y v.0 in
         rw (a, r.weights_are y v) (b, r.states_are j b ∙ ap (pack_by low) (state_at-index t.sizes p y v.0 ∙ v.1))
 
+  -- Each word that has 0 outside the mask and values below the sizes is that of a state.
+  there : (s : ℕ) → ((u : ℕ) → digit x.mask u ≡ 0 → digit s u ≡ 0) → ((u : ℕ) → digit x.mask u ≡ 15 → digit s u < get_or sizes u 0) → (weigh x.weights s < states) × (get_or x.states (weigh x.weights s) 0 ≡ s)
+  unfolding index
+  there s f g = let zs = t.sizes in let m = length zs in let y = cells_of m s in
+      let a : pack_by low y ≡ s = pack_cells m s (word_below m s (λ u l. f u (mask-digit u ∙ rw (only u l)))) in
+      let v : AbstractState t p y = (cells_in zs s (λ u l. size u l), cells_kept m p s (λ u e. f u (mask-digit u ∙ rw e))) in
+      let j = index zs p y in let b = index_below zs p y v.0 in
+      let e : weigh x.weights s ≡ j = ap (weigh x.weights) (sym a) ∙ r.weights_are y v in
+      rw e (b, r.states_are j b ∙ ap (pack_by low) (state_at-index zs p y v.0 ∙ v.1) ∙ a)
+    where
+      plain : (u : ℕ) → (digit x.mask u ≡ 0) ⊎ (digit x.mask u ≡ 15)
+      plain u = rw r.mask_is (plain_mask p u)
+
+      taken : (u : ℕ) → u < length t.sizes → get_or t.sizes u 0 ≡ get_or sizes u 0
+      taken u l = rw (← sized) (get_or-take n sizes u 0 (let k = take_short n sizes in let q : length (take n sizes) ≡ length t.sizes = ap length sized in omega (arith, k, q, l)))
+
+      size : (u : ℕ) → u < length t.sizes → digit s u < get_or t.sizes u 0
+      size u l = ⊎_elim (λ e. let z = f u e in let b = state_below t.sizes p 0 u w.sizes_positive l in omega (arith, z, b)) (λ e. rw (taken u l) (g u e)) (plain u)
+
   need_pair : (y : ℕ) → ((naming y ≡ 0) × (setting y ≡ 0)) ⊎ (naming y ≡ 15)
   need_pair y = by_test (eqb y 255) (λ e. inl (rw e, rw e)) (λ e. inr (rw e))
 
@@ -134,15 +182,14 @@ module _ (t : Task) (w : WellFormed t) (k : Packable t) (p : List ℕ) (x : Spac
     inside = inside;
     below = below;
     closed = λ m o i l b d q. let h = action_of_lem m l in closed m o h (outcome_of m o h b) i d;
+    goal_plain = λ u. rw (r.task_is, goal_mask_is t k.actions_few, goal_value_is t k.actions_few, pack-digit naming 255 refl naming-digit t.goal u, pack-digit setting 255 refl setting-digit t.goal u) (need_pair (get_or t.goal u 255));
+    goal_below = λ u e f. let l = in_sizes_lem u e in let b = named_below u t.sizes t.goal k.goal_fits l (rw (r.task_is, goal_mask_is t k.actions_few, pack-digit naming 255 refl naming-digit t.goal u) at f) in
+        let g = rw sized at (take_get n sizes u) in rw (r.task_is, goal_value_is t k.actions_few, pack-digit setting 255 refl setting-digit t.goal u) (omega (arith, b, g));
+    there = there;
   }
 
 pub parted_as : {states : List ℕ} {n l lower low high : ℕ} → n ≡ l → Parted states n lower low high → Parted states l lower low high
 parted_as e g = rw e at g
-
-take_short : (n : ℕ) (l : List ℕ) → length (take n l) ≤ n
-take_short zero l = omega arith
-take_short (suc n) [] = omega arith
-take_short (suc n) (x ∷ l) = omega (arith, take_short n l)
 
 pub weights_short : (weights sizes p : List ℕ) (n : ℕ) → n ≤ 16 → weights ≡ weights_from 1 (take n sizes) p ++ replicate (16 - n) 0 → length weights ≤ 16
 weights_short weights sizes p n l e = let a = length-append (weights_from 1 (take n sizes) p) (replicate (16 - n) 0) in let b = length_weights 1 (take n sizes) p in

@@ -1,44 +1,18 @@
 -- Laws of the loops over waiting states: the start, at which every state whose entry is 0 waits, the look at all entries, and the taking of one
 -- state after the other. Assumes nothing.
-use Rattle.std.proofs.Common.{◌≡◌, ℕ, zero, suc, ◌+◌, ◌-◌, ◌<◌, ◌≤◌, false, cond, Bool, List, length, get_or, replicate, sym, refl, ◌∙◌, subst, zero-add, arith}
+use Rattle.std.proofs.Common.{◌≡◌, ℕ, zero, suc, ◌+◌, ◌-◌, ◌<◌, ◌≤◌, false, cond, Bool, List, length, get_or, replicate, sym, refl, ◌∙◌, zero-add, arith}
 use native.Mathlib.Decide.{dec_lt}
 use lib.ListN.{length-replicate}
 use Rattle.planning.proofs.Finite.{get_or_tabulate, length-tabulate}
-use Rattle.tables.specs.Packed.{outcome_count, action_weight}
-use Rattle.tables.specs.Steps.{Space, is_goal, started, Settled}
+use Rattle.packed_task.specs.Packed.{outcome_count, action_weight}
+use Rattle.tables.specs.Steps.{Space, started, Settled}
+use Rattle.packed_task.specs.Within.{is_goal}
 use Rattle.tables.specs.Waiting.{Waits, Kept}
-use Rattle.tables.specs.Queue.{waiting, Queue, Put, Taken}
+use Rattle.tables.specs.Queue.{waiting, Queue, Taken}
 use Rattle.tables.specs.Visits.{Visited, GoalsWait, Level}
-use Rattle.tables.proofs.Sweeping.{false_true}
+use Rattle.task_record.proofs.Tests.{false_true}
 use Rattle.tables.proofs.Law.{kept_start, kept_visited, kept_settled, kept_level}
 use Rattle.tables.proofs.Ring.{none_waits, count_few}
-
--- The states below i whose entry is 0 wait.
-pub record GoalsTo (t : List ℕ) (n : ℕ) (q : List ℕ) (marks : List Bool) (c i : ℕ) : Type 0 where
-  pub size : n ≡ length t
-  pub queue : Queue n q marks 0 c
-  pub zeros : (j : ℕ) → j < i → get_or t j 0 ≡ 0 → Waits marks j
-
-pub goals_none : {t q : List ℕ} {marks : List Bool} → Queue (length t) q marks 0 0 → GoalsTo t (length t) q marks 0 0
-goals_none v = record { size = refl; queue = v; zeros = λ j l. absurd (omega arith) }
-
-module _ {t : List ℕ} {n : ℕ} {q : List ℕ} {marks : List Bool} {c i : ℕ} (v : GoalsTo t n q marks c i) where
-  pub goals_put : {q₁ : List ℕ} {marks₁ : List Bool} {d : ℕ} → Put n q marks 0 c i q₁ marks₁ d → GoalsTo t n q₁ marks₁ d (i + 1)
-  goals_put {q₁} {marks₁} p = record { size = v.size; queue = p.queue; zeros = λ j l z. either j l z (dec_lt j i) }
-    where
-      either : (j : ℕ) → j < i + 1 → get_or t j 0 ≡ 0 → Dec (j < i) → Waits marks₁ j
-      either j l z (yes b) = p.still j (v.zeros j b z)
-      either j l z (no b) = let e : j ≡ i = omega arith in rw e p.here
-
-  pub goals_pass : (get_or t i 0 ≡ 0 → ⊥) → GoalsTo t n q marks c (i + 1)
-  goals_pass f = record { size = v.size; queue = v.queue; zeros = λ j l z. either j l z (dec_lt j i) }
-    where
-      either : (j : ℕ) → j < i + 1 → get_or t j 0 ≡ 0 → Dec (j < i) → Waits marks j
-      either j l z (yes b) = v.zeros j b z
-      either j l z (no b) = let e : j ≡ i = omega arith in absurd (f (rw e at z))
-
-  pub goals_all : n ≤ i → GoalsWait t q marks c
-  goals_all l = let e = v.size in record { queue = rw e at v.queue; zeros = λ j b z. v.zeros j (omega arith) z }
 
 -- Where no state is marked none waits.
 none_marked : (n : ℕ) → waiting (replicate n false) ≡ 0
@@ -123,6 +97,3 @@ module _ {x : Space} {first : List ℕ} {n : ℕ} {t q : List ℕ} {marks : List
 
   pub running_level : ((m : ℕ) → m < x.actions → 1 ≤ action_weight x.task m) → Level t marks → Settled x first t
   running_level light l = kept_level x first t marks light (λ j w. omega (arith, v.queue.inside j w, v.size)) l v.kept
-
-pub settled_from : {x : Space} {f g u : List ℕ} → f ≡ g → Settled x f u → Settled x g u
-settled_from {x} {f} {g} {u} e s = subst (λ l. Settled x l u) e s

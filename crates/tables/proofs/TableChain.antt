@@ -13,14 +13,14 @@ use Rattle.task_record.specs.TaskOf.{task_of, patterns_of}
 use Rattle.task_record.specs.Window.{Sixteen}
 use Rattle.task_record.proofs.SoundTask.{sound_well_formed}
 use Rattle.tables.specs.Built.{Built}
-use Rattle.tables.specs.Packed.{compiled}
+use Rattle.packed_task.specs.Packed.{compiled}
 use Rattle.tables.specs.RecordTables.{built_over}
 use Rattle.patterns.specs.Space.{entries_needed}
 use Rattle.tables.specs.Steps.{Sized}
 use Rattle.patterns.proofs.Built.{unit_weights}
 use Rattle.patterns.proofs.Reading.{actions_length}
 use Rattle.patterns.proofs.Sizes.{variables_few, sizes_taken, sizes_positive}
-use Rattle.tables.proofs.SoundPacked.{sound_packable}
+use Rattle.packed_task.proofs.SoundPacked.{sound_packable}
 use Rattle.patterns.proofs.Weights.{drop_all}
 
 -- One pattern of a sound record: what a build of its table asks, and that it is the definition's.

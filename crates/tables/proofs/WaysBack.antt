@@ -3,12 +3,13 @@ use Rattle.std.proofs.Common.{◌≡◌, ℕ, zero, suc, ◌+◌, ◌-◌, ◌*�
 use native.Mathlib.Decide.{dec_lt}
 use lib.Bits.{bit_and}
 use Rattle.planning.proofs.Test.{by_test}
-use Rattle.tables.specs.Packed.{pre_mask, pre_value, outcome_count, keep_mask, set_value}
-use Rattle.tables.specs.Steps.{weigh, Space, after, permitted, permitted_at}
+use Rattle.packed_task.specs.Packed.{pre_mask, pre_value, outcome_count, keep_mask, set_value}
+use Rattle.tables.specs.Steps.{weigh, Space, permitted_at}
+use Rattle.packed_task.specs.Within.{after, permitted}
 use Rattle.tables.specs.Waiting.{index_after}
 use Rattle.tables.specs.Edges.{edge_mask, edge_back, edge_free, edge_lanes, lane_weight, lane_values, lane_digit, lane_value, lane_sum, lane_after, way_back, Before, Choices, StandsFor, named, freed, digit, PlainMask, Regular}
 use Rattle.tables.specs.Made.{LaneAt, LaneOf, one, none, Same, back_of, EdgeIs, Served}
-use Rattle.tables.specs.declared.proved_worklist.edge.Edge.{Edge}
+use Rattle.tables.specs.declared.worklist.edge.Edge.{Edge}
 use Rattle.tables.proofs.Digits.{Fits, changed, changed_same, weigh_before, weigh-least, word_test, test_plain, freed_mod, freed_div, further_digit, place_is, digit_without, weigh_without}
 
 -- A lane: its weight, place and number of values; what the free digits add is what it adds and what the rest does.

@@ -3,8 +3,8 @@ use Rattle.std.specs.Prelude.{◌≡◌, ℕ, ◌<◌, List, map, length, take, 
 use Rattle.planning.specs.Extended.{fin, inf}
 use Rattle.planning.specs.Task.{Task, WellFormed}
 use Rattle.planning.specs.Table.{table, entry_of}
-use Rattle.tables.specs.Packed.{compiled}
-use Rattle.tables.specs.Packable.{Packable}
+use Rattle.packed_task.specs.Packed.{compiled}
+use Rattle.packed_task.specs.Packable.{Packable}
 
 -- Finite entries are below 65,535: where every action counts 1, at most 4,095 (light_entries_bounded of planning).
 pub record Built (words : List ℕ) (actions n : ℕ) (sizes p entries : List ℕ) : Type 0 where

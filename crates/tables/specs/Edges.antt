@@ -3,14 +3,15 @@
 -- values it has (8 bits). A digit is free if the outcome sets it and the precondition does not ask for it. Assumes nothing.
 use Rattle.std.specs.Prelude.{◌≡◌, ℕ, zero, suc, ◌+◌, ◌-◌, ◌*◌, ◌/◌, ◌%◌, ◌^◌, ◌<◌, ◌≤◌, min, true, false, cond, ◌⊎◌, List, ◌++◌, length, take, replicate, ◌==◌, ◌≢◌, bit_and, bit_or, slice_index, slice_index_or}
 use Rattle.planning.specs.Table.{state_count, state_at}
-use Rattle.tables.specs.Packed.{pack_by, low, pre_mask, pre_value, outcome_count, action_weight, keep_mask, set_value}
-use Rattle.tables.specs.Steps.{weigh, weights_from, Space, space, after, idles, permitted_at}
+use Rattle.packed_task.specs.Packed.{pack_by, low, pre_mask, pre_value, outcome_count, action_weight, keep_mask, set_value, goal_mask, goal_value}
+use Rattle.tables.specs.Steps.{weigh, weights_from, Space, space, permitted_at}
+use Rattle.packed_task.specs.Within.{after, idles}
 use Rattle.tables.specs.Waiting.{index_after}
-use Rattle.tables.specs.declared.proved_worklist.edge.Edge.{Edge}
+use Rattle.tables.specs.declared.worklist.edge.Edge.{Edge}
 
 -- No edge, and edge e.
 abbrev pub no_edge : Edge
-no_edge = record { mask = 0; value = 0; lanes = 0; free = 0; back = 0; weight = 0; action = 0; first = 0; end = 0 }
+no_edge = record { mask = 0; value = 0; lanes = 0; free = 0; back = 0; weight = 0; first = 0; action = 0; many = 0 }
 
 abbrev pub edge_at : List Edge → ℕ → Edge
 edge_at es e = slice_index_or es e no_edge
@@ -42,7 +43,7 @@ abbrev pub edge_first : List Edge → ℕ → ℕ
 edge_first es e = (edge_at es e).first
 
 abbrev pub edge_end : List Edge → ℕ → ℕ
-edge_end es e = (edge_at es e).end
+edge_end es e = (edge_at es e).first + (edge_at es e).many
 
 -- A lane: weight, values, and the digit of a word that it stands for.
 abbrev pub lane_weight : ℕ → ℕ
@@ -69,13 +70,16 @@ lane_after lanes = lanes / 4294967296
 unfoldable pub way_back : List Edge → ℕ → ℕ → ℕ
 way_back es e j = (j + edge_back es e) % 65536
 
--- Edge e is the only one of its action and leaves no digit free, and state i is the one that it leads from to j.
-pub record Only (es : List Edge) (e i j : ℕ) : Type 0 where
+-- Edge e leaves no digit free.
+pub record Plain (es : List Edge) (e : ℕ) : Type 0 where
   pub one : lane_weight (edge_lanes es e) ≡ 0
   pub two : lane_weight (lane_after (edge_lanes es e)) ≡ 0
   pub free : edge_free es e ≡ 0
-  pub back : i ≡ way_back es e j
-  pub alone : edge_end es e ≡ edge_first es e + 1
+
+-- Edge e leaves no digit free but that of its first lane.
+pub record Single (es : List Edge) (e : ℕ) : Type 0 where
+  pub two : lane_weight (lane_after (edge_lanes es e)) ≡ 0
+  pub free : edge_free es e ≡ 0
 
 -- Edge e leads from state i to state j: j passes the test, and i comes from j by the way back and the free digits of i.
 pub record Before (x : Space) (es : List Edge) (e i j : ℕ) : Type 0 where
@@ -149,7 +153,7 @@ abbrev pub PlainOut : ℕ → ℕ → Type 0
 PlainOut keeps sets = (u : ℕ) → ((digit keeps u ≡ 15) × (digit sets u ≡ 0)) ⊎ (digit keeps u ≡ 0)
 
 -- The space is one of a compiled task that is well formed, with n states: the words are plain, each state stands at its index and has 0
--- outside the mask and values below the sizes, and so does the state after an outcome.
+-- outside the mask and values below the sizes, and so does the state after an outcome; and each word that is so is a state's.
 pub record Regular (x : Space) (sizes : List ℕ) (n : ℕ) : Type 0 where
   pub states_few : n ≤ 4096
   pub room : x.mask < 16 ^ 16
@@ -161,6 +165,10 @@ pub record Regular (x : Space) (sizes : List ℕ) (n : ℕ) : Type 0 where
   pub below : (i u : ℕ) → i < n → digit x.mask u ≡ 15 → digit (slice_index x.states i) u < slice_index sizes u
   pub closed : (m o i : ℕ) → m < x.actions → o < outcome_count x.task m → i < n → permitted_at x m i ≡ true →
       (index_after x m i o < n) × (slice_index x.states (index_after x m i o) ≡ after x.task x.mask m o (slice_index x.states i))
+  pub goal_plain : PlainNeed (goal_mask x.task) (goal_value x.task)
+  pub goal_below : (u : ℕ) → digit x.mask u ≡ 15 → digit (goal_mask x.task) u ≡ 15 → digit (goal_value x.task) u < slice_index sizes u
+  pub there : (s : ℕ) → ((u : ℕ) → digit x.mask u ≡ 0 → digit s u ≡ 0) → ((u : ℕ) → digit x.mask u ≡ 15 → digit s u < slice_index sizes u) →
+      (weigh x.weights s < n) × (slice_index x.states (weigh x.weights s) ≡ s)
 
 -- The words of the states and the weights of the variables make such a space.
 pub record Walkable (task : List ℕ) (mask actions n : ℕ) (sizes p : List ℕ) : Type 0 where

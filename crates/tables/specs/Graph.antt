@@ -1,9 +1,10 @@
 -- The graph of a pattern's abstract states, and what is known of it before a worklist goes along its edges. Assumes nothing.
 use Rattle.std.specs.Prelude.{ℕ, ◌<◌, ◌≤◌, List, length}
-use Rattle.tables.specs.Steps.{Space, Readable}
+use Rattle.tables.specs.Steps.{Space}
+use Rattle.packed_task.specs.Packed.{Readable}
 use Rattle.tables.specs.Edges.{EdgesOf}
 use Rattle.tables.specs.Incoming.{Tests, Incoming}
-use Rattle.tables.specs.declared.proved_worklist.edge.Edge.{Edge}
+use Rattle.tables.specs.declared.worklist.edge.Edge.{Edge}
 
 -- What the build works on, with the sizes of the variables and the number of states; the edges, and their number; the
 -- sets of the edges that lead into a state, by the lower and the upper part of its index.

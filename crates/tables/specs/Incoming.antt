@@ -2,10 +2,10 @@
 -- meet of two is a set that misses no edge. Assumes nothing.
 use Rattle.std.specs.Prelude.{◌≡◌, ℕ, zero, suc, ◌+◌, ◌-◌, ◌*◌, ◌/◌, ◌%◌, ◌<◌, ◌≤◌, Bool, true, false, cond, ◌&&◌, ◌||◌, List, [], ◌∷◌, length, take, ◌==◌, ◌≢◌, bit_and, bit_or, slice_index}
 use Rattle.planning.specs.Table.{state_count, state_at}
-use Rattle.tables.specs.Packed.{pack_by, low}
-use Rattle.tables.specs.Sets.{set_from, need_at}
+use Rattle.packed_task.specs.Packed.{pack_by, low}
+use Rattle.packed_task.specs.Sets.{set_from, need_at}
 use Rattle.tables.specs.Edges.{edge_mask, edge_value, digit, PlainMask}
-use Rattle.tables.specs.declared.proved_worklist.edge.Edge.{Edge}
+use Rattle.tables.specs.declared.worklist.edge.Edge.{Edge}
 
 -- A set of the edges 64 * c, .., of k, that misses none whose test the word w passes.
 pub record Row (es : List Edge) (w k c set : ℕ) : Type 0 where
@@ -44,14 +44,14 @@ pub record Halved (states : List ℕ) (lower upper low high : ℕ) : Type 0 wher
   pub long : upper * lower ≤ length states
   pub upper_few : upper ≤ 1024
 
--- How the index of a pattern is split: `lower` states of the variables with the digits `low`, and at most 1,024 of the others.
+-- How the index of a pattern is split: `lower` states of the variables with the digits `low`, and of the others at most a fifth of all states, and one more.
 pub record Split (sizes p : List ℕ) (n mask lower low : ℕ) : Type 0 where
   pub lower_some : 1 ≤ lower
   pub lower_few : lower ≤ 64
   pub inside : low ≤ mask
   pub whole : state_count (take n sizes) p / lower * lower ≡ state_count (take n sizes) p
-  pub upper_few : state_count (take n sizes) p / lower ≤ 1024
-  pub parted : (states : List ℕ) → ((i : ℕ) → i < state_count (take n sizes) p → slice_index states i ≡ pack_by Rattle.tables.specs.Packed.low (state_at (take n sizes) p i)) →
+  pub upper_few : 5 * (state_count (take n sizes) p / lower) ≤ state_count (take n sizes) p + 5
+  pub parted : (states : List ℕ) → ((i : ℕ) → i < state_count (take n sizes) p → slice_index states i ≡ pack_by Rattle.packed_task.specs.Packed.low (state_at (take n sizes) p i)) →
       Parted states (state_count (take n sizes) p) lower low (mask - low)
 
 -- What edge `first` + q needs of digit v.
@@ -93,4 +93,4 @@ pub record Incoming (states : List ℕ) (es : List Edge) (n k lower upper : ℕ)
 
 -- There are no sets, or there is room for every row of so many edges, however the index is split.
 pub record SetsRoom (n edges length : ℕ) : Type 0 where
-  pub rows : 1 ≤ length → (lower c : ℕ) → 1 ≤ lower → lower ≤ 64 → n / lower ≤ 1024 → 64 * c < edges → (lower + n / lower) * c + lower + n / lower ≤ length
+  pub rows : 1 ≤ length → (lower c : ℕ) → 1 ≤ lower → lower ≤ 64 → 5 * (n / lower) ≤ n + 5 → 64 * c < edges → (lower + n / lower) * c + lower + n / lower ≤ length

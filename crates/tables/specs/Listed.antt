@@ -1,17 +1,23 @@
 -- The abstract states of a pattern as they are listed before a worklist goes through them, and the room that it needs. Assumes nothing.
 use Rattle.std.specs.Prelude.{◌≡◌, ℕ, ◌-◌, ◌<◌, ◌≤◌, List, ◌++◌, length, take, replicate, slice_index}
 use Rattle.planning.specs.Table.{state_at}
-use Rattle.tables.specs.Packed.{pack_by, low}
+use Rattle.packed_task.specs.Packed.{pack_by, low}
 use Rattle.tables.specs.Steps.{weights_from, Space, space}
 use Rattle.tables.specs.Edges.{outcomes_from}
 use Rattle.tables.specs.Incoming.{Split, SetsRoom}
 use Rattle.tables.specs.Patterned.{Patterned, states_of}
-use Rattle.tables.specs.declared.proved_worklist.edge.Edge.{Edge}
+use Rattle.tables.specs.declared.worklist.edge.Edge.{Edge}
 
 -- The weights of the variables, and the word of each state at its index.
+abbrev pub WeightsOf : Patterned → List ℕ → Type 0
+WeightsOf p weights = weights ≡ weights_from 1 (take p.variables p.sizes) p.picked ++ replicate (16 - p.variables) 0
+
+abbrev pub WordsOf : Patterned → List ℕ → Type 0
+WordsOf p words = (i : ℕ) → i < states_of p → slice_index words i ≡ pack_by low (state_at (take p.variables p.sizes) p.picked i)
+
 pub record Listed (p : Patterned) (weights words : List ℕ) : Type 0 where
-  pub weights_are : weights ≡ weights_from 1 (take p.variables p.sizes) p.picked ++ replicate (16 - p.variables) 0
-  pub words_are : (i : ℕ) → i < states_of p → slice_index words i ≡ pack_by low (state_at (take p.variables p.sizes) p.picked i)
+  pub weights_are : WeightsOf p weights
+  pub words_are : WordsOf p words
   pub long : states_of p ≤ length words
 
 -- What a build works on.
@@ -40,4 +46,4 @@ pub record RoomFor (p : Patterned) (states edges sets : ℕ) : Type 0 where
   pub edges_room : edges_most p ≤ edges
   pub edges_few : edges ≤ 512
   pub sets_room : SetsRoom (states_of p) edges sets
-  pub sets_few : sets ≤ 8704
+  pub sets_few : sets ≤ 7072

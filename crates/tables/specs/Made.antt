@@ -1,9 +1,9 @@
 -- What making the edges of a pattern leaves behind: the words of an edge, of the edges of one action, and of all. Assumes nothing.
 use Rattle.std.specs.Prelude.{◌≡◌, ℕ, ◌+◌, ◌-◌, ◌*◌, ◌%◌, ◌^◌, ◌<◌, ◌≤◌, min, List, length, bit_and, slice_index, slice_index_or}
-use Rattle.tables.specs.Packed.{pre_mask, pre_value, outcome_count, action_weight, keep_mask, set_value}
+use Rattle.packed_task.specs.Packed.{pre_mask, pre_value, outcome_count, action_weight, keep_mask, set_value}
 use Rattle.tables.specs.Steps.{weigh}
 use Rattle.tables.specs.Edges.{edge_at, edge_first, edge_end, named, freed, test_mask, test_value, digit}
-use Rattle.tables.specs.declared.proved_worklist.edge.Edge.{Edge}
+use Rattle.tables.specs.declared.worklist.edge.Edge.{Edge}
 
 -- Digit u of the free ones is the lane.
 pub record LaneAt (ws sizes : List ℕ) (free lane rest u : ℕ) : Type 0 where
@@ -44,7 +44,7 @@ pub record EdgeFor (a : List ℕ) (k : ℕ) (ws sizes : List ℕ) (m o : ℕ) (w
 
 -- An edge without the edges of its action.
 abbrev pub bare : Edge → Edge
-bare w = record w { first = 0; end = 0 }
+bare w = record w { first = 0; many = 0 }
 
 abbrev pub EdgeIs : List ℕ → ℕ → List ℕ → List ℕ → List Edge → ℕ → ℕ → ℕ → Type 0
 EdgeIs a k ws sizes es e m o = EdgeFor a k ws sizes m o (bare (edge_at es e))

@@ -1,14 +1,14 @@
--- A pattern of a compiled task, and what the build of its table rests on, however it is made. Assumes nothing.
-use Rattle.std.specs.Prelude.{◌≡◌, ℕ, ◌+◌, ◌/◌, ◌<◌, ◌≤◌, not, List, map, take}
+-- A pattern of a compiled task, and what the build of its table rests on. Assumes nothing.
+use Rattle.std.specs.Prelude.{◌≡◌, ℕ, ◌<◌, ◌≤◌, not, List, map, take}
 use Rattle.planning.specs.Table.{state_count, table, entry_of}
 use Rattle.task_record.specs.Layout.{at_pattern}
 use Rattle.task_record.specs.Numbers.{pattern_count, size_of}
 use Rattle.task_record.specs.TaskOf.{cells_at, task_of}
 use Rattle.task_record.specs.Window.{Sixteen}
-use Rattle.tables.specs.Packed.{pack_by, picking, compiled}
-use Rattle.tables.specs.Sets.{set_from}
-use Rattle.tables.specs.Steps.{idles, Readable, Sized}
-use Rattle.tables.specs.Certified.{Lookable}
+use Rattle.packed_task.specs.Packed.{pack_by, picking, compiled, Readable}
+use Rattle.packed_task.specs.Sets.{set_from}
+use Rattle.packed_task.specs.Within.{idles}
+use Rattle.tables.specs.Steps.{Sized}
 use Rattle.tables.specs.Edges.{Walkable}
 use Rattle.tables.specs.Built.{Built}
 
@@ -23,11 +23,10 @@ pub record Patterned : Type 0 where
   pub mask : ℕ
   pub live : ℕ
 
--- The compiled words can be read, sets by bytes find the actions that are permitted in a state, each state of the pattern stands at its index and
--- has the states after it among them, sizes and pattern are within their bounds, and mask and actions are those of task and pattern.
+-- The compiled words can be read, each state of the pattern stands at its index and has the states after it among them, sizes and pattern are
+-- within their bounds, and mask and actions are those of task and pattern.
 pub record Ready (p : Patterned) : Type 0 where
   pub readable : Readable p.task p.actions
-  pub lookable : Lookable p.task p.mask p.actions ((p.variables + 1) / 2)
   pub walkable : Walkable p.task p.mask p.actions p.variables p.sizes p.picked
   pub sized : Sized p.sizes p.picked p.variables
   pub masked : p.mask ≡ pack_by picking p.picked

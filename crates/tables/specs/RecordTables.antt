@@ -7,8 +7,8 @@ use Rattle.task_record.specs.Record.{Sound}
 use Rattle.task_record.specs.TaskOf.{task_of, patterns_of, start_of}
 use Rattle.patterns.specs.Space.{entries_needed, table_check}
 use Rattle.patterns.specs.Estimate.{estimate_check}
-use Rattle.tables.specs.Packed.{pack_by, low, compiled}
-use Rattle.tables.specs.Sets.{sets_filled}
+use Rattle.packed_task.specs.Packed.{pack_by, low, compiled}
+use Rattle.packed_task.specs.Sets.{sets_filled}
 use Rattle.task_record.specs.Refusals.{after, where_ok}
 use Rattle.task_record.specs.declared.refusal.Refusal.{Refusal}
 

@@ -1,9 +1,10 @@
 -- The build of one pattern's table over packed words: entries fall one by one, each to what an action says of it, and when no action says
 -- less of any the build is over. The order of the steps is free. Assumes nothing.
-use Rattle.std.specs.Prelude.{◌≡◌, ℕ, zero, suc, ◌+◌, ◌*◌, ◌/◌, ◌%◌, ◌<◌, ◌≤◌, max, Bool, true, false, cond, ◌&&◌, List, [], ◌∷◌, length, take, ◌==◌, bit_and, bit_or, nat_eq, nat_lt, slice_index, slice_index_or, slice_set}
-use Rattle.planning.specs.Finite.{All, any_from, tabulate}
+use Rattle.std.specs.Prelude.{◌≡◌, ℕ, zero, suc, ◌+◌, ◌*◌, ◌/◌, ◌%◌, ◌<◌, ◌≤◌, max, Bool, true, false, cond, List, [], ◌∷◌, length, take, ◌==◌, nat_lt, slice_index, slice_index_or, slice_set}
+use Rattle.planning.specs.Finite.{All, tabulate}
 use Rattle.planning.specs.Table.{state_count}
-use Rattle.tables.specs.Packed.{pre_mask, pre_value, outcome_count, action_weight, keep_mask, set_value, goal_mask, goal_value}
+use Rattle.packed_task.specs.Within.{is_goal, permitted, after, idles}
+use Rattle.packed_task.specs.Packed.{outcome_count, action_weight}
 
 -- The index of a word: each digit times its weight.
 unfoldable pub weigh : List ℕ → ℕ → ℕ
@@ -28,20 +29,6 @@ pub record Space : Type 0 where
 abbrev pub space : List ℕ → ℕ → List ℕ → List ℕ → ℕ → Space
 space a k w s n = record { task = a; mask = k; weights = w; states = s; actions = n }
 
--- Goal and precondition within the pattern, and the state after outcome k of action m.
-unfoldable pub is_goal : List ℕ → ℕ → ℕ → Bool
-is_goal a k s = bit_and s (bit_and (goal_mask a) k) == bit_and (goal_value a) k
-
-unfoldable pub permitted : List ℕ → ℕ → ℕ → ℕ → Bool
-permitted a k m s = bit_and s (bit_and (pre_mask a m) k) == bit_and (pre_value a m) k
-
-unfoldable pub after : List ℕ → ℕ → ℕ → ℕ → ℕ → ℕ
-after a k m o s = bit_and (bit_or (bit_and s (keep_mask a m o)) (set_value a m o)) k
-
--- An outcome of action m names no variable of the pattern, so that it leads from each abstract state to itself.
-unfoldable pub idles : List ℕ → ℕ → ℕ → Bool
-idles a k m = any_from 0 (outcome_count a m) (λ o. nat_eq (bit_and (keep_mask a m o) k) k)
-
 -- The largest of f o, f (o + 1), ..., n of them; a sum that reaches 65,535 counts as infinite.
 unfoldable pub worst : (ℕ → ℕ) → ℕ → ℕ → ℕ
 worst f o zero = 0
@@ -49,11 +36,6 @@ worst f o (suc n) = max (f o) (worst f (suc o) n)
 
 unfoldable pub raised : ℕ → ℕ → ℕ
 raised w v = cond (nat_lt (w + v) 65535) (w + v) 65535
-
--- v is x if it is below the limit; if not, x is not below it either.
-pub record Below (limit x v : ℕ) : Type 0 where
-  pub exact : v < limit → v ≡ x
-  pub enough : limit ≤ v → limit ≤ x
 
 -- The entry after outcome o of action m in state s, and what the action says of the state's entry.
 unfoldable pub outcome_entry : List ℕ → ℕ → List ℕ → List ℕ → ℕ → ℕ → ℕ → ℕ
@@ -85,31 +67,7 @@ unfoldable pub total : List ℕ → ℕ
 total [] = 0
 total (x ∷ t) = x + total t
 
--- One try of an action at an entry: it falls where the action says less.
-unfoldable pub lowers : List ℕ → ℕ → List ℕ → List ℕ → ℕ → ℕ → ℕ → Bool
-lowers a k w entries m i s = permitted a k m s && nat_lt (offer a k w entries m s) (slice_index entries i)
-
-unfoldable pub relaxed : List ℕ → ℕ → List ℕ → List ℕ → ℕ → ℕ → ℕ → List ℕ
-relaxed a k w entries m i s = cond (lowers a k w entries m i s) (slice_set entries i (offer a k w entries m s)) entries
-
--- The numbers of outcomes in a compiled task are such that they can be read, every action has an outcome, and none weighs nothing.
-pub record Readable (a : List ℕ) (actions : ℕ) : Type 0 where
-  pub actions_few : actions ≤ 64
-  pub outcomes_few : (m : ℕ) → m < actions → outcome_count a m ≤ 8
-  pub outcomes_some : (m : ℕ) → m < actions → 1 ≤ outcome_count a m
-  pub weights_some : (m : ℕ) → m < actions → 1 ≤ action_weight a m
-
--- A pass over the entries with one action, a pass with every action, and passes until nothing changes.
-pub record RowSwept (x : Space) (m : ℕ) (t new : List ℕ) (changed : Bool) : Type 0 where
-  pub steps : Steps x t new
-  pub still : changed ≡ false → (new ≡ t) × ((i : ℕ) → i < length t → permitted_at x m i ≡ true → slice_index t i ≤ offer_at x t m i)
-  pub less : changed ≡ true → total new < total t
-
-pub record Swept (x : Space) (t new : List ℕ) (changed : Bool) : Type 0 where
-  pub steps : Steps x t new
-  pub still : changed ≡ false → (new ≡ t) × Stable x new
-  pub less : changed ≡ true → total new < total t
-
+-- Steps from the first list until no action says less of any entry.
 pub record Settled (x : Space) (t new : List ℕ) : Type 0 where
   pub steps : Steps x t new
   pub stable : Stable x new

@@ -1,10 +1,10 @@
 -- What asking actions about the states before a state leaves behind. Assumes nothing.
-use Rattle.std.specs.Prelude.{◌≡◌, ℕ, ◌+◌, ◌-◌, ◌*◌, ◌/◌, ◌%◌, ◌^◌, ◌<◌, ◌≤◌, Bool, true, ◌&&◌, List, length, drop, bit_and, nat_lt, slice_index}
+use Rattle.std.specs.Prelude.{◌≡◌, ℕ, ◌+◌, ◌-◌, ◌*◌, ◌/◌, ◌%◌, ◌^◌, ◌<◌, ◌≤◌, Bool, true, ◌&&◌, List, length, drop, ◌≢◌, bit_and, nat_lt, slice_index}
 use Rattle.tables.specs.Steps.{weigh, Space, offer_at, permitted_at}
 use Rattle.tables.specs.Waiting.{Waits, Heard, Leads, Asks, Moved}
 use Rattle.tables.specs.Queue.{Queue}
-use Rattle.tables.specs.Edges.{edge_back, edge_action, edge_lanes, edge_free, lane_after, lane_sum, lane_value, lane_values, Before}
-use Rattle.tables.specs.declared.proved_worklist.edge.Edge.{Edge}
+use Rattle.tables.specs.Edges.{edge_back, edge_weight, edge_action, edge_lanes, edge_free, edge_first, edge_end, lane_after, lane_sum, Before}
+use Rattle.tables.specs.declared.worklist.edge.Edge.{Edge}
 
 -- Entry i is there and above what was said.
 unfoldable pub above : List ℕ → ℕ → ℕ → Bool
@@ -15,52 +15,71 @@ unfoldable pub way_forward : List Edge → List ℕ → ℕ → ℕ → ℕ → 
 way_forward es ws e i s =
     (i + 65536 - (lane_sum (edge_lanes es e) s + lane_sum (lane_after (edge_lanes es e)) s + weigh ws (bit_and s (edge_free es e))) % 65536 + 65536 - edge_back es e) % 65536
 
--- Entries t and c waiting states became `new` and d waiting ones: the queue is in order, and what was heard is.
-pub record Going (x : Space) (t : List ℕ) (marks : List Bool) (c : ℕ) (new q₁ : List ℕ) (marks₁ : List Bool) (h d : ℕ) : Type 0 where
+-- Entries t and c waiting states became `new` and d waiting ones while state j was visited: the queue is in order, what was heard is, and the entry of j
+-- is the same.
+pub record Going (x : Space) (j : ℕ) (t : List ℕ) (marks : List Bool) (c : ℕ) (new q₁ : List ℕ) (marks₁ : List Bool) (h d : ℕ) : Type 0 where
   pub moved : Moved x t marks c new marks₁ d
   pub queue : Queue (length new) q₁ marks₁ h d
+  pub stays : slice_index new j ≡ slice_index t j
 
 -- r is what action m says of entry i; where it is infinite, that was heard.
 pub record Offered (x : Space) (t : List ℕ) (marks : List Bool) (m i r : ℕ) : Type 0 where
   pub said : r < 65535 → r ≡ offer_at x t m i
   pub nothing : 65535 ≤ r → Heard x t marks m i
 
+-- By edge e entry i is to be what the edge's weight and the entry of j make, and that is less.
+pub record Says (es : List Edge) (t : List ℕ) (e i j said : ℕ) : Type 0 where
+  pub near : j < length t
+  pub said_is : said ≡ slice_index t j + edge_weight es e
+  pub less : said < slice_index t i
+  pub small : slice_index t i ≤ 65535
+
+-- The same of an edge that leads from i to j and is the only one of its action.
+pub record Only (x : Space) (es : List Edge) (t : List ℕ) (e i said : ℕ) : Type 0 where
+  pub after : ℕ
+  pub says : Says es t e i after said
+  pub there : way_forward es x.weights e i (slice_index x.states i) ≡ after
+  pub alone : edge_end es e ≡ edge_first es e + 1
+
 -- Action m was asked about state i.
 pub record Asked (x : Space) (m i : ℕ) (t : List ℕ) (marks : List Bool) (c : ℕ) (new q₁ : List ℕ) (marks₁ : List Bool) (h d : ℕ) : Type 0 where
-  pub going : Going x t marks c new q₁ marks₁ h d
+  pub going : (j : ℕ) → (j ≢ i) → Going x j t marks c new q₁ marks₁ h d
   pub heard : permitted_at x m i ≡ true → Heard x new marks₁ m i
+
+-- The same of the action of edge e, where that leads from i to j.
+pub record AskedFrom (x : Space) (es : List Edge) (e j i : ℕ) (t : List ℕ) (marks : List Bool) (c : ℕ) (new q₁ : List ℕ) (marks₁ : List Bool) (h d : ℕ) : Type 0 where
+  pub going : Going x j t marks c new q₁ marks₁ h d
+  pub heard : permitted_at x (edge_action es e) i ≡ true → Before x es e i j → Heard x new marks₁ (edge_action es e) i
 
 -- The action of edge e was asked about every state before j whose index is `at` and what the two lanes of its own word add.
 pub record Laned (x : Space) (es : List Edge) (e j at : ℕ) (t : List ℕ) (marks : List Bool) (c : ℕ) (new q₁ : List ℕ) (marks₁ : List Bool) (h d : ℕ) : Type 0 where
-  pub going : Going x t marks c new q₁ marks₁ h d
+  pub going : Going x j t marks c new q₁ marks₁ h d
   pub heard : (i : ℕ) → i < length new → permitted_at x (edge_action es e) i ≡ true → Leads x (edge_action es e) i j →
-      lane_value (edge_lanes es e) (slice_index x.states i) < lane_values (edge_lanes es e) →
-      lane_value (lane_after (edge_lanes es e)) (slice_index x.states i) < lane_values (lane_after (edge_lanes es e)) →
+      Before x es e i j →
       i ≡ at + lane_sum (edge_lanes es e) (slice_index x.states i) + lane_sum (lane_after (edge_lanes es e)) (slice_index x.states i) → Heard x new marks₁ (edge_action es e) i
 
 -- The same, where the free digits of its word from v on add something too.
 pub record Freed (x : Space) (es : List Edge) (e j v free at : ℕ) (t : List ℕ) (marks : List Bool) (c : ℕ) (new q₁ : List ℕ) (marks₁ : List Bool) (h d : ℕ) : Type 0 where
-  pub going : Going x t marks c new q₁ marks₁ h d
+  pub going : Going x j t marks c new q₁ marks₁ h d
   pub heard : (i : ℕ) → i < length new → permitted_at x (edge_action es e) i ≡ true → Leads x (edge_action es e) i j →
-      lane_value (edge_lanes es e) (slice_index x.states i) < lane_values (edge_lanes es e) →
-      lane_value (lane_after (edge_lanes es e)) (slice_index x.states i) < lane_values (lane_after (edge_lanes es e)) →
+      Before x es e i j →
       i ≡ at + lane_sum (edge_lanes es e) (slice_index x.states i) + lane_sum (lane_after (edge_lanes es e)) (slice_index x.states i)
       + weigh (drop v x.weights) (bit_and (slice_index x.states i / 16 ^ v) free) → Heard x new marks₁ (edge_action es e) i
 
 -- The action of edge e was asked about every state from which that edge leads to j.
 pub record Passed (x : Space) (es : List Edge) (e j : ℕ) (t : List ℕ) (marks : List Bool) (c : ℕ) (new q₁ : List ℕ) (marks₁ : List Bool) (h d : ℕ) : Type 0 where
-  pub going : Going x t marks c new q₁ marks₁ h d
+  pub going : Going x j t marks c new q₁ marks₁ h d
   pub heard : (i : ℕ) → i < length new → permitted_at x (edge_action es e) i ≡ true → Leads x (edge_action es e) i j → Before x es e i j → Heard x new marks₁ (edge_action es e) i
 
--- The edges of row c were gone through.
-pub record RowDone (x : Space) (es : List Edge) (k j c : ℕ) (t : List ℕ) (marks : List Bool) (a : ℕ) (new q₁ : List ℕ) (marks₁ : List Bool) (h d : ℕ) : Type 0 where
-  pub going : Going x t marks a new q₁ marks₁ h d
-  pub heard : (q i : ℕ) → q < 64 → 64 * c + q < k → i < length new → permitted_at x (edge_action es (64 * c + q)) i ≡ true →
+-- The edges of row c were gone through, from number `from` of the row on.
+pub record RowDone (x : Space) (es : List Edge) (k j c from : ℕ) (t : List ℕ) (marks : List Bool) (a : ℕ) (new q₁ : List ℕ) (marks₁ : List Bool) (h d : ℕ) : Type 0 where
+  pub going : Going x j t marks a new q₁ marks₁ h d
+  pub heard : (q i : ℕ) → from ≤ q → q < 64 → 64 * c + q < k → i < length new → permitted_at x (edge_action es (64 * c + q)) i ≡ true →
       Leads x (edge_action es (64 * c + q)) i j → Before x es (64 * c + q) i j → Heard x new marks₁ (edge_action es (64 * c + q)) i
 
 -- Every action that leads to j was asked.
 pub record Visited (x : Space) (j : ℕ) (t : List ℕ) (marks : List Bool) (c : ℕ) (new q₁ : List ℕ) (marks₁ : List Bool) (h d : ℕ) : Type 0 where
-  pub going : Going x t marks c new q₁ marks₁ h d
+  pub going : Going x j t marks c new q₁ marks₁ h d
   pub heard : (m i : ℕ) → Asks x m i → i < length new → Leads x m i j → Heard x new marks₁ m i
 
 -- Every state whose entry is 0 waits.

@@ -1,8 +1,9 @@
 -- What a worklist keeps while it lowers the entries of a table: what every action says of every entry was heard, or one of its outcomes
 -- still waits. The order in which states wait is free. Assumes nothing.
 use Rattle.std.specs.Prelude.{◌≡◌, ℕ, ◌+◌, ◌<◌, ◌≤◌, Bool, true, false, ◌⊎◌, List, length, get_or, slice_index, slice_index_or}
-use Rattle.tables.specs.Packed.{outcome_count}
-use Rattle.tables.specs.Steps.{weigh, Space, after, idles, offer_at, permitted_at, Steps, total}
+use Rattle.packed_task.specs.Packed.{outcome_count}
+use Rattle.tables.specs.Steps.{weigh, Space, offer_at, permitted_at, Steps, total}
+use Rattle.packed_task.specs.Within.{after, idles}
 
 -- The index of the state after outcome o of action m in state i.
 unfoldable pub index_after : Space → ℕ → ℕ → ℕ → ℕ
@@ -43,8 +44,3 @@ pub record Moved (x : Space) (t : List ℕ) (marks : List Bool) (c : ℕ) (new :
   pub lowered : (j : ℕ) → (slice_index new j ≡ slice_index t j) ⊎ Waits marks₁ j
   pub still : (j : ℕ) → Waits marks j → Waits marks₁ j
   pub falls : total new + d ≤ total t + c
-
--- e is entry j, or j waits again.
-pub data Told (t : List ℕ) (marks : List Bool) (j e : ℕ) : Type 0 where
-  is : slice_index_or t j 0 ≡ e → Told t marks j e
-  again : Waits marks j → Told t marks j e

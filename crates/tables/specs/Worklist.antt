@@ -1,7 +1,7 @@
 -- A step of a worklist: what it keeps, and what it does to the entries and the states that wait. Assumes nothing.
 use Rattle.std.specs.Prelude.{◌≡◌, ℕ, Bool, List}
 use Rattle.tables.specs.Graph.{Graphed}
-use Rattle.tables.specs.declared.proved_worklist.visits.Worklist.{Worklist}
+use Rattle.tables.specs.declared.worklist.visits.Worklist.{Worklist}
 
 -- The worklist went from old to new: graph, entries and ring are the same ones, no state was taken out, and P is what was done: to entries, marks and
 -- number of waiting states, of which the new ones stand behind the old, with the places and the head of the ring.

@@ -3,9 +3,9 @@
 ghost use Rattle.std.specs.Prelude.{◌≡◌};
 ghost use Rattle.tables.specs.Patterned.{Chosen, PatternOf, states_of};
 
-use crate::packed::{DigitRule, pack};
 use crate::ranking::state_count;
-use crate::sweep::lively;
+use crate::steps::lively;
+use packed_task::packed::mask_of_cells;
 use std::marker::Model;
 use task_record::cells::{action_count, pattern_cells, state_of, variable_count};
 use task_record::sound::SoundRecord;
@@ -48,7 +48,7 @@ impl<'a> Pattern<'a> {
     {
         let actions = usize::from(action_count(record.cells));
         let picked = state_of(pattern_cells(record.cells, p));
-        let mask = pack(DigitRule::Picking, &picked);
+        let mask = mask_of_cells(&picked);
         Pattern {
             task,
             actions,

@@ -2,7 +2,7 @@
 // Stays: `as` of a weight: an index has no `From` into what is narrower, and `try_from` has a case that never happens.
 ghost use Rattle.std.specs.Prelude.{◌≡◌, ℕ, ◌+◌, ◌-◌, ◌*◌, ◌%◌, ◌<◌, ◌≤◌, ◌++◌, min, length, take, replicate, if◌then◌else◌, nat_eq, slice_index};
 ghost use Rattle.planning.specs.Table.{state_count, state_at};
-ghost use Rattle.tables.specs.Packed.{pack_by, low};
+ghost use Rattle.packed_task.specs.Packed.{pack_by, low};
 ghost use Rattle.tables.specs.Patterned.{states_of};
 ghost use Rattle.tables.specs.Steps.{weights_from, Sized, Extended};
 

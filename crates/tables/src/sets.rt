@@ -1,30 +1,6 @@
-// Sets of small numbers as words: made by a test of each number, and gone through from the lowest on. `Members` is public for the search and is
-// no entry of the product.
+// Sets of small numbers as words, made by a test of each number.
 ghost use Rattle.std.specs.Prelude.{◌≡◌, ℕ, ◌<◌, ◌≤◌, Bool};
-ghost use Rattle.std.specs.Iterator.{at_most};
-ghost use Rattle.tables.specs.Sets.{TakesLowest, set_from};
-
-// The members of a set of bits, from the lowest on.
-#[derive(Drop)]
-pub struct Members(pub u64);
-
-impl Iterator for Members {
-    type Item = usize;
-
-    ghost next_gives = { λ s r t. TakesLowest s.0 r t.0 };
-
-    ghost remaining = { λ s. at_most s.0 };
-
-    fn next(&mut self) -> Option<usize> {
-        let rest = self.0;
-        if rest == 0 {
-            return None;
-        }
-        self.0 = rest & (rest - 1);
-        // Stays: `as`: a count of bits has no `From` into an index.
-        Some((rest.trailing_zeros() % 64) as usize)
-    }
-}
+ghost use Rattle.packed_task.specs.Sets.{set_from};
 
 // The numbers below n that pass a test, from the highest down: each makes room for the one below it.
 pub(crate) fn set_of<F: Fn(usize) -> bool>(n: usize, passes: F) -> u64

@@ -11,7 +11,6 @@ ghost use Rattle.tables.specs.Answers.{spread_numbers, spread_by_lines};
 ghost use Rattle.tables.specs.RecordTables.{Fits, built_over};
 ghost use Rattle.tables.specs.Spread.{costs_named, states_named, table_spread, tables_spread, row_spread};
 
-use crate::builder::{ProvedWorklist, TableBuilder, Tested};
 use crate::ranking::state_count;
 use crate::record_tables::build_checked;
 use patterns::space::{check_tables, sizes_of};
@@ -77,14 +76,9 @@ fn count_pattern(record: &SoundRecord, pattern: u64, tables: &[u16], row: &mut [
 }
 
 // Builds the tables and counts, for the pattern of a number, how many of its abstract states have each cost: place v of the row is for cost v, the
-// last for infinity. A row that is too short is refused before anything is built.
+// last for infinity. A row that is too short is refused before anything is built. Needs as much stack as a build.
 #[tactic(auto, using(crate::proofs::Spreading::spread_told))]
-fn spread_with<B: TableBuilder>(
-    rec: &[u8],
-    pattern: u64,
-    tables: &mut [u16],
-    row: &mut [u32],
-) -> Result<u64, Refusal>
+pub fn spread(rec: &[u8], pattern: u64, tables: &mut [u16], row: &mut [u32]) -> Result<u64, Refusal>
     ensures value { (result ≡ table_spread rec.now pattern (length tables.old) (length row.old)) × (tables.new ≡ tables_spread rec.now pattern tables.old (length row.old)) × (row.new ≡ row_spread rec.now pattern (length tables.old) row.old) }
     ensures numbers { spread_numbers result ≡ spread_by_lines rec.now pattern (length tables.old) (length row.old) }
 {
@@ -93,27 +87,6 @@ fn spread_with<B: TableBuilder>(
         return Err(Refusal::ShortRow(row.len() as u64));
     }
     let record = SoundRecord { cells: rec };
-    build_checked::<B>(&record, tables);
+    build_checked(&record, tables);
     Ok(count_pattern(&record, pattern, tables, &mut row[..ROW]))
-}
-
-// How many abstract states of the pattern of a number have each cost, with the tables built anew. Needs as much stack as a build.
-pub fn spread(rec: &[u8], pattern: u64, tables: &mut [u16], row: &mut [u32]) -> Result<u64, Refusal>
-    ensures value { (result ≡ table_spread rec.now pattern (length tables.old) (length row.old)) × (tables.new ≡ tables_spread rec.now pattern tables.old (length row.old)) × (row.new ≡ row_spread rec.now pattern (length tables.old) row.old) }
-    ensures numbers { spread_numbers result ≡ spread_by_lines rec.now pattern (length tables.old) (length row.old) }
-{
-    spread_with::<Tested>(rec, pattern, tables, row)
-}
-
-// The same, with tables by the worklist that is proved.
-pub fn spread_by_worklist(
-    rec: &[u8],
-    pattern: u64,
-    tables: &mut [u16],
-    row: &mut [u32],
-) -> Result<u64, Refusal>
-    ensures value { (result ≡ table_spread rec.now pattern (length tables.old) (length row.old)) × (tables.new ≡ tables_spread rec.now pattern tables.old (length row.old)) × (row.new ≡ row_spread rec.now pattern (length tables.old) row.old) }
-    ensures numbers { spread_numbers result ≡ spread_by_lines rec.now pattern (length tables.old) (length row.old) }
-{
-    spread_with::<ProvedWorklist>(rec, pattern, tables, row)
 }

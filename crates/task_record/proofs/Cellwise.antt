@@ -1,23 +1,13 @@
 -- What the definitions on lists of cells say cell by cell; a list that ends early names nothing more (255). Assumes nothing.
 use Rattle.std.proofs.Common.{◌≡◌, ℕ, zero, suc, ◌<◌, Bool, true, false, not, ◌&&◌, ◌||◌, eqb, List, [], ◌∷◌, length, get_or, sym, refl, ap, ◌∙◌, zero-add, arith, ext_get_or}
-use Rattle.planning.specs.Task.{meets_cell, meets, apply_cell, apply}
+use Rattle.planning.specs.Task.{apply_cell, apply}
 use Rattle.planning.specs.Finite.{tabulate}
 use Rattle.planning.specs.Pattern.{affects}
 use Rattle.planning.proofs.Finite.{length-tabulate, get_or_tabulate}
 use Rattle.task_record.specs.Scan.{all_below}
 use Rattle.task_record.specs.Cells.{spares_cell, state_cells}
-use Rattle.task_record.proofs.Scanning.{all_from_first, all_none}
+use Rattle.task_record.proofs.Scanning.{all_from_first}
 use Rattle.task_record.proofs.Sixteens.{any_default}
-
-abbrev pub met : List ℕ → List ℕ → ℕ → Bool
-met c s i = meets_cell (get_or c i 255) (get_or s i 0)
-
-pub meets_cells : (c s : List ℕ) → all_below (met c s) (length s) ≡ meets c s
-unfolding meets all_below
-meets_cells [] s = all_none (met [] s) (length s) (λ i l. refl)
-meets_cells (y ∷ c) [] = refl
-meets_cells (y ∷ c) (x ∷ s) =
-    all_from_first (met (y ∷ c) (x ∷ s)) (length s) ∙ ap (λ (t : Bool). meets_cell y x && t) (meets_cells c s)
 
 abbrev pub changed : List ℕ → List ℕ → ℕ → ℕ
 changed o s i = apply_cell (get_or o i 255) (get_or s i 0)

@@ -1,5 +1,5 @@
 -- What the columns (specs/Columns.antt) say of the scan of a record: a part whose columns are right is passed whole. Assumes nothing.
-use Rattle.std.proofs.Common.{◌≡◌, ℕ, ◌+◌, ◌-◌, ◌*◌, ◌/◌, ◌%◌, ◌<◌, ◌≤◌, true, cond, eqb, ltb, List, get_or, sym, ◌∙◌, arith, ltb-false, ltb-true, le-ltb, lt-ltb, eq-eqb, eqb-true, le-leb, leb-true, Some, ◌++◌, replicate, refl}
+use Rattle.std.proofs.Common.{◌≡◌, ℕ, ◌+◌, ◌-◌, ◌*◌, ◌/◌, ◌%◌, ◌<◌, ◌≤◌, true, cond, ◌&&◌, eqb, ltb, List, get_or, sym, ◌∙◌, arith, ltb-false, ltb-true, le-ltb, lt-ltb, eq-eqb, eqb-true, leb, le-leb, leb-true, ◌++◌, replicate, refl}
 use lib.ListN.{get_or-replicate, get_or-append}
 use Rattle.std.proofs.Math.Seq.{get_or-append_right}
 use Rattle.task_record.proofs.Sixteens.{zeros}
@@ -8,17 +8,17 @@ use borrow.Author.Tests.{eqb-false}
 use Rattle.task_record.specs.Layout.{at_sizes, at_goal, at_start, at_pattern, at_action, action_size}
 use Rattle.task_record.specs.Numbers.{variable_count, action_count, pattern_count, size_of, outcome_count}
 use Rattle.task_record.specs.Scan.{first_from}
-use Rattle.task_record.specs.Window.{fits, used_blocks}
-use Rattle.task_record.specs.Record.{cell_ok, size_ok, state_cell_ok}
+use Rattle.task_record.specs.Window.{fits}
+use Rattle.task_record.specs.Record.{cell_ok, size_ok, count_ok, state_ok}
 use Rattle.task_record.specs.State.{first_bad_value}
 use Rattle.task_record.specs.Parts.{SizesPassed}
 use Rattle.task_record.specs.Columns.{ActionColumn, MemberColumn, FrontPassed, Ramp}
 use Rattle.planning.proofs.Test.{by_test}
-use Rattle.task_record.proofs.Tests.{both_left}
-use Rattle.task_record.proofs.Scanning.{first_none}
-use Rattle.task_record.proofs.Offsets.{size_at, goal_at, start_at, pattern_at}
+use Rattle.task_record.proofs.Tests.{same_test, both_left}
+use Rattle.task_record.proofs.Scanning.{first_suc, first_none}
+use Rattle.task_record.proofs.Offsets.{size_at, goal_at, start_at, pattern_at, count_at, block_at}
 use Rattle.task_record.proofs.Windows.{size_window, assignment_window, unused_assignment_window, state_window, pattern_window, unused_pattern_window}
-use Rattle.task_record.proofs.Parts.{Bytes, size_right, few_used, block_cell, action_goes_on}
+use Rattle.task_record.proofs.Parts.{Bytes, size_right}
 
 -- What was gathered by `|` is 0 only where each part is.
 pub or_zero_left : (a b : ℕ) → bit_or a b ≡ 0 → a ≡ 0
@@ -53,14 +53,32 @@ lowered f from i low new down here earlier k g l =
 pub faults_next : (P : ℕ → Type 0) (i bad b : ℕ) → (b ≡ 0 → P i) → (bad ≡ 0 → (v : ℕ) → v < i → P v) → bit_or bad b ≡ 0 → (v : ℕ) → v < i + 1 → P v
 faults_next P i bad b here earlier h = below_next P i (here (or_zero_right bad b h)) (earlier (or_zero_left bad b h))
 
-module _ (r : List ℕ) (m : ℕ) where
-  pub used_rows : m < action_count r → 1 ≤ outcome_count r m → outcome_count r m ≤ 8 → used_blocks r m ≡ Some (1 + outcome_count r m)
-  unfolding used_blocks
-  used_rows h a b = rw (lt-ltb m (action_count r) h, le-leb 1 (outcome_count r m) a, le-leb (outcome_count r m) 8 b)
+-- The number of outcomes of action m is right, and of its nine rows of 16, the precondition and eight outcomes, the first ones are used.
+pub record UsedRows (r : List ℕ) (m used : ℕ) : Type 0 where
+  pub counted : cell_ok r (at_action m) ≡ true
+  pub few : used ≤ 9
+  pub row : (j : ℕ) → (ltb m (action_count r) && leb j (outcome_count r m)) ≡ ltb j used
 
-  pub no_rows : action_count r ≤ m → outcome_count r m ≡ 0 → used_blocks r m ≡ Some 0
-  unfolding used_blocks
-  no_rows h z = rw (le-ltb m (action_count r) h, eq-eqb (outcome_count r m) 0 z)
+module _ (r : List ℕ) (m : ℕ) where
+  pub used_rows : m < action_count r → 1 ≤ outcome_count r m → outcome_count r m ≤ 8 → UsedRows r m (1 + outcome_count r m)
+  unfolding count_ok
+  used_rows h a b =
+      record {
+        counted = count_at r m ∙ rw (lt-ltb m (action_count r) h, le-leb 1 (outcome_count r m) a, le-leb (outcome_count r m) 8 b);
+        few = omega arith;
+        row = λ j. rw (lt-ltb m (action_count r) h) (same_test (leb j (outcome_count r m)) (ltb j (1 + outcome_count r m))
+            (λ p. let q = leb-true j (outcome_count r m) p in lt-ltb j (1 + outcome_count r m) (omega arith))
+            (λ p. let q = ltb-true j (1 + outcome_count r m) p in le-leb j (outcome_count r m) (omega arith)));
+      }
+
+  pub no_rows : action_count r ≤ m → outcome_count r m ≡ 0 → UsedRows r m 0
+  unfolding count_ok
+  no_rows h z =
+      record {
+        counted = count_at r m ∙ rw (le-ltb m (action_count r) h, eq-eqb (outcome_count r m) 0 z);
+        few = omega arith;
+        row = λ j. rw (le-ltb m (action_count r) h, le-ltb j 0 (omega arith));
+      }
 
 -- What the size of a variable says once it is right.
 module _ (r : List ℕ) (v : ℕ) (right : size_ok r v (size_of r v) ≡ true) where
@@ -82,27 +100,23 @@ module _ (r : List ℕ) (bytes : Bytes r) where
   -- Sizes, goal and start of each variable.
   pub front_passes : ((v : ℕ) → v < 16 → (fits (size_of r v) (cond (ltb v (variable_count r)) 254 0) (cond (ltb v (variable_count r)) 14 0) ≡ true)
       × (fits (get_or r (at_goal + v) 0) 1 (size_of r v) ≡ true) × (fits (get_or r (at_start + v) 0) (1 - size_of r v) (size_of r v - 1) ≡ true)) → FrontPassed r
-  unfolding state_cell_ok
   front_passes each =
       let right : (v : ℕ) → v < 16 → size_ok r v (size_of r v) ≡ true = (λ v l. sym (size_window (size_of r v) (bytes (at_sizes + v)) r v) ∙ (each v l).0) in
       record {
         sizes = first_none (cell_ok r) at_sizes 16 (λ v l. size_at r v l ∙ right v l);
         goal = first_none (cell_ok r) at_goal 16 (λ v l. goal_at r v l ∙ sym (assignment_window (get_or r (at_goal + v) 0) (bytes (at_goal + v)) r v (right v l)) ∙ (each v l).1);
-        start = first_none (cell_ok r) at_start 16 (λ v l.
-            let z : at_start + v - at_start ≡ v = omega arith in
-            start_at r v l ∙ rw z (sym (state_window (get_or r (at_start + v) 0) (bytes (at_start + v)) r v (right v l)) ∙ rw (vacant r v (right v l)) at (each v l).2));
+        start = first_none (cell_ok r) at_start 16 (λ v l. start_at r v l ∙ sym (state_window (get_or r (at_start + v) 0) (bytes (at_start + v)) r v (right v l)) ∙ rw (vacant r v (right v l)) at (each v l).2);
       }
 
   module _ (right : first_from (cell_ok r) at_sizes 16 ≡ at_goal) where
     -- Every value of a state.
     pub state_passes : (s : List ℕ) → Bytes s → ((v : ℕ) → v < 16 → fits (get_or s v 0) (1 - size_of r v) (size_of r v - 1) ≡ true) → first_bad_value r s ≡ 16
-    unfolding first_bad_value state_cell_ok
+    unfolding first_bad_value
     state_passes s fit each =
-        first_none (state_cell_ok r s 0) 0 16 (λ v l.
+        first_none (λ v. state_ok r v (get_or s v 0)) 0 16 (λ v l.
         let z : 0 + v ≡ v = omega arith in
-        let y : v - 0 ≡ v = omega arith in
-        let q = size_right r bytes right v l in
-        rw (z, y) (sym (state_window (get_or s v 0) (fit v) r v q) ∙ rw (vacant r v q) at (each v l)))
+        let q = size_right r right v l in
+        rw z (sym (state_window (get_or s v 0) (fit v) r v q) ∙ rw (vacant r v q) at (each v l)))
 
     -- The cells of a variable in the eight patterns.
     pub patterns_pass : (used : ℕ) → used ≡ pattern_count r → used ≤ 8 → ((v : ℕ) → v < 16 → MemberColumn r (size_of r v) (at_pattern 0 + v) used)
@@ -118,36 +132,36 @@ module _ (r : List ℕ) (bytes : Bytes r) where
         ∙ by_test (ltb (i / 16) (pattern_count r))
         (λ w.
         let u = rw p at (col.used_cell (i / 16) (omega arith)) in
-        sym (pattern_window x b r (i % 16) (i / 16) w) ∙ member_fits r (i % 16) (size_right r bytes right (i % 16) (omega arith)) x b u)
+        sym (pattern_window x b r (i % 16) (i / 16) w) ∙ member_fits r (i % 16) (size_right r right (i % 16) (omega arith)) x b u)
         (λ w.
         let g = ltb-false (i / 16) (pattern_count r) w in
         let u = rw p at (col.unused_cell (i / 16) (omega arith) (omega arith)) in
         sym (unused_pattern_window x b r (i % 16) (i / 16) w) ∙ le-leb ((x + 0) % 256) 0 (omega arith)))
 
     -- The cells of a variable in the nine rows of an action.
-    pub action_passes : (m used : ℕ) → used_blocks r m ≡ Some used → ((v : ℕ) → v < 16 → ActionColumn r (size_of r v) (at_action m + 1 + v) used)
+    pub action_passes : (m used : ℕ) → UsedRows r m used → ((v : ℕ) → v < 16 → ActionColumn r (size_of r v) (at_action m + 1 + v) used)
         → first_from (cell_ok r) (at_action m) action_size ≡ at_action (m + 1)
     unfolding fits
-    action_passes m used q each =
-        let up = few_used r bytes m used q in
+    action_passes m used rows each =
+        let few = rows.few in
         let all : (i : ℕ) → i < 144 → cell_ok r (at_action m + 1 + i) ≡ true =
         (λ i l.
         let x = get_or r (at_action m + 1 + i) 0 in
         let b = bytes (at_action m + 1 + i) in
         let col = each (i % 16) (omega arith) in
         let p : at_action m + 1 + i % 16 + 16 * (i / 16) ≡ at_action m + 1 + i = omega arith in
-        block_cell r bytes m used q i l
-        ∙ by_test (ltb (i / 16) used)
+        block_at r m i l
+        ∙ rw (rows.row (i / 16)) (by_test (ltb (i / 16) used)
         (λ w.
         let g = ltb-true (i / 16) used w in
         let u = rw p at (col.named (i / 16) (omega arith)) in
-        rw w (sym (assignment_window x b r (i % 16) (size_right r bytes right (i % 16) (omega arith))) ∙ u))
+        rw w (sym (assignment_window x b r (i % 16) (size_right r right (i % 16) (omega arith))) ∙ u))
         (λ w.
         let g = ltb-false (i / 16) used w in
         let u = rw p at (col.unnamed (i / 16) (omega arith) (omega arith)) in
-        rw w (sym (unused_assignment_window x b r (i % 16)) ∙ le-leb ((x + 1) % 256) 0 (omega arith)))) in
+        rw w (sym (unused_assignment_window x b r (i % 16)) ∙ le-leb ((x + 1) % 256) 0 (omega arith))))) in
         let e : at_action m + 1 + 144 ≡ at_action (m + 1) = omega arith in
-        action_goes_on r bytes m used q ∙ first_none (cell_ok r) (at_action m + 1) 144 all ∙ e
+        first_suc (cell_ok r) (at_action m) 144 rows.counted ∙ first_none (cell_ok r) (at_action m + 1) 144 all ∙ e
 
 -- The same of sizes that were read once.
 module _ (r sizes : List ℕ) (bytes : Bytes r) (passed : SizesPassed r sizes) where

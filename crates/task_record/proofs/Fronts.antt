@@ -1,5 +1,5 @@
 -- Cells that name nothing from place n on: sixteen cells say of a state what they say of its first n values. Assumes nothing.
-use Rattle.std.proofs.Common.{◌≡◌, ℕ, zero, suc, ◌≤◌, Bool, true, ◌&&◌, List, [], ◌∷◌, get_or, take, drop, sym, refl, ap, arith, eq-eqb}
+use Rattle.std.proofs.Common.{◌≡◌, ℕ, zero, suc, ◌≤◌, Bool, true, ◌&&◌, List, [], ◌∷◌, get_or, take, sym, refl, ap, arith, eq-eqb}
 use Rattle.planning.specs.Task.{meets_cell, meets, apply_cell, apply}
 
 -- No cell from place n on is named.
@@ -18,12 +18,6 @@ unnamed-meets [] s u = refl
 unnamed-meets (y ∷ c) [] u = refl
 unnamed-meets (y ∷ c) (x ∷ s) u = rw (eq-eqb y 255 (u.free 0 (omega arith))) (unnamed-meets c s (unnamed_tail y c u))
 
-unnamed-apply : (o s : List ℕ) → Unnamed 0 o → apply o s ≡ s
-unfolding apply
-unnamed-apply o [] u = refl
-unnamed-apply [] (x ∷ s) u = refl
-unnamed-apply (y ∷ o) (x ∷ s) u = rw (eq-eqb y 255 (u.free 0 (omega arith))) (ap (λ (t : List ℕ). x ∷ t) (unnamed-apply o s (unnamed_tail y o u)))
-
 pub meets_front : (n : ℕ) (c s : List ℕ) → Unnamed n c → meets c (take n s) ≡ meets c s
 unfolding meets
 meets_front n [] s u = refl
@@ -39,11 +33,3 @@ apply_front (suc n) o [] = refl
 apply_front zero o (x ∷ s) = refl
 apply_front (suc n) [] (x ∷ s) = refl
 apply_front (suc n) (y ∷ o) (x ∷ s) = ap (λ (t : List ℕ). apply_cell y x ∷ t) (apply_front n o s)
-
--- And what the state has from place n on stays.
-pub apply_rest : (n : ℕ) (o s : List ℕ) → Unnamed n o → drop n (apply o s) ≡ drop n s
-unfolding apply
-apply_rest zero o s u = unnamed-apply o s u
-apply_rest (suc n) o [] u = refl
-apply_rest (suc n) [] (x ∷ s) u = refl
-apply_rest (suc n) (y ∷ o) (x ∷ s) u = apply_rest n o s (unnamed_next n y o u)

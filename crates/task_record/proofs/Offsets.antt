@@ -3,7 +3,7 @@ use Rattle.std.proofs.Common.{◌≡◌, ℕ, ◌+◌, ◌-◌, ◌/◌, ◌%◌
 use mathlib.Core.Bool.{and-true}
 use Rattle.task_record.specs.Layout.{at_sizes, at_goal, at_start, at_pattern, at_action, action_size, in_precondition, in_outcomes}
 use Rattle.task_record.specs.Numbers.{byte, action_count, outcome_count}
-use Rattle.task_record.specs.Record.{cell_ok, size_ok, assignment_ok, state_cell_ok, pattern_ok, count_ok, action_ok}
+use Rattle.task_record.specs.Record.{cell_ok, size_ok, assignment_ok, state_ok, pattern_ok, count_ok, action_ok}
 use Rattle.planning.proofs.Test.{by_test}
 use Rattle.task_record.proofs.Tests.{same_test}
 
@@ -20,10 +20,11 @@ module _ (r : List ℕ) (i : ℕ) (l : i < 16) where
       let e : at_goal + i - at_goal ≡ i = omega arith in
       rw (le-ltb (at_goal + i) at_sizes (omega arith), le-ltb (at_goal + i) at_goal (omega arith), lt-ltb (at_goal + i) at_start (omega arith), e)
 
-  pub start_at : cell_ok r (at_start + i) ≡ state_cell_ok r r at_start (at_start + i)
+  pub start_at : cell_ok r (at_start + i) ≡ state_ok r i (byte r (at_start + i))
   unfolding cell_ok
   start_at =
-      rw (le-ltb (at_start + i) at_sizes (omega arith), le-ltb (at_start + i) at_goal (omega arith), le-ltb (at_start + i) at_start (omega arith), lt-ltb (at_start + i) (at_pattern 0) (omega arith))
+      let e : at_start + i - at_start ≡ i = omega arith in
+      rw (le-ltb (at_start + i) at_sizes (omega arith), le-ltb (at_start + i) at_goal (omega arith), le-ltb (at_start + i) at_start (omega arith), lt-ltb (at_start + i) (at_pattern 0) (omega arith), e)
 
 pub pattern_at : (r : List ℕ) (i : ℕ) → i < 128 → cell_ok r (at_pattern 0 + i) ≡ pattern_ok r (i / 16) (i % 16) (byte r (at_pattern 0 + i))
 unfolding cell_ok

@@ -1,8 +1,6 @@
 -- Lists of cells that a loop fills from the first on. Assumes nothing.
 use Rattle.std.proofs.Common.{◌≡◌, ℕ, zero, suc, ◌+◌, ◌<◌, eqb, List, [], ◌∷◌, length, get_or, set, replicate, refl, ◌∙◌, arith, get_or-set_other, get_or-set_same, eqb-true}
-use lib.ListN.{get_or-replicate, length-replicate}
 use borrow.Author.Tests.{eqb-false}
-use Rattle.task_record.specs.Window.{Sixteen}
 use Rattle.planning.proofs.Test.{by_test}
 
 pub filled_next : (f : ℕ → ℕ) (l : List ℕ) (i x : ℕ) → i < length l → x ≡ f i → ((v : ℕ) → v < i → get_or l v 0 ≡ f v)
@@ -11,13 +9,6 @@ filled_next f l i x h e below v w =
     by_test (eqb v i)
     (λ t. let q = eqb-true v i t in rw q (get_or-set_same l i x 0 h ∙ e))
     (λ t. let q = eqb-false v i t in get_or-set_other l i v x 0 q ∙ below v (omega (arith, q)))
-
--- A cell that is right already.
-pub kept_next : (f : ℕ → ℕ) (l : List ℕ) (i : ℕ) → get_or l i 0 ≡ f i → ((v : ℕ) → v < i → get_or l v 0 ≡ f v) → (v : ℕ) → v < i + 1 → get_or l v 0 ≡ f v
-kept_next f l i e below v w =
-    by_test (eqb v i)
-    (λ t. let q = eqb-true v i t in rw q e)
-    (λ t. let q = eqb-false v i t in below v (omega (arith, q)))
 
 pub zeros : (n i : ℕ) → ◌≡◌ {A = ℕ} (get_or (replicate n 0) i 0) 0
 zeros zero i = refl
@@ -29,7 +20,3 @@ pub any_default : (l : List ℕ) (i d e : ℕ) → i < length l → get_or l i d
 any_default [] i d e h = absurd (omega arith)
 any_default (x ∷ l) zero d e h = refl
 any_default (x ∷ l) (suc i) d e h = any_default l i d e (omega arith)
-
--- Sixteen times the same.
-pub same_cells : (x : ℕ) → Sixteen (λ v. x) (replicate 16 x)
-same_cells x = record { whole = length-replicate {A = ℕ} 16 x; cell = λ v h. get_or-replicate 16 v x 0 h }

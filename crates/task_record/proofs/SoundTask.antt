@@ -1,6 +1,7 @@
 -- The task of a sound record is well formed, its start is one of its states, and its assignments name nothing beyond its variables.
 -- Assumes nothing.
-use Rattle.std.proofs.Common.{◌≡◌, ℕ, zero, suc, ◌+◌, ◌-◌, ◌*◌, ◌/◌, ◌%◌, ◌<◌, ◌≤◌, true, ◌||◌, T, eqb, ltb, leb, List, [], ◌∷◌, length, get_or, take, drop, sym, ◌∙◌, add-zero, arith, length-drop, length-take-le, get_or-drop, get_or-take, ltb-false, ltb-true, le-ltb, lt-ltb, eqb-true, le-leb, leb-true}
+use Rattle.std.proofs.Common.{◌≡◌, ℕ, zero, suc, ◌+◌, ◌*◌, ◌/◌, ◌%◌, ◌<◌, ◌≤◌, true, false, ◌||◌, T, eqb, ltb, leb, List, [], ◌∷◌, length, get_or, take, drop, sym, ◌∙◌, add-zero, arith, length-drop, length-take-le, get_or-drop, get_or-take, ltb-false, ltb-true, le-ltb, lt-ltb, eqb-true, le-leb, leb-true}
+use Rattle.std.proofs.lemmas.Bool.{lt-leb}
 use mathlib.Core.Bool.{or-false}
 use lib.ListN.{get_or-eq_default}
 use Rattle.planning.specs.Finite.{All, tabulate}
@@ -8,10 +9,10 @@ use Rattle.planning.specs.Task.{State, in_sizes, fits_sizes, WellFormedAction, W
 use Rattle.planning.proofs.Finite.{some_tabulate, some_imp}
 use Rattle.task_record.specs.Layout.{record_size, at_variables, at_actions, at_patterns, at_sizes, at_goal, at_start, at_action, at_precondition, at_outcome}
 use Rattle.task_record.specs.Numbers.{byte, variable_count, action_count, pattern_count, size_of, outcome_count}
-use Rattle.task_record.specs.Record.{cell_ok, head_ok, size_ok, value_ok, assignment_ok, state_ok, state_cell_ok, count_ok, Sound}
+use Rattle.task_record.specs.Record.{cell_ok, head_ok, size_ok, value_ok, assignment_ok, state_ok, count_ok, Sound}
 use Rattle.task_record.specs.TaskOf.{cells_at, action_of, task_of, start_of}
 use Rattle.planning.proofs.Test.{by_test}
-use Rattle.task_record.proofs.Tests.{both_left, both_right}
+use Rattle.task_record.proofs.Tests.{both_left, both_right, one_of, false_true}
 use Rattle.task_record.proofs.Offsets.{size_at, goal_at, start_at, count_at, block_at}
 use Rattle.task_record.proofs.Soundness.{sound_length, sound_cell}
 use Rattle.task_record.proofs.Sixteens.{any_default}
@@ -114,6 +115,17 @@ module _ (r : List ℕ) (sound : Sound r) where
   pub outcome_assigns : (m k : ℕ) → m < action_count r → k < outcome_count r m → Assigns r (cells_at r (at_outcome m k))
   outcome_assigns m k l u = block_assigns m (k + 1) (at_outcome m k) l (omega arith) (omega arith)
 
+  -- An outcome that is not used names nothing.
+  pub outcome_unused : (m k : ℕ) → m < action_count r → outcome_count r m ≤ k → k < 8 → (v : ℕ) → v < 16 → byte r (at_outcome m k + v) ≡ 255
+  unfolding assignment_ok
+  outcome_unused m k l u b v h =
+      let n = actions_right in
+      let i = 16 * (k + 1) + v in
+      let a : at_outcome m k + v ≡ at_action m + 1 + i = omega arith in
+      let q : i / 16 ≡ k + 1 = omega arith in
+      let o = rw (q, lt-ltb m (action_count r) l, lt-leb (k + 1) (outcome_count r m) (omega arith)) at (sym (block_at r m i (omega arith)) ∙ sound_cell r sound (at_action m + 1 + i) (omega arith)) in
+      rw a (one_of (eqb (byte r (at_action m + 1 + i)) 255) false o (λ e. eqb-true (byte r (at_action m + 1 + i)) 255 e) (λ e. false_true e))
+
   pub sizes_length : length (take (variable_count r) (drop at_sizes r)) ≡ variable_count r
   sizes_length = let n = sound_length r sound in let v = variables_right in length_of_part r (variable_count r) at_sizes (omega arith)
 
@@ -166,7 +178,7 @@ module _ (r : List ℕ) (sound : Sound r) where
       }
 
   pub sound_start : State (task_of r) (start_of r)
-  unfolding task_of start_of state_cell_ok state_ok
+  unfolding task_of start_of state_ok
   sound_start =
       let n = sizes_length in
       let w = sound_length r sound in
@@ -175,6 +187,5 @@ module _ (r : List ℕ) (sound : Sound r) where
       in_sizes_lem (take (variable_count r) (drop at_sizes r)) (take (variable_count r) (drop at_start r)) (omega arith)
       (λ i l.
       let h : i < variable_count r = omega arith in
-      let e : at_start + i - at_start ≡ i = omega arith in
-      let x = rw (e, lt-ltb i (variable_count r) h) at (sym (start_at r i (omega arith)) ∙ sound_cell r sound (at_start + i) (omega arith)) in
+      let x = rw (lt-ltb i (variable_count r) h) at (sym (start_at r i (omega arith)) ∙ sound_cell r sound (at_start + i) (omega arith)) in
       rw (cell_of_part r (variable_count r) at_sizes i h, cell_of_part r (variable_count r) at_start i h) (ltb-true (byte r (at_start + i)) (size_of r i) x))

@@ -38,7 +38,7 @@ every-cell_sound r long all =
 
 -- The parts of a record that are passed one after the other.
 pub parts_sound : (r : List ℕ) → record_size ≤ length r → first_from (cell_ok r) 0 at_sizes ≡ at_sizes → FrontPassed r
-    → first_from (cell_ok r) (at_pattern 0) (at_action 0 - at_pattern 0) ≡ at_action 0 → first_from (cell_ok r) (at_action 0) (record_size - at_action 0) ≡ record_size → Sound r
+    → first_from (cell_ok r) (at_pattern 0) (at_action 0 - at_pattern 0) ≡ at_action 0 → first_from (cell_ok r) (at_action 0) (at_action 64 - at_action 0) ≡ at_action 64 → Sound r
 unfolding Sound record_check first_bad
 parts_sound r long head front patterns actions =
     let ok = cell_ok r in
@@ -46,5 +46,5 @@ parts_sound r long head front patterns actions =
     let b = first_on ok 0 at_goal 16 a front.goal in
     let c = first_on ok 0 at_start 16 b front.start in
     let d = first_on ok 0 (at_pattern 0) (at_action 0 - at_pattern 0) c patterns in
-    let e = first_on ok 0 (at_action 0) (record_size - at_action 0) d actions in
+    let e = first_on ok 0 (at_action 0) (at_action 64 - at_action 0) d actions in
     rw (le-ltb (length r) record_size long, e)

@@ -1,32 +1,28 @@
--- States of 16 cells of a sound record: the start is one, what the check calls good is one, outcomes lead from one to one; and the record's
--- cells say of such a state what the task says of the values of its variables. Assumes nothing.
-use Rattle.std.proofs.Common.{◌≡◌, ℕ, ◌+◌, ◌-◌, ◌<◌, ◌&&◌, eqb, ltb, List, length, get_or, take, drop, sym, refl, ◌∙◌, zero-add, arith, length-take-le, get_or-take, ltb-false, ltb-true, lt-ltb, eqb-true, Result, Ok, Err}
-use native.Mathlib.Nat.{sub-zero}
+-- States of 16 cells of a sound record: the start is one, and so is what the check calls good and nothing else; and the record's cells
+-- say of such a state what the task says of the values of its variables. Assumes nothing.
+use Rattle.std.proofs.Common.{◌≡◌, ℕ, ◌+◌, ◌<◌, eqb, ltb, List, length, get_or, take, drop, sym, refl, ◌∙◌, zero-add, arith, length-take-le, get_or-take, ltb-false, ltb-true, lt-ltb, eq-eqb, eqb-true, Result, Ok, Err}
 use Rattle.planning.specs.Task.{State, meets, apply, action_at, no_action}
 use Rattle.planning.proofs.Finite.{length-tabulate, get_or_tabulate}
 use Rattle.task_record.specs.Layout.{at_sizes, at_goal, at_start, at_precondition, at_outcome}
-use Rattle.task_record.specs.Numbers.{variable_count, action_count, size_of, outcome_count}
-use Rattle.task_record.specs.Record.{assignment_ok, value_ok, state_ok, state_cell_ok, record_check, Sound}
+use Rattle.task_record.specs.Numbers.{variable_count, action_count, size_of}
+use Rattle.task_record.specs.Record.{state_ok, record_check, Sound}
 use Rattle.task_record.specs.State.{first_bad_value, judge_state, state_check, GoodState}
 use Rattle.task_record.specs.TaskOf.{cells_at, action_of, task_of}
 use Rattle.task_record.specs.Refusals.{after}
 use Rattle.task_record.specs.declared.refusal.Refusal.{Refusal}
 use Rattle.planning.proofs.Test.{by_test}
-use Rattle.task_record.proofs.Tests.{both_left, both_right, one_of}
-use Rattle.task_record.proofs.Scanning.{first_all}
+use Rattle.task_record.proofs.Scanning.{first_all, first_none}
 use Rattle.task_record.proofs.Offsets.{start_at}
-use Rattle.task_record.proofs.Sixteens.{any_default}
-use Rattle.task_record.proofs.Cellwise.{apply-length, apply_cell_lem}
 use Rattle.task_record.proofs.Soundness.{sound_length, sound_cell}
 use Rattle.task_record.proofs.Fronts.{meets_front, apply_front}
-use Rattle.task_record.proofs.SoundTask.{Assigns, in_sizes_lem, cell_of_part, length_of_part, variables_right, sizes_length, goal_assigns, precondition_assigns, outcome_assigns, assigns_unnamed}
+use Rattle.task_record.proofs.SoundTask.{in_sizes_lem, cell_of_part, length_of_part, variables_right, sizes_length, goal_assigns, precondition_assigns, assigns_unnamed}
 
 after_good : (a j : Result Unit Refusal) → after a (λ u. j) ≡ Ok tt → (a ≡ Ok tt) × (j ≡ Ok tt)
 after_good (Ok tt) j h = (refl, h)
 after_good (Err e) j h = let z : ◌≡◌ {A = ℕ} 0 1 = cc in absurd (omega arith)
 
 judged_good : (r s : List ℕ) → judge_state r s ≡ Ok tt → GoodState r s
-unfolding judge_state first_bad_value state_cell_ok
+unfolding judge_state first_bad_value
 judged_good r s h =
     by_test (eqb (length s) 16)
     (λ t.
@@ -36,7 +32,7 @@ judged_good r s h =
     let f = ltb-false (first_bad_value r s) 16 b in
     record {
       whole = eqb-true (length s) 16 t;
-      cell = λ v l. rw (zero-add, sub-zero) at (first_all (state_cell_ok r s 0) 0 16 f v l);
+      cell = λ v l. rw zero-add at (first_all (λ v. state_ok r v (get_or s v 0)) 0 16 f v l);
     }))
     (λ t. let g = rw t at h in let z : ◌≡◌ {A = ℕ} 0 1 = cc in absurd (omega arith))
 
@@ -44,6 +40,13 @@ pub checked_good : (r s : List ℕ) → state_check r s ≡ Ok tt → Sound r ×
 unfolding Sound
 checked_good r s h =
     let a = after_good (record_check r) (judge_state r s) h in (a.0, judged_good r s a.1)
+
+-- And the other way round.
+pub good_checked : (r s : List ℕ) → Sound r → GoodState r s → state_check r s ≡ Ok tt
+unfolding Sound judge_state first_bad_value
+good_checked r s sound good =
+    let e : first_bad_value r s ≡ 16 = first_none (λ v. state_ok r v (get_or s v 0)) 0 16 (λ v l. rw zero-add (good.cell v l)) in
+    rw (sound, eq-eqb (length s) 16 good.whole, e)
 
 pub action_of_task : (r : List ℕ) (m : ℕ) → m < action_count r → action_at (task_of r) m ≡ action_of r m
 unfolding task_of
@@ -55,14 +58,11 @@ actions_of_task r = length-tabulate (action_of r) 0 (action_count r)
 
 module _ (r : List ℕ) (sound : Sound r) where
   pub start_good : GoodState r (cells_at r at_start)
-  unfolding state_cell_ok
   start_good =
       let n = sound_length r sound in
       record {
         whole = length_of_part r 16 at_start (omega arith);
-        cell = λ v l.
-            let e : at_start + v - at_start ≡ v = omega arith in
-            rw (cell_of_part r 16 at_start v l) (rw e at (sym (start_at r v l) ∙ sound_cell r sound (at_start + v) (omega arith)));
+        cell = λ v l. rw (cell_of_part r 16 at_start v l) (sym (start_at r v l) ∙ sound_cell r sound (at_start + v) (omega arith));
       }
 
   module _ (s : List ℕ) (good : GoodState r s) where
@@ -78,26 +78,6 @@ module _ (r : List ℕ) (sound : Sound r) where
         let h : i < variable_count r = omega arith in
         let x = rw (lt-ltb i (variable_count r) h) at (good.cell i (omega arith)) in
         rw (cell_of_part r (variable_count r) at_sizes i h, get_or-take (variable_count r) s i 0 h) (ltb-true (get_or s i 0) (size_of r i) x))
-
-    pub apply_good : (o : List ℕ) → Assigns r o → GoodState r (apply o s)
-    unfolding state_ok assignment_ok value_ok
-    apply_good o a =
-        let w = a.whole in
-        let g = good.whole in
-        record {
-          whole = apply-length o s ∙ good.whole;
-          cell = λ v l.
-              rw (apply_cell_lem o s v (omega arith), any_default o v 255 0 (omega arith))
-              (one_of (eqb (get_or o v 0) 255) (ltb v (variable_count r) && ltb (get_or o v 0) (size_of r v)) (a.cell v l)
-              (λ t. rw t (good.cell v l))
-              (λ t.
-              by_test (eqb (get_or o v 0) 255)
-              (λ u. rw u (good.cell v l))
-              (λ u. rw (u, both_left (ltb v (variable_count r)) (ltb (get_or o v 0) (size_of r v)) t) (both_right (ltb v (variable_count r)) _ t))));
-        }
-
-    pub outcome_good : (m k : ℕ) → m < action_count r → k < outcome_count r m → GoodState r (apply (cells_at r (at_outcome m k)) s)
-    outcome_good m k l u = apply_good (cells_at r (at_outcome m k)) (outcome_assigns r sound m k l u)
 
   -- What the cells say of any sixteen cells is what they say of the values of the variables.
   module _ (s : List ℕ) where

@@ -1,5 +1,5 @@
 -- Laws on tests (Bools) and on a byte that gathers faults. Assumes nothing.
-use Rattle.std.proofs.Common.{◌≡◌, ℕ, Bool, true, false, ◌&&◌, ◌||◌, eqb, sym, refl, arith, eq-eqb, eqb-true, ◌∙◌}
+use Rattle.std.proofs.Common.{◌≡◌, ℕ, Bool, true, false, ◌&&◌, ◌||◌, eqb, sym, refl, arith, eq-eqb, eqb-true}
 use lib.Bits.{bit_or, or_add_and, and_le_l, and_le_r}
 
 -- Two tests that imply each other are the same.
@@ -9,9 +9,8 @@ same_test true false f g = sym (f refl)
 same_test false true f g = g refl
 same_test false false f g = refl
 
--- A test that is both.
-pub no_test : (p : Bool) → p ≡ true → p ≡ false → ⊥
-no_test p h g = let e : ◌≡◌ {A = Bool} true false = sym h ∙ g in let z : ◌≡◌ {A = ℕ} 0 1 = cc in omega arith
+pub false_true : {A : Type 0} → false ≡ true → A
+false_true e = let z : ◌≡◌ {A = ℕ} 0 1 = cc in absurd (omega arith)
 
 pub both_left : (p q : Bool) → (p && q) ≡ true → p ≡ true
 both_left true q h = refl
@@ -19,7 +18,7 @@ both_left false q h = h
 
 pub both_right : (p q : Bool) → (p && q) ≡ true → q ≡ true
 both_right true q h = h
-both_right false q h = let z : ◌≡◌ {A = ℕ} 0 1 = cc in absurd (omega arith)
+both_right false q h = false_true h
 
 pub both : (p q : Bool) → p ≡ true → q ≡ true → (p && q) ≡ true
 both p q a b = rw (a, b)

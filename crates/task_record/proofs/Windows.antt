@@ -1,20 +1,12 @@
 -- The window (specs/Window.antt) of each kind of cell: a byte fits it exactly if the cell's rule allows the byte. Assumes nothing.
-use Rattle.std.proofs.Common.{◌≡◌, ℕ, ◌+◌, ◌-◌, ◌%◌, ◌<◌, ◌≤◌, Bool, true, false, cond, ◌&&◌, ◌||◌, eqb, ltb, leb, List, get_or, sym, ◌∙◌, arith, ltb-true, lt-ltb, eq-eqb, eqb-true, le-leb, leb-true}
+use Rattle.std.proofs.Common.{◌≡◌, ℕ, ◌+◌, ◌-◌, ◌%◌, ◌<◌, ◌≤◌, Bool, true, false, cond, ◌&&◌, ◌||◌, eqb, ltb, leb, List, sym, ◌∙◌, arith, ltb-true, lt-ltb, eq-eqb, eqb-true, le-leb, leb-true}
 use mathlib.Core.Bool.{or-false}
 use borrow.Author.Tests.{eqb-false}
 use Rattle.task_record.specs.Numbers.{variable_count, pattern_count, size_of}
-use Rattle.task_record.specs.Window.{fits, row_fits, Sixteen}
+use Rattle.task_record.specs.Window.{fits}
 use Rattle.task_record.specs.Record.{size_ok, value_ok, assignment_ok, state_ok, pattern_ok}
 use Rattle.planning.proofs.Test.{by_test}
 use Rattle.task_record.proofs.Tests.{same_test, both, both_left, both_right, either, one_of}
-
--- A cell of a row of blocks against the windows of the place that it has in its block.
-pub row_cell : (f g : ℕ → ℕ) (c shift top : List ℕ) (a i : ℕ) → Sixteen f shift → Sixteen g top
-    → row_fits c shift top a (a + i) ≡ fits (get_or c (a + i) 0) (f (i % 16)) (g (i % 16))
-unfolding row_fits
-row_cell f g c shift top a i s t =
-    let e : a + i - a ≡ i = omega arith in
-    rw (e, s.cell (i % 16) (omega arith), t.cell (i % 16) (omega arith))
 
 fits_same : (x shift top : ℕ) (q : Bool) → ((x + shift) % 256 ≤ top → q ≡ true) → (q ≡ true → (x + shift) % 256 ≤ top) → fits x shift top ≡ q
 unfolding fits

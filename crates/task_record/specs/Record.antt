@@ -35,10 +35,6 @@ assignment_ok r used v x = x == 255 || (used && value_ok r v x)
 unfoldable pub state_ok : List ℕ → ℕ → ℕ → Bool
 state_ok r v x = cond (nat_lt v (variable_count r)) (nat_lt x (size_of r v)) (x == 255)
 
--- The cell at offset k of a list that holds a state from offset a on.
-unfoldable pub state_cell_ok : List ℕ → List ℕ → ℕ → ℕ → Bool
-state_cell_ok r c a k = state_ok r (k - a) (byte c k)
-
 -- "byte 1 if the variable is in, else 0"; "Unused cells: .. pattern .. 0".
 unfoldable pub pattern_ok : List ℕ → ℕ → ℕ → ℕ → Bool
 pattern_ok r p v x = x == 0 || (nat_lt p (pattern_count r) && nat_lt v (variable_count r) && x == 1)
@@ -61,7 +57,7 @@ cell_ok r k =
     cond (nat_lt k at_sizes) (head_ok r k)
     (cond (nat_lt k at_goal) (size_ok r (k - at_sizes) (byte r k))
     (cond (nat_lt k at_start) (assignment_ok r true (k - at_goal) (byte r k))
-    (cond (nat_lt k (at_pattern 0)) (state_cell_ok r r at_start k)
+    (cond (nat_lt k (at_pattern 0)) (state_ok r (k - at_start) (byte r k))
     (cond (nat_lt k (at_action 0)) (pattern_ok r ((k - at_pattern 0) / 16) ((k - at_pattern 0) % 16) (byte r k))
     (action_ok r ((k - at_action 0) / action_size) ((k - at_action 0) % action_size) (byte r k))))))
 

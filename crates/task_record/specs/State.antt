@@ -2,14 +2,14 @@
 -- Assumes nothing.
 use Rattle.std.specs.Prelude.{◌≡◌, ℕ, ◌<◌, true, cond, List, length, ◌==◌, nat_lt, slice_index, Result, Ok, Err}
 use Rattle.task_record.specs.Scan.{first_from}
-use Rattle.task_record.specs.Record.{state_ok, state_cell_ok, record_check}
+use Rattle.task_record.specs.Record.{state_ok, record_check}
 use Rattle.task_record.specs.Refusals.{after}
 use Rattle.task_record.specs.declared.refusal.Refusal.{Refusal}
 use Rattle.task_record.specs.declared.refusal.Refusal.TheVariants.{WrongState}
 
 -- "a state of 16 bytes (255 beyond N)": the lowest offset of a bad cell, or 16.
 unfoldable pub first_bad_value : List ℕ → List ℕ → ℕ
-first_bad_value r s = first_from (state_cell_ok r s 0) 0 16
+first_bad_value r s = first_from (λ v. state_ok r v (slice_index s v)) 0 16
 
 -- "10: length not 16, else a bad cell. Second number: 16, else lowest offset."
 unfoldable pub judge_state : List ℕ → List ℕ → Result Unit Refusal

@@ -1,10 +1,9 @@
 // The cells of a record by name, for the layers above. Every function is total: past the end of the slice a cell is 0 and a part is empty.
-ghost use Rattle.std.specs.Prelude.{◌≡◌, ◌+◌, ◌*◌, ◌<◌, ◌≤◌, take, drop, slice_index_or};
+ghost use Rattle.std.specs.Prelude.{◌≡◌, ◌+◌, ◌*◌, ◌<◌, ◌≤◌, length, take, drop, slice_index_or};
 ghost use Rattle.task_record.specs.Layout.{at_goal, at_start, at_pattern, at_precondition, at_outcome};
 ghost use Rattle.task_record.specs.Numbers.{byte, variable_count, action_count, pattern_count, limit_of, budget_of, size_of, outcome_count};
 ghost use Rattle.task_record.specs.Cells.{state_cells};
 
-use crate::blocks::copied;
 use crate::layout::{
     AT_ACTION_COUNT, AT_BUDGET, AT_GOAL, AT_LIMIT, AT_PATTERN_COUNT, AT_SIZES, AT_START,
     AT_VARIABLES, UNNAMED, at_action, at_outcome, at_pattern, at_precondition,
@@ -107,6 +106,15 @@ pub fn outcome_cells(rec: &[u8], m: u8, k: u8) -> &[u8]
     ensures { result.now ≡ take 16 (drop (at_outcome m k) rec.now) }
 {
     part(rec, at_outcome(m, k))
+}
+
+pub(crate) fn copied(c: &[u8]) -> [u8; 16]
+    requires { length c.now ≡ 16 }
+    ensures { result ≡ c.now }
+{
+    let mut r = [0; 16];
+    r.copy_from_slice(c);
+    r
 }
 
 fn cell_or_255(c: &[u8], k: usize) -> u8

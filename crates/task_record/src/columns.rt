@@ -6,13 +6,32 @@ ghost use Rattle.task_record.specs.Layout.{action_size, at_action, at_goal, at_p
 ghost use Rattle.task_record.specs.Numbers.{size_of, variable_count, action_count, pattern_count};
 ghost use Rattle.task_record.specs.Scan.{first_from};
 ghost use Rattle.task_record.specs.Window.{fits, Sixteen};
-ghost use Rattle.task_record.specs.Record.{cell_ok};
+ghost use Rattle.task_record.specs.Record.{head_ok, cell_ok};
 ghost use Rattle.task_record.specs.Columns.{ActionColumn, MemberColumn, FrontPassed, Ramp};
 
-use crate::blocks::{faultless, misfit};
 use crate::cells::{action_count, pattern_count, variable_count};
-use crate::layout::{AT_GOAL, AT_PATTERNS, AT_START, UNNAMED, at_action};
+use crate::layout::{AT_GOAL, AT_PATTERNS, AT_SIZES, AT_START, UNNAMED, at_action};
 use crate::measured::{LongRecord, Measured};
+use crate::rules::is_head_right;
+
+// 0 where x fits the window, else what it is too high: faults can then be gathered by `|`, and the difference is one vector instruction.
+fn misfit(x: u8, shift: u8, top: u8) -> u8
+    ensures { (result == 0) ≡ fits x shift top }
+{
+    x.wrapping_add(shift).saturating_sub(top)
+}
+
+// Whether each of sixteen tests answers 0. It does not stop at a fault, so that it becomes one vector compare.
+fn faultless<F: Fn(usize) -> u8>(fault: F) -> bool
+    requires callable { (v : ℕ) → v < 16 → F.pre fault v }
+    ensures { result ≡ true → (v : ℕ) → v < 16 → F.post fault v 0 }
+{
+    let mut bad = 0u8;
+    for v in 0..16usize {
+        bad |= fault(v);
+    }
+    bad == 0
+}
 
 // A state's cell: below the size, or 255 where the size is 0.
 fn value_fault(x: u8, size: u8) -> u8
@@ -26,6 +45,13 @@ fn front_fault(used: u8, size: u8, goal: u8, start: u8) -> u8
     ensures { result ≡ 0 → (fits size (bit_and used 254) (bit_and used 14) ≡ true) × (fits goal 1 size ≡ true) × (fits start (1 - size) (size - 1) ≡ true) }
 {
     misfit(size, used & 254, used & 14) | misfit(goal, 1, size) | value_fault(start, size)
+}
+
+// The head, which is no column: its cells one by one.
+pub(crate) fn head_fits(rec: &[u8]) -> bool
+    ensures { result ≡ true → (k : ℕ) → k < at_sizes → head_ok rec.now k ≡ true }
+{
+    (0..AT_SIZES).all(|k| is_head_right(rec, k))
 }
 
 // Sixteen times 255, then 0: sixteen cells from place 16 - n on have 255 in the first n.
@@ -182,7 +208,7 @@ fn unused_fits(record: &Measured, m: u8) -> bool
 // it may not become slower.
 pub(crate) fn actions_fit(record: &Measured) -> bool
     requires { action_count record.now.rec.now ≤ 64 }
-    ensures { result ≡ true → first_from (cell_ok record.now.rec.now) (at_action 0) (record_size - at_action 0) ≡ record_size }
+    ensures { result ≡ true → first_from (cell_ok record.now.rec.now) (at_action 0) (at_action 64 - at_action 0) ≡ at_action 64 }
 {
     let used = action_count(record.rec);
     for m in 0..used {

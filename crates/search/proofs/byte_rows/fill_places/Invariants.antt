@@ -4,4 +4,4 @@ use Rattle.search.proofs.PlacesFilled.{Placing}
 use Rattle.search.proofs.byte_rows.fill_places.Given as goal
 
 abbrev pub invariant-loop-p : goal.invariant-loop-p
-invariant-loop-p l = (l.p ≤ l.patterns) × Placing l.rows l.variables l.places l.at l.p
+invariant-loop-p l = (l.p ≤ l.patterns) × Placing l.weights l.places l.at l.p

@@ -4,7 +4,7 @@ use Rattle.search.proofs.PlacesFilled.{Spanning}
 use Rattle.search.proofs.byte_rows.fill_span.Given as goal
 
 abbrev pub invariant-loop-j : goal.invariant-loop-j
-invariant-loop-j l = (l.j ≤ l.span.count) × Spanning l.column.rows.now l.column.variables l.column.p l.span.first l.span.count l.initial.sums l.sums l.span.at l.j
+invariant-loop-j l = (l.j ≤ l.span.count) × Spanning l.weights l.span.first l.span.count l.initial.sums l.sums l.span.at l.j
 
 abbrev pub decreases-loop-j : goal.decreases-loop-j
 decreases-loop-j l = l.span.count - l.j

@@ -1,5 +1,5 @@
 -- `search::byte_rows::index_by_bytes` meets its contract. Assumes nothing.
-use Rattle.std.proofs.Common.{◌∙◌, arith}
+use Rattle.std.proofs.Common.{[], get_or, ◌∙◌, arith}
 use Rattle.search.proofs.ByteSums.{span_index}
 use Rattle.search.proofs.byte_rows.index_by_bytes.Goals as goal
 
@@ -11,5 +11,5 @@ sum_blocks-requires c = let g = c.args.instance.now.guided.placed.span c.args.p 
 
 pub returns-in-Some : goal.returns-in-Some
 returns-in-Some c = let i = c.args.instance.now in let g = i.guided.placed.span c.args.p c.requires c.in-Some.span c.in-Some.is in
-    let e = span_index i.rows.now c.args.p i.guide.variables i.places.now.sums _ _ _ g c.args.s i.guided.ready.few_variables in
-    (rw c.from_bit-rest.ensures at c.sum_blocks.ensures.0 ∙ e, c.sum_blocks.ensures.1)
+    let e = span_index (get_or i.weights.now c.args.p []) i.places.now.sums _ _ _ g c.args.s in
+    (rw c.from_bit-rest.ensures at c.sum_blocks.ensures.0 ∙ e, omega (arith, c.sum_blocks.ensures.1))

@@ -5,7 +5,7 @@ use Rattle.search.proofs.Carrying.{entry_within}
 use Rattle.search.proofs.carried.rest_of.Goals as goal
 
 pub overflow_sub-result : goal.overflow_sub-result
-overflow_sub-result c = let k = entry_within _ _ _ _ _ _ _ _ c.if-p-instance.true c.requires.1 in omega (arith, k, c.entry_in.ensures.0)
+overflow_sub-result c = let k = entry_within _ _ _ _ _ _ _ c.if-p-instance.true c.requires.1 in omega (arith, k, c.entry_in.ensures.0)
 
 pub returns-then-p-instance : goal.returns-then-p-instance
 unfolding rest_of

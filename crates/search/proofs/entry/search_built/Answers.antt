@@ -1,17 +1,13 @@
 -- `search::entry::search_built` meets its contract: the search of words is the search of the task. Assumes nothing.
 use Rattle.std.proofs.Common.{length, ap, ◌∙◌, arith}
-use Rattle.patterns.proofs.Reading.{patterns_length}
-use Rattle.task_record.proofs.SoundTask.{variables_right, patterns_right}
+use Rattle.task_record.proofs.SoundTask.{patterns_right}
 use Rattle.search.specs.Answer.{answer_of, buffer_of}
-use Rattle.search.proofs.RowsFilled.{sizes_number}
-use Rattle.search.proofs.PlacesFilled.{rows_linear}
 use Rattle.search.proofs.RecordSearch.{limit_right, searched, sound_ready}
 use Rattle.search.proofs.Props.{known}
 use Rattle.search.proofs.entry.search_built.Goals as goal
 
 pub fill_places-requires : goal.fill_places-requires
-fill_places-requires c = let p = known c.args.built.now.prepared in let r = c.args.built.now.rec.now in let b = patterns_right r p.sound in let v = variables_right r p.sound in let z = c.guide_of-guide.ensures.sized in
-    (omega (arith, b, z.patterns), omega (arith, v.1, z.variables), rw (z.patterns, z.variables, ← patterns_length r, ← sizes_number r p.sound) (rows_linear _ _ _ _ c.fill_rows.ensures))
+fill_places-requires c = let p = known c.args.built.now.prepared in let b = patterns_right c.args.built.now.rec.now p.sound in omega (arith, b, c.guide_of-guide.ensures.sized.patterns)
 
 pub invariant_of-instance : goal.invariant_of-instance
 invariant_of-instance c = let p = known c.args.built.now.prepared in let r = c.args.built.now.rec.now in let z = c.guide_of-guide.ensures.sized in record {
@@ -19,7 +15,7 @@ invariant_of-instance c = let p = known c.args.built.now.prepared in let r = c.a
     ready = rw (p.words, z.actions, z.patterns, z.variables, z.spends) (sound_ready r p.sound _ p.budgeted);
     applying = rw (z.actions, z.variables) p.applying;
     placed = c.fill_places.ensures;
-    owned = c.guide_of-guide.ensures.owned _ _ c.fill_rows.ensures;
+    owned = c.guide_of-guide.ensures.owned _ _ c.fill_weights.ensures;
   };
 }
 
@@ -28,7 +24,7 @@ run_rounds-requires c = omega (arith, limit_right c.args.built.now.rec.now (know
 
 pub returns : goal.returns
 returns c = let a = c.args in let b = a.built.now in let p = known b.prepared in let r = b.rec.now in let z = c.guide_of-guide.ensures.sized in
-    let e = searched r p.sound p.small _ _ b.tables.now (rw (← c.guide_of-guide.ensures.placed) at c.fill_rows.ensures) p.holds p.words z.actions z.patterns z.variables z.spends z.limit p.started in
+    let e = searched r p.sound p.small _ _ b.tables.now (rw (← c.guide_of-guide.ensures.placed) at c.fill_weights.ensures) p.holds p.words z.actions z.patterns z.spends z.limit p.started in
     let w = c.run_rounds.ensures in record {
       answer = w.answer ∙ ap (answer_of (length a.plan.now)) e;
       buffer = w.buffer ∙ ap (buffer_of (length a.plan.now)) e;

@@ -1,10 +1,7 @@
 -- `search::estimate::index_of` meets its contract. The loop's invariant: the sum so far and what is left make the whole index. Assumes nothing.
-use Rattle.std.proofs.Common.{◌≡◌, ◌+◌, ◌-◌, ◌*◌, ◌≤◌}
-use Rattle.search.specs.Value.{packed_index}
+use Rattle.std.proofs.Common.{◌≡◌, ◌+◌, ◌*◌, ◌≤◌, drop}
+use Rattle.tables.specs.Steps.{weigh}
 use Rattle.search.proofs.estimate.index_of.Given as goal
 
-abbrev pub invariant-loop-v : goal.invariant-loop-v
-invariant-loop-v l = (packed_index l.instance.rows.now l.p 0 l.instance.guide.variables l.s ≡ l.i + packed_index l.instance.rows.now l.p l.v (l.instance.guide.variables - l.v) l.rest) × (l.v ≤ l.instance.guide.variables) × (l.i ≤ 65535 * l.v)
-
-abbrev pub decreases-loop-v : goal.decreases-loop-v
-decreases-loop-v l = l.instance.guide.variables - l.v
+abbrev pub invariant-loop-w : goal.invariant-loop-w
+invariant-loop-w l = (weigh l.weights l.s ≡ l.i + weigh (drop l.w-index l.weights) l.rest) × (l.i ≤ 983025 * l.w-index)

@@ -6,7 +6,7 @@ use Rattle.search.specs.Packed.{guided_value}
 use Rattle.search.proofs.estimate.value_of.Given as goal
 
 abbrev pub invariant-loop-p : goal.invariant-loop-p
-invariant-loop-p l = (guided_value l.instance l.s ≡ add∞ (fin l.sum) (pattern_sum l.instance.rows.now l.instance.guide.offsets l.instance.tables.now l.instance.guide.variables l.s l.p (l.instance.guide.patterns - l.p))) × (l.p ≤ l.instance.guide.patterns) × (l.sum ≤ 65535 * l.p)
+invariant-loop-p l = (guided_value l.instance l.s ≡ add∞ (fin l.sum) (pattern_sum l.instance.weights.now l.instance.guide.offsets l.instance.tables.now l.s l.p (l.instance.guide.patterns - l.p))) × (l.p ≤ l.instance.guide.patterns) × (l.sum ≤ 65535 * l.p)
 
 abbrev pub decreases-loop-p : goal.decreases-loop-p
 decreases-loop-p l = l.instance.guide.patterns - l.p

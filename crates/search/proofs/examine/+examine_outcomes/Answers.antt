@@ -3,7 +3,7 @@
 -- outcomes left makes that of the whole row (`Following`). Both keep a memory that is true. The depth falls by the action's weight from
 -- `outcomes` to `examine`. Assumes nothing.
 use Rattle.std.proofs.Common.{length, sym, refl, ap, ◌∙◌, arith, ltb-false, ltb-true}
-use Rattle.tables.specs.Packed.{action_weight}
+use Rattle.packed_task.specs.Packed.{action_weight}
 use Rattle.search.proofs.Looking.{seen_decided, seen_open}
 use Rattle.search.proofs.Examining.{examining_begins, action_known, action_asks, action_stops, action_fails, win_counted, action_wins, examining_ends, action_refused, following_begins, outcome_examinable, outcome_stops, outcome_fails, outcome_small, outcome_succeeds, following_ends}
 use Rattle.search.proofs.examine.+examine_outcomes.Goals.{outcomes-in-Some+in-Succeeded, outcomes-in-None+in-Succeeded-examine}

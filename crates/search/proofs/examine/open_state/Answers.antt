@@ -1,7 +1,7 @@
 -- `search::examine::open_state` meets its contract: the tests in the definition's order, but depth 0 before the value, where both cut. Assumes nothing.
 use Rattle.std.proofs.Common.{sym, ◌∙◌, eq-eqb, ne_eqb, le-leb}
 use borrow.Author.Tests.{lt-leb}
-use Rattle.tables.specs.Packed.{packed_system}
+use Rattle.packed_task.specs.Packed.{packed_system}
 use Rattle.planning.specs.Extended.{◌≤?◌}
 use Rattle.search.specs.Examination.{opening_of}
 use Rattle.search.specs.Packed.{guided_value}

@@ -6,5 +6,5 @@ pub returns : goal.returns
 returns c = let p = c.from.ensures ∙ c.pattern_count.ensures in let v = c.from-2.ensures ∙ c.variable_count.ensures in let a = c.from-3.ensures ∙ c.action_count.ensures in record {
   sized = record { patterns = p; variables = v; actions = a; spends = refl; limit = c.from-4.ensures ∙ c.limit.ensures };
   placed = refl;
-  owned = λ rows begins f. rw (p, v, a) (c.fill_owners.ensures rows begins f);
+  owned = λ weights begins f. rw (p, a) (c.fill_owners.ensures weights begins f);
 }

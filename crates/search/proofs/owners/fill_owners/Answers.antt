@@ -15,4 +15,4 @@ loop-p-preserved c = let b = c.args.built.now in let q = known b.prepared in let
 
 pub returns : goal.returns
 returns c = let b = c.args.built.now in let q = known b.prepared in let l = c.loop-p in
-    λ rows offsets f. rw q.words (owning_ends _ q.sound _ _ (omega (arith, c.loop-p-test.false, c.pattern_count-p-end.ensures)) l.invariant.0 rows offsets f)
+    λ weights offsets f. rw q.words (owning_ends _ q.sound _ _ (omega (arith, c.loop-p-test.false, c.pattern_count-p-end.ensures)) l.invariant.0 weights offsets f)

@@ -2,7 +2,7 @@
 use Rattle.std.proofs.Common.{◌<◌, sym, ◌∙◌, arith}
 use Rattle.task_record.specs.Numbers.{action_count}
 use Rattle.task_record.proofs.SoundTask.{actions_right}
-use Rattle.tables.proofs.SoundPacked.{compiled_outcomes_few}
+use Rattle.packed_task.proofs.SoundPacked.{compiled_outcomes_few}
 use Rattle.search.proofs.Owning.{marking_begins, marking_hit, marking_miss, marking_ends}
 use Rattle.search.proofs.Props.{known}
 use Rattle.search.proofs.owners.mark.Goals.{then-names_under, else-names_under}
@@ -12,9 +12,13 @@ pub loop-m-init : goal.loop-m-init
 loop-m-init c = (marking_begins _ _ _ _, omega arith)
 
 pub names_under-requires : goal.names_under-requires
-names_under-requires c = let b = c.args.built.now in let q = known b.prepared in let k = actions_right b.rec.now q.sound in
+names_under-requires c = let b = c.args.built.now in let q = known b.prepared in
     let t : c.loop-m.m < action_count b.rec.now = omega (arith, c.loop-m-test.true, c.from-m-end.ensures, c.action_count.ensures) in
-    (omega (arith, k, t), rw q.words (compiled_outcomes_few b.rec.now q.sound c.loop-m.m t))
+    rw q.words (compiled_outcomes_few b.rec.now q.sound c.loop-m.m t)
+
+pub invariant_of-names_under : goal.invariant_of-names_under
+invariant_of-names_under c = let b = c.args.built.now in let k = actions_right b.rec.now (known b.prepared).sound in
+    record { below = omega (arith, k, c.loop-m-test.true, c.from-m-end.ensures, c.action_count.ensures) }
 
 pub bounds-owners-m : goal.bounds-owners-m
 bounds-owners-m c = let b = c.args.built.now in let k = actions_right b.rec.now (known b.prepared).sound in

@@ -2,7 +2,7 @@
 use Rattle.std.proofs.Common.{◌-◌, ◌≤◌}
 use Rattle.task_record.specs.Layout.{at_pattern}
 use Rattle.task_record.specs.TaskOf.{cells_at}
-use Rattle.tables.specs.Packed.{pack_by, picking}
+use Rattle.packed_task.specs.Packed.{pack_by, picking}
 use Rattle.search.proofs.Owning.{Marking}
 use Rattle.search.proofs.owners.mark.Given as goal
 

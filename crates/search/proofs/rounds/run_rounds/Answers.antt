@@ -1,6 +1,6 @@
 -- `search::rounds::run_rounds` meets its contract: none, over at once, or the rounds from the value on. Assumes nothing.
 use Rattle.std.proofs.Common.{sym, ◌∙◌, arith}
-use Rattle.tables.specs.Packed.{packed_system}
+use Rattle.packed_task.specs.Packed.{packed_system}
 use Rattle.search.specs.Packed.{guided_value}
 use Rattle.search.proofs.Carrying.{finite_estimated}
 use Rattle.search.proofs.Conclusions.{ends_over, ends_none, search_none, search-over, search-rounds, value_is}

@@ -5,7 +5,7 @@ use Rattle.tables.proofs.TableChain.{Chaining}
 use Rattle.tables.proofs.record_tables.build_all.Given as goal
 
 abbrev pub invariant-loop-p : goal.invariant-loop-p
-invariant-loop-p g l = Chaining l.record l.initial.tables l.tables l.begin l.p
+invariant-loop-p l = Chaining l.record l.initial.tables l.tables l.begin l.p
 
 abbrev pub decreases-loop-p : goal.decreases-loop-p
-decreases-loop-p g l = pattern_count l.record - l.p
+decreases-loop-p l = pattern_count l.record - l.p

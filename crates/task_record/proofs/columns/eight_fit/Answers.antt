@@ -6,4 +6,4 @@ pub faultless-requires : goal.faultless-requires
 faultless-requires g c = let l = c.args.record.now.passed.long in search rules
 
 pub returns : goal.returns
-returns g c = λ h v l. let said = c.faultless.ensures.passed h v l in search rules
+returns g c = λ h v l. let said = c.faultless.ensures h v l in search rules

@@ -3,4 +3,4 @@ use Rattle.std.proofs.Common.{rules}
 use Rattle.task_record.proofs.columns.nine_fit.Goals as goal
 
 pub returns : goal.returns
-returns g c = λ h v l. let said = c.faultless.ensures.passed h v l in search rules
+returns g c = λ h v l. let said = c.faultless.ensures h v l in search rules

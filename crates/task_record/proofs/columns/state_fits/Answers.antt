@@ -3,4 +3,4 @@ use Rattle.std.proofs.Common.{rules}
 use Rattle.task_record.proofs.columns.state_fits.Goals as goal
 
 pub returns : goal.returns
-returns c = λ h v l. let said = c.faultless.ensures.passed h v l in search rules
+returns c = λ h v l. let said = c.faultless.ensures h v l in search rules

@@ -1,13 +1,13 @@
--- `judge_state`: the length, then all cells at once, then the lowest bad cell. Assumes nothing.
-use Rattle.std.proofs.Common.{◌≡◌, ℕ, List, length, sym, ◌∙◌, arith, rules, tests, le-ltb, lt-ltb, eq-eqb, ne_eqb, Result, Ok, Err}
-use Rattle.task_record.specs.Record.{state_cell_ok}
-use Rattle.task_record.specs.Scan.{scan}
-use Rattle.task_record.specs.declared.refusal.Refusal.TheVariants.{WrongState}
+-- `judge_state`: the length, then all cells at once, then one by one. Assumes nothing.
+use Rattle.std.proofs.Common.{◌≡◌, ℕ, ◌<◌, Bool, true, false, get_or, arith, rules, tests, lt-ltb, eq-eqb, ne_eqb}
+use Rattle.std.proofs.lemmas.Iterator.{first_from_Range}
+use Rattle.std.specs.Option.{MatchOption}
+use Rattle.task_record.specs.Record.{state_ok}
 use Rattle.task_record.specs.State.{judge_state, first_bad_value}
-use Rattle.task_record.proofs.Faults.{with_fault, fault_told}
-use Rattle.task_record.proofs.Scanning.{scan_found, scan_passed}
+use Rattle.task_record.proofs.Scanning.{first_found}
 use Rattle.task_record.proofs.Soundness.{sound_length, sound_sizes}
 use Rattle.task_record.proofs.ColumnLaws.{state_passes}
+use Rattle.task_record.proofs.record.judge_state.Goals.{After-find}
 use Rattle.task_record.proofs.record.judge_state.Goals as goal
 
 pub returns-then-state-ne16 : goal.returns-then-state-ne16
@@ -24,17 +24,21 @@ returns-then-state_fits c =
     let e : first_bad_value r s ≡ 16 = state_passes r (λ k. omega (arith, c.shared_slice_known-1.given k)) (sound_sizes r c.requires) s (λ k. omega (arith, c.shared_slice_known-2-1.given k)) (λ v l. rw (z.cell v l) at (c.state_fits.ensures c.if-state_fits.true v l)) in
     rw (eq-eqb _ _ c.if-state-ne16.false, e)
 
-pub invariant_of-record : goal.invariant_of-record
-invariant_of-record c =
-    let r = c.args.rec.now in
-    record { passed = record { long = sound_length r c.requires; byte = λ k. omega (arith, c.shared_slice_known-1.given k); right = sound_sizes r c.requires; read = c.sizes_of-sizes.ensures } }
+-- What the search for the lowest wrong cell found.
+found : (c : After-find) → MatchOption c.find.result (first_bad_value c.args.rec.now c.args.state.now ≡ 16) (λ v. (v < 16) × (first_bad_value c.args.rec.now c.args.state.now ≡ v))
+unfolding first_bad_value
+found c =
+    let ok : ℕ → Bool = λ v. state_ok c.args.rec.now v (get_or c.args.state.now v 0) in
+    first_found ok 16 c.find.result (first_from_Range _ _ _ _ (λ v. ok v ≡ false) (λ v. ok v ≡ true) c.find.ensures.ran (λ v q l. search (rules, tests)) (λ v q l. (search rules, search (rules, tests))))
 
--- What the search for the lowest bad cell says is what the definition asks for.
-by_scan : (r s : List ℕ) → length s ≡ 16 → (x : Result Unit ℕ) → x ≡ scan (state_cell_ok r s 0) 0 16 → with_fault WrongState x ≡ judge_state r s
-unfolding judge_state first_bad_value
-by_scan r s long (Ok u) is = rw (eq-eqb _ _ long, le-ltb _ _ (scan_passed (state_cell_ok r s 0) 0 16 (sym is)))
-by_scan r s long (Err k) is = let f = scan_found (state_cell_ok r s 0) 0 16 k (sym is) in rw (eq-eqb _ _ long, f.0, lt-ltb _ _ f.1)
+pub returns-in-Some : goal.returns-in-Some
+unfolding judge_state
+returns-in-Some c =
+    let f = rw c.in-Some.is at (found (goal.at.returns-in-Some c).After-find) in
+    rw (eq-eqb _ _ c.if-state-ne16.false, f.1, lt-ltb _ _ f.0)
 
-pub returns : goal.returns
-returns c = fault_told WrongState _ (λ k e h. search (rules, tests)) c.scan_state.result c.map_err.result c.map_err.ensures.cases
-    ∙ by_scan c.args.rec.now c.args.state.now c.if-state-ne16.false c.scan_state.result c.scan_state.ensures
+pub returns-in-None : goal.returns-in-None
+unfolding judge_state
+returns-in-None c =
+    let f = rw c.in-None.is at (found (goal.at.returns-in-None c).After-find) in
+    rw (eq-eqb _ _ c.if-state-ne16.false, f)

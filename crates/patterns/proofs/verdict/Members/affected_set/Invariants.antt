@@ -1,12 +1,8 @@
--- `affected_set`: what was gathered, and what the outcomes left affect, are the whole. Assumes nothing.
-use Prim.Native.Nat.{◌-◌}
-use Rattle.planning.specs.Finite.{some_of, tabulate}
-use Rattle.planning.specs.Pattern.{affects, affects_pattern}
-use Rattle.task_record.specs.Layout.{at_pattern, at_outcome}
-use Rattle.task_record.specs.Numbers.{pattern_count, outcome_count}
-use Rattle.task_record.specs.TaskOf.{cells_at, action_of}
-use Rattle.patterns.proofs.Gathering.{Gathering}
+-- `affected_set`: the set has the patterns with a variable passed that an outcome names. Assumes nothing.
+use Rattle.task_record.specs.Window.{Sixteen}
+use Rattle.patterns.specs.Sets.{member_set}
+use Rattle.patterns.proofs.Touched.{Seen}
 use Rattle.patterns.proofs.verdict.Members.affected_set.Given as goal
 
-abbrev pub invariant-loop-k : goal.invariant-loop-k
-invariant-loop-k l = Gathering (pattern_count l.self) (λ j. affects_pattern (action_of l.self l.m) (cells_at l.self (at_pattern j))) (λ j. some_of (affects (cells_at l.self (at_pattern j))) (tabulate (λ i. cells_at l.self (at_outcome l.m i)) l.k (outcome_count l.self l.m - l.k))) l.affected
+abbrev pub invariant-loop-v : goal.invariant-loop-v
+invariant-loop-v l = Sixteen (member_set l.self) l.set-items × Seen l.self l.m l.v l.affected

@@ -9,12 +9,21 @@ use Rattle.task_record.specs.Numbers.{pattern_count}
 use Rattle.task_record.specs.TaskOf.{task_of, patterns_of}
 use Rattle.patterns.specs.Additivity.{additivity_of}
 use Rattle.patterns.proofs.Affected.{verdict-at_start}
+use Rattle.patterns.proofs.LoneSets.{alone, few_additive}
 use Rattle.patterns.proofs.Gathering.{set_half, set_odd, set_even}
 use Rattle.patterns.proofs.Reading.{affects_at, affected_from, patterns_passed, pattern_spared, pattern_affected, actions_passed, no_pattern, one_pattern, two_patterns}
 use Rattle.patterns.proofs.verdict.Members.scan.Goals as goal
 
 pub actions-init : goal.actions-init
 actions-init c = let r = c.args.self.now in (verdict-at_start (task_of r) (patterns_of r), omega arith, rw c.self.view_is at c.action_count-actions.ensures, rw c.self.view_is at c.pattern_count-patterns.ensures, refl)
+
+pub returns-then-patterns-lt2 : goal.returns-then-patterns-lt2
+unfolding additivity_of
+returns-then-patterns-lt2 c = let e = rw c.self.view_is at c.pattern_count-patterns.ensures in rw (few_additive c.args.self.now (omega (arith, e, c.if-patterns-lt2.true))) refl
+
+pub actions-preserved-then-is_lone : goal.actions-preserved-then-is_lone
+actions-preserved-then-is_lone c = let r = c.args.self.now in let s = c.actions in
+    (s.invariant.0 ∙ alone r s.m _ (rw s.invariant.2 at c.actions-test.true) c.affected_set-left.ensures (c.is_lone.ensures c.if-is_lone.true), omega arith, s.invariant.2, s.invariant.3, s.invariant.4)
 
 pub loop-p-init : goal.loop-p-init
 loop-p-init c = (refl, omega arith, rw sub-zero c.affected_set-left.ensures, c.actions.invariant.4)

@@ -33,17 +33,17 @@ returns-in_default-action_of t c = record {
 }
 
 pub left_after-left-requires : goal.left_after-left-requires
-left_after-left-requires t c = let x = c.requires.succeeding in let o = c.in-Some-action_of.ensures in let a = acts x c.start_of-start.ensures o.0 o.1 in (omega (arith, a.within, c.args.self.now.instance.now.guided.ready.few_actions), a.light)
+left_after-left-requires t c = let x = c.requires.succeeding in let o = c.in-Some-action_of.ensures in let a = acts x c.start_of-start.ensures o.0 o.1 in a.light
 
-pub outcome_count-k-end-requires : goal.outcome_count-k-end-requires
-outcome_count-k-end-requires t c = let x = c.requires.succeeding in let o = c.in-Some-action_of.ensures in let a = acts x c.start_of-start.ensures o.0 o.1 in omega (arith, a.within, c.args.self.now.instance.now.guided.ready.few_actions)
+pub invariant_of-action : goal.invariant_of-action
+invariant_of-action t c = let x = c.requires.succeeding in let o = c.in-Some-action_of.ensures in let a = acts x c.start_of-start.ensures o.0 o.1 in record { below = omega (arith, a.within, c.args.self.now.instance.now.guided.ready.few_actions) }
 
 pub loop-k-init : goal.loop-k-init
 loop-k-init t c = let o = c.in-Some-action_of.ensures in (underway_begins c.requires c.start_of-start.ensures o.0 o.1 c.left_after-left.ensures c.outcome_count-k-end.ensures c.put.ensures refl, refl, refl, refl, refl)
 
-pub successor-x-requires : goal.successor-x-requires
-successor-x-requires t c = let x = c.requires.succeeding in let o = c.in-Some-action_of.ensures in let a = acts x c.start_of-start.ensures o.0 o.1 in let n = c.args.self.now.instance.now.guided.ready.few_outcomes _ a.within in
-    (omega (arith, a.within, c.args.self.now.instance.now.guided.ready.few_actions), omega (arith, n, c.loop-k-test.true, c.outcome_count-k-end.ensures))
+pub invariant_of-successor : goal.invariant_of-successor
+invariant_of-successor t c = let x = c.requires.succeeding in let o = c.in-Some-action_of.ensures in let a = acts x c.start_of-start.ensures o.0 o.1 in let n = c.args.self.now.instance.now.guided.ready.few_outcomes _ a.within in
+    record { below = omega (arith, n, c.loop-k-test.true, c.outcome_count-k-end.ensures) }
 
 pub write_plan-end-requires : goal.write_plan-end-requires
 write_plan-end-requires t c = let x = c.requires.succeeding in let o = c.in-Some-action_of.ensures in let a = acts x c.start_of-start.ensures o.0 o.1 in let f = c.left_after-left.ensures in

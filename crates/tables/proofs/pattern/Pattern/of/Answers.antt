@@ -7,8 +7,7 @@ use Rattle.task_record.specs.Record.{Sound}
 use Rattle.task_record.specs.TaskOf.{cells_at}
 use Rattle.task_record.proofs.Cellwise.{state_cells_whole}
 use Rattle.patterns.proofs.Sizes.{pattern_whole}
-use Rattle.tables.specs.Packed.{digit_by}
-use Rattle.tables.proofs.SoundPacked.{sound_readable}
+use Rattle.packed_task.proofs.SoundPacked.{sound_readable}
 use Rattle.tables.proofs.Ready.{sound_ready, sound_pattern}
 use Rattle.tables.proofs.pattern.Pattern.of.Goals as goal
 use Rattle.tables.proofs.pattern.Pattern.of.Goals.{After-state_of-picked}
@@ -27,9 +26,8 @@ pub lively-requires : goal.lively-requires
 lively-requires c = let w = (goal.at.lively-requires c).After-state_of-picked in rw (c.requires.task_is, actions-known w) (sound_readable c.args.record.now (sound w))
 
 pub invariant_of-result : goal.invariant_of-result
-unfolding digit_by
 invariant_of-result c = let w = (goal.at.invariant_of-result c).After-state_of-picked in
-    sound_ready (sound w) c.requires (actions-known w) (c.from.ensures ∙ rw c.record.view_is at c.variable_count.ensures) (picked-known w) c.pack-mask.ensures c.lively.ensures
+    sound_ready (sound w) c.requires (actions-known w) (c.from.ensures ∙ rw c.record.view_is at c.variable_count.ensures) (picked-known w) c.mask_of_cells-mask.ensures c.lively.ensures
 
 pub returns : goal.returns
 returns c = let w = (goal.at.returns c).After-state_of-picked in

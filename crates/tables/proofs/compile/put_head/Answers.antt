@@ -1,5 +1,0 @@
--- `tables::compile::put_head` meets its contract. Assumes nothing.
-use Rattle.tables.proofs.compile.put_head.Goals as goal
-
-pub returns : goal.returns
-returns c = rw (c.named_digits.ensures, c.words_of-words.ensures.1)

@@ -1,8 +1,0 @@
--- `way_back`: the change of the index. Assumes nothing.
-use Rattle.std.proofs.Common.{refl}
-use Rattle.tables.specs.Made.{back_of}
-use Rattle.tables.proofs.proved_worklist.edges.way_back.Goals as goal
-
-pub returns : goal.returns
-unfolding back_of
-returns c = refl

@@ -1,7 +1,0 @@
--- `tables::proved_worklist::incoming::enter_edges` meets its contract. The loop's invariant: edges below q are entered. Assumes nothing.
-use Rattle.tables.specs.Incoming.{edge_need}
-use Rattle.tables.proofs.SetsFilled.{Slotting}
-use Rattle.tables.proofs.proved_worklist.incoming.enter_edges.Given as goal
-
-abbrev pub invariant-loop-q : goal.invariant-loop-q
-invariant-loop-q l = Slotting (edge_need l.edges l.first) 16 l.slots l.q

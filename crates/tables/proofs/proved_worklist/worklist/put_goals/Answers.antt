@@ -1,1 +1,0 @@
--- `tables::proved_worklist::worklist::put_goals` meets its contract. Assumes nothing.
