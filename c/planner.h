@@ -85,7 +85,7 @@ extern "C" {
  *  7      a pattern has more than 4096 states                       the lowest such pattern
  *  8      the tables are too short                                  the entries needed
  * 18      the row is shorter than 4097 counts                       row_length
- *  9      the patterns are not additive                             the lowest move that touches two of them
+ *  9      the patterns are not additive (see planner_additive)      the lowest move that touches two of them
  * 10      the state's length is not 16                              16
  * 10      a cell of the state is outside its rule                   its offset in the state, the lowest
  * 11      the plan found is longer than the buffer                  the bytes needed
@@ -145,6 +145,9 @@ struct planner_answer planner_spread(const uint8_t *record, size_t record_length
                                      uint32_t *row, size_t row_length);
 
 /* Whether the record's patterns are additive: no move touches two of them. Refusals 5 and 6.
+ *
+ * A move touches a pattern if one of its outcomes gives a value to one of the pattern's variables. The value that the move's own need
+ * demands of that variable does not count, since the variable has it then; any other value does, also one that the variable may have.
  *
  * If they are: number 0, kind 0. If not: number 0, kind 1, first the lowest move that touches two, second and third the lowest two. */
 struct planner_answer planner_additive(const uint8_t *record, size_t record_length);

@@ -205,6 +205,52 @@ static void test_values(void) {
     expect_refusal("9 goes before 10", planner_value(both, PLANNER_RECORD_SIZE, NULL, 0, tables, 6), 9, 3);
 }
 
+/* -- Values that are restated --------------------------------------------------------------------------------------------------------- */
+
+/* The sample with this need and these outcomes of move 1, which carries the pallet from the lift to bay or edge. */
+static uint8_t *with_move_1(const char *lines) {
+    return record_of(changed("need=0:1\noutcomes=2\neff=0:2\neff=0:3", lines));
+}
+
+/* What a move writes down of its own need does not touch: the answers are those of the sample. */
+static void expect_restated(const char *what, const char *lines) {
+    static const uint16_t built[] = {3, 2, 0, 1, 1, 0};
+    uint8_t *record = with_move_1(lines);
+    uint16_t *tables = block(sizeof built, AROUND);
+    uint8_t *plan = block(9, AROUND);
+    expect(what, planner_additive(record, PLANNER_RECORD_SIZE), 0, 0, 0, 0, 0);
+    expect(what, planner_search(record, PLANNER_RECORD_SIZE, tables, 6, plan, 9), 0, 0, 4, 7, 7);
+    expect_true("the plan with a restated value", !memcmp(plan, sample_plan, 7) && all_bytes(plan + 7, 2, PLANNER_NO_BYTE));
+    expect_true("the tables with a restated value", !memcmp(tables, built, sizeof built));
+    expect(what, planner_value(record, PLANNER_RECORD_SIZE, state_of(0, 0), 16, tables, 6), 0, 0, 4, 0, 0);
+    expect(what, planner_check_plan(record, PLANNER_RECORD_SIZE, state_of(0, 0), 16, plan, 7), 0, 0, 4, 7, 0);
+}
+
+/* Any other value does, so move 1 touches patterns 0 and 1. */
+static void expect_conflict_at_1(const char *what, const char *lines) {
+    uint8_t *record = with_move_1(lines);
+    uint16_t *tables = block(6 * sizeof *tables, AROUND);
+    uint8_t *plan = block(9, AROUND);
+    expect(what, planner_additive(record, PLANNER_RECORD_SIZE), 0, 1, 1, 0, 1);
+    expect_refusal(what, planner_search(record, PLANNER_RECORD_SIZE, tables, 6, plan, 9), 9, 1);
+    expect_refusal(what, planner_value(record, PLANNER_RECORD_SIZE, state_of(0, 0), 16, tables, 6), 9, 1);
+    expect_true("a refused search writes nothing", all_bytes(plan, 9, AROUND) && all_bytes((uint8_t *)tables, 12, AROUND));
+}
+
+static void test_restated(void) {
+    expect_restated("a restated value", "need=0:1,1:0\noutcomes=2\neff=0:2,1:0\neff=0:3");
+    expect_restated("a value restated twice", "need=0:1,1:0\noutcomes=2\neff=0:2,1:0\neff=0:3,1:0");
+    expect_conflict_at_1("another value", "need=0:1,1:0\noutcomes=2\neff=0:2,1:1\neff=0:3");
+    expect_conflict_at_1("a restated value, then another", "need=0:1,1:0\noutcomes=2\neff=0:2,1:0\neff=0:3,1:1");
+    expect_conflict_at_1("another value, then a restated one", "need=0:1,1:0\noutcomes=2\neff=0:2,1:1\neff=0:3,1:0");
+    expect_conflict_at_1("the need of another move", "need=0:1\noutcomes=2\neff=0:2,1:0\neff=0:3");
+    /* Move 1 restates, move 3 does not. */
+    uint8_t *later = record_of(
+        changed("need=0:1\noutcomes=2\neff=0:2\neff=0:3\nneed=0:3\noutcomes=1\neff=0:2\nneed=1:0\noutcomes=1\neff=1:1",
+                "need=0:1,1:0\noutcomes=2\neff=0:2,1:0\neff=0:3\nneed=0:3\noutcomes=1\neff=0:2\nneed=1:0\noutcomes=1\neff=0:2,1:1"));
+    expect("the lowest move that touches two", planner_additive(later, PLANNER_RECORD_SIZE), 0, 1, 3, 0, 1);
+}
+
 /* A record of `variables` variables of `size` with one pattern of them all. */
 static uint8_t *wide_record(int variables, int size) {
     static char text[1024], all[64], start[64];
@@ -393,31 +439,47 @@ static uint32_t draw(uint32_t below) {
     return (uint32_t)((seed * 2685821657736338717u) >> 33) % below;
 }
 
-/* Names some variables with a value; at random, all of it ascending. */
-static char *draw_pairs(char *at, const int *sizes, int variables, uint32_t one_in) {
+/* Names some variables with a value, at random; the others have -1. */
+static void draw_cells(int *cells, const int *sizes, int variables, uint32_t one_in) {
+    for (int v = 0; v < variables; v++) cells[v] = draw(one_in) ? -1 : (int)draw((uint32_t)sizes[v]);
+}
+
+static char *write_pairs(char *at, const char *key, const int *cells, int variables) {
     int named = 0;
+    at += sprintf(at, "%s=", key);
     for (int v = 0; v < variables; v++)
-        if (!draw(one_in)) at += sprintf(at, "%s%d:%u", named++ ? "," : "", v, draw((uint32_t)sizes[v]));
+        if (cells[v] >= 0) at += sprintf(at, "%s%d:%d", named++ ? "," : "", v, cells[v]);
     return at + sprintf(at, "\n");
+}
+
+/* A move whose outcomes change one variable, or any; every third outcome restates what the need demands of the others. */
+static char *write_move(char *at, const int *sizes, int variables) {
+    int needs[6], cells[6], only = draw(8) ? (int)draw((uint32_t)variables) : -1, outcomes = 1 + (int)draw(3);
+    draw_cells(needs, sizes, variables, 3);
+    at = write_pairs(at, "need", needs, variables);
+    at += sprintf(at, "outcomes=%d\n", outcomes);
+    for (int k = 0; k < outcomes; k++) {
+        draw_cells(cells, sizes, variables, only < 0 ? 3 : 1);
+        int restates = !draw(3);
+        for (int v = 0; v < variables; v++) {
+            if (only >= 0 && v != only) cells[v] = -1;
+            if (restates && cells[v] < 0) cells[v] = needs[v];
+        }
+        at = write_pairs(at, "eff", cells, variables);
+    }
+    return at;
 }
 
 /* A tower with each variable in a pattern of its own, where moves name few variables. */
 static const char *random_text(void) {
     static char text[16384];
-    int sizes[6], variables = 1 + (int)draw(6), moves = (int)draw(12);
+    int sizes[6], goal[6], variables = 1 + (int)draw(6), moves = (int)draw(12);
     char *at = text + sprintf(text, "vars=%d\n", variables);
     for (int v = 0; v < variables; v++) at += sprintf(at, "size=%d\n", sizes[v] = 2 + (int)draw(3));
     at += sprintf(at, "moves=%d\n", moves);
-    for (int m = 0; m < moves; m++) {
-        int only = draw(8) ? (int)draw((uint32_t)variables) : -1, outcomes = 1 + (int)draw(3);
-        at = draw_pairs(at + sprintf(at, "need="), sizes, variables, 3);
-        at += sprintf(at, "outcomes=%d\n", outcomes);
-        for (int k = 0; k < outcomes; k++) {
-            if (only < 0) at = draw_pairs(at + sprintf(at, "eff="), sizes, variables, 3);
-            else at += sprintf(at, "eff=%d:%u\n", only, draw((uint32_t)sizes[only]));
-        }
-    }
-    at = draw_pairs(at + sprintf(at, "goal="), sizes, variables, 2);
+    for (int m = 0; m < moves; m++) at = write_move(at, sizes, variables);
+    draw_cells(goal, sizes, variables, 2);
+    at = write_pairs(at, "goal", goal, variables);
     at += sprintf(at, "start=");
     for (int v = 0; v < variables; v++) at += sprintf(at, "%s%u", v ? "," : "", draw((uint32_t)sizes[v]));
     at += sprintf(at, "\npatterns=%d\n", variables);
@@ -485,6 +547,7 @@ static void *test_all(void *towers) {
     test_null();
     test_tables();
     test_values();
+    test_restated();
     test_wide_patterns();
     test_spreads();
     test_refused_spreads();

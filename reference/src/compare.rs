@@ -3,8 +3,10 @@
 
 pub mod cases;
 pub mod fixed;
+pub mod restated;
 pub mod spreads;
 pub mod sums;
+pub mod verdicts;
 
 use std::collections::BTreeMap;
 use std::fmt;
@@ -14,6 +16,7 @@ use crate::brute::Brute;
 use crate::brute::task::Task;
 use crate::demand;
 use crate::planner::Planner;
+use verdicts::Verdicts;
 
 /// The nine entries.
 #[derive(Clone, Copy, Debug, PartialEq, Eq, PartialOrd, Ord)]
@@ -216,8 +219,11 @@ fn difference(call: &Call, expected: &Made, got: &Made) -> String {
 pub struct Tally {
     /// By entry, refusal number and kind.
     pub answers: BTreeMap<(Entry, u64, u64), u64>,
-    /// Tasks on which demand 3 was tried, their states, and those found.
+    pub verdicts: Verdicts,
+    /// Tasks on which demand 3 was tried, those of them that are additive only
+    /// since restated values do not count, their states, and those found.
     pub tasks: u64,
+    pub by_the_rule: u64,
     pub states: u64,
     pub found: u64,
 }
@@ -244,8 +250,13 @@ impl fmt::Display for Tally {
             }
             writeln!(out)?;
         }
-        let Self { tasks, states, found, .. } = self;
-        writeln!(out, "demand 3: {tasks} tasks, {states} states, {found} plans found")
+        let Self { verdicts, tasks, by_the_rule, states, found, .. } = self;
+        writeln!(out, "{verdicts}")?;
+        writeln!(
+            out,
+            "demand 3: {tasks} tasks, {by_the_rule} of them by the rule on restated values, \
+            {states} states, {found} plans found"
+        )
     }
 }
 
@@ -274,6 +285,7 @@ impl<'a> Run<'a> {
         let Answer { number, kind, .. } = got.answer;
         let times = self.tally.answers.entry((call.entry, number, kind));
         *times.or_default() += 1;
+        self.tally.verdicts.add(call, &got);
         Ok(())
     }
 
@@ -282,6 +294,7 @@ impl<'a> Run<'a> {
         let tried = tried.map_err(|breach| format!("demand 3: {breach}\nof {task:?}\n"))?;
         if let Some(tried) = tried {
             self.tally.tasks += 1;
+            self.tally.by_the_rule += u64::from(verdicts::additive_by_the_rule(task));
             self.tally.states += tried.states as u64;
             self.tally.found += u64::from(tried.found);
         }

@@ -4,6 +4,7 @@
 pub mod damage;
 pub mod plans;
 pub mod random;
+pub mod restating;
 pub mod rows;
 pub mod tasks;
 pub mod text;

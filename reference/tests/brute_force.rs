@@ -92,7 +92,7 @@ fn two_methods_give_the_same_costs() {
 #[test]
 fn costs_are_those_of_the_cheapest_strong_plans() {
     let mut tried = 0;
-    for case in 0..500 {
+    for case in 0..700 {
         let task = tasks::small(&mut Random::of_case(SEED, case));
         let costs = costs::costs(&task);
         for (s, state) in task.all_states().iter().enumerate().step_by(3) {

@@ -5,12 +5,15 @@ mod common;
 
 use std::collections::BTreeSet;
 
+use common::restating_faults::RestatingFault;
 use common::spread_faults::SpreadFault;
 use reference::answer::Answer;
 use reference::brute::plan::ARRIVED;
 use reference::brute::task::Task;
 use reference::brute::{Brute, record};
-use reference::compare::{Call, Difference, Entry, Made, Run, Tally, cases, fixed, spreads, sums};
+use reference::compare::{
+    Call, Difference, Entry, Made, Run, Tally, cases, fixed, restated, spreads, sums,
+};
 use reference::planner::Planner;
 
 const SEED: u64 = 5;
@@ -31,6 +34,12 @@ fn the_reference_agrees_with_itself() {
     let searches = tally.answers.keys().filter(|key| key.0 == Entry::Search);
     let endings: BTreeSet<u64> = searches.map(|key| key.2).collect();
     assert_eq!(endings, (0..=3).collect());
+    // The rule on restated values decides verdicts of either kind.
+    let verdicts = &tally.verdicts;
+    assert!(6 * verdicts.by_the_rule > verdicts.additive, "{verdicts}");
+    assert!(4 * verdicts.conflicts > verdicts.additive, "{verdicts}");
+    assert!(5 * verdicts.elsewhere > verdicts.conflicts, "{verdicts}");
+    assert!(6 * tally.by_the_rule > tally.tasks, "{tally}");
 }
 
 #[test]
@@ -81,6 +90,7 @@ enum Faulty {
     SaysAdditive,
     CapsTheValue,
     Spreads(SpreadFault),
+    Restates(RestatingFault),
 }
 
 /// The record of the task after a change.
@@ -137,6 +147,9 @@ impl Planner for Faulty {
     }
 
     fn additive(&self, record: &[u8]) -> Answer {
+        if let Faulty::Restates(fault) = self {
+            return fault.additive(record);
+        }
         let answer = Brute.additive(record);
         if matches!(self, Faulty::SaysAdditive) && answer.number == 0 {
             Answer::default()
@@ -147,6 +160,9 @@ impl Planner for Faulty {
 
     fn value(&self, record: &[u8], state: &[u8], tables: &[u16]) -> Answer {
         let answer = Brute.value(record, state, tables);
+        if let Faulty::Restates(fault) = self {
+            return fault.value(record, answer);
+        }
         let first = if matches!(self, Faulty::CapsTheValue) {
             answer.first.min(65_534)
         } else {
@@ -156,6 +172,9 @@ impl Planner for Faulty {
     }
 
     fn search(&self, record: &[u8], tables: &mut [u16], plan: &mut [u8]) -> Answer {
+        if let Faulty::Restates(fault) = self {
+            return fault.search(record, Brute.search(record, tables, plan));
+        }
         let start = record::decode(record).map(|task| {
             let state = reference::brute::state::encode(&task.start);
             let mut built = vec![0; 40_000];
@@ -218,6 +237,16 @@ fn faulty_spreads_are_noticed() {
     for fault in SpreadFault::ALL {
         assert!(run(&Faulty::Spreads(fault), 100).is_err(), "{fault:?} passes");
         assert!(differs_near_the_sample(fault), "{fault:?} passes the fixed calls");
+    }
+}
+
+#[test]
+fn faulty_owner_rules_are_noticed() {
+    for fault in RestatingFault::ALL {
+        let make = Faulty::Restates(fault);
+        assert!(run(&make, 200).is_err(), "{fault:?} passes");
+        let differs = |call: Call| call.made(&make) != call.made(&Brute);
+        assert!(restated::near_the_sample().any(differs), "{fault:?} passes the fixed calls");
     }
 }
 

@@ -1,17 +1,17 @@
 -- Tests and changes of packed words within a pattern's mask are those of the task's abstraction. Assumes nothing.
-use Rattle.std.proofs.Common.{◌≡◌, ℕ, ◌<◌, Bool, true, false, cond, not, ◌&&◌, ◌||◌, T, eqb, ltb, List, [], ◌∷◌, length, get_or, sym, refl, ◌∙◌, arith}
+use Rattle.std.proofs.Common.{◌≡◌, ℕ, ◌<◌, Bool, true, false, cond, not, ◌&&◌, ◌||◌, T, eqb, ltb, List, [], ◌∷◌, length, get_or, sym, refl, ap, ◌∙◌, arith}
 use lib.Bits.{bit_and, and_block}
 use Rattle.planning.specs.Task.{Action, Task, meets, apply, permits, action_at, system, State}
-use Rattle.planning.specs.Pattern.{keep, mask, mask_action, abstraction, AbstractState, affects}
+use Rattle.planning.specs.Pattern.{keep, mask, mask_action, abstraction, AbstractState, counted, affects}
 use Rattle.planning.proofs.Test.{and_in, and_l, and_r, by_test}
 use Rattle.planning.proofs.Finite.{all_at}
-use Rattle.planning.proofs.Pattern.{project-apply, action_masked, unaffected_outcome}
+use Rattle.planning.proofs.Pattern.{project-apply, action_masked, unaffected_outcome, masked_leads}
 use Rattle.packed_task.specs.Packed.{pack_by, picking, low, naming, leaving, setting, keep_mask, compiled}
 use Rattle.packed_task.specs.Packable.{all_cells_fit, PackableOutcome, Packable}
 use Rattle.packed_task.specs.Within.{is_goal, permitted, after}
 use Rattle.packed_task.proofs.Packing.{mask_test, mask_change, pack-keep, low_digit, naming-digit, setting-digit, leaving-digit}
 use Rattle.packed_task.proofs.Compiled.{goal_mask_is, goal_value_is, pre_mask_is, pre_value_is, keep_mask_is, set_value_is}
-use Rattle.packed_task.proofs.Simulating.{packable_action}
+use Rattle.packed_task.proofs.Simulating.{packable_action, counted_packable}
 
 -- A masked assignment names values below the sizes.
 mask-cell-fits : (b : Bool) (y z : ℕ) → T (eqb y 255 || ltb y z) → T (eqb (cond b y 255) 255 || ltb (cond b y 255) z)
@@ -76,23 +76,35 @@ module _ (t : Task) (k : Packable t) (p : List ℕ) (q : Action → ℕ) where
     permitted_is s o = rw (pre_mask_is t k.actions_few m l, pre_value_is t k.actions_few m l, action_masked p q t m l) (masked_test (action_at t m).precondition s (packable_action t k m l).precondition_fits o)
 
     module _ (i : ℕ) (b : i < length (action_at t m).outcomes) where
-      outcome_packable : PackableOutcome t.sizes (get_or (action_at t m).outcomes i [])
-      outcome_packable = all_at (PackableOutcome t.sizes) (action_at t m).outcomes [] (packable_action t k m l).outcomes_fit i b
+      -- What counts of the outcome.
+      abbrev pub counted_outcome : List ℕ
+      counted_outcome = counted (action_at t m).precondition (get_or (action_at t m).outcomes i [])
 
-      pub after_is : (s : List ℕ) → AbstractState t p s → after (compiled t) (pack_by picking p) m i (pack_by low s) ≡ pack_by low (apply (mask p (get_or (action_at t m).outcomes i [])) s)
+      outcome_packable : PackableOutcome t.sizes counted_outcome
+      outcome_packable = counted_packable t.sizes (action_at t m).precondition _ (all_at (PackableOutcome t.sizes) (action_at t m).outcomes [] (packable_action t k m l).outcomes_fit i b)
+
+      pub after_is : (s : List ℕ) → AbstractState t p s → after (compiled t) (pack_by picking p) m i (pack_by low s) ≡ pack_by low (apply (mask p counted_outcome) s)
       unfolding after
       after_is s o = rw (
         keep_mask_is t k.actions_few m l (packable_action t k m l).outcomes_few i b,
         set_value_is t k.actions_few m l (packable_action t k m l).outcomes_few i b,
-        mask_change t.sizes (get_or (action_at t m).outcomes i []) s k.values_few outcome_packable.cells_fit outcome_packable.whole o.0,
-        pack-keep low low_digit 0 refl p (apply (get_or (action_at t m).outcomes i []) s),
-        project-apply p (get_or (action_at t m).outcomes i []) s,
+        mask_change t.sizes counted_outcome s k.values_few outcome_packable.cells_fit outcome_packable.whole o.0,
+        pack-keep low low_digit 0 refl p (apply counted_outcome s),
+        project-apply p counted_outcome s,
         o.1,
       )
 
-      -- An outcome that keeps the digits of the pattern leaves abstract states as they are.
-      pub idle_outcome : (s : List ℕ) → AbstractState t p s → bit_and (keep_mask (compiled t) m i) (pack_by picking p) ≡ pack_by picking p → apply (mask p (get_or (action_at t m).outcomes i [])) s ≡ s
-      idle_outcome s o e = let a = get_or (action_at t m).outcomes i [] in
+      -- In an abstract state that permits the action this is the state after the outcome.
+      outcome_leads : (s : List ℕ) → T ((system (abstraction p q t)).enabled m s) → apply (mask p counted_outcome) s ≡ apply (mask p (get_or (action_at t m).outcomes i [])) s
+      unfolding system permits mask_action
+      outcome_leads s a = masked_leads p (action_at t m) (get_or (action_at t m).outcomes i []) s (rw (action_masked p q t m l) at a)
+
+      pub after_permitted : (s : List ℕ) → AbstractState t p s → T ((system (abstraction p q t)).enabled m s) → after (compiled t) (pack_by picking p) m i (pack_by low s) ≡ pack_by low (apply (mask p (get_or (action_at t m).outcomes i [])) s)
+      after_permitted s o a = after_is s o ∙ ap (pack_by low) (outcome_leads s a)
+
+      -- An outcome that keeps the digits of the pattern leaves the abstract states as they are that permit the action.
+      pub idle_outcome : (s : List ℕ) → AbstractState t p s → T ((system (abstraction p q t)).enabled m s) → bit_and (keep_mask (compiled t) m i) (pack_by picking p) ≡ pack_by picking p → apply (mask p (get_or (action_at t m).outcomes i [])) s ≡ s
+      idle_outcome s o v e = let a = counted_outcome in
           let h : bit_and (pack_by leaving a) (pack_by picking p) ≡ pack_by picking p = rw (keep_mask_is t k.actions_few m l (packable_action t k m l).outcomes_few i b) at e in
           let n : T (not (affects p a)) = rw (kept_unaffected p a h) tt in
-          (let f = unaffected_outcome p a s n in let g = project-apply p a s in rw o.1 at (sym g ∙ f))
+          (let f = unaffected_outcome p a s n in let g = project-apply p a s in sym (outcome_leads s v) ∙ rw o.1 at (sym g ∙ f))

@@ -2,17 +2,19 @@
 use Rattle.std.proofs.Common.{◌≡◌, ℕ, zero, suc, ◌+◌, ◌*◌, ◌/◌, ◌%◌, ◌^◌, ◌<◌, ◌≤◌, Bool, true, false, cond, ◌&&◌, ◌||◌, T, eqb, ltb, leb, List, [], ◌∷◌, length, sym, refl, ap, ◌∙◌, ap₂, mod-eq_of_lt, pow-suc, arith, leb→le, eq-eqb, eqb-true}
 use mathlib.Core.Bool.{and-true, and_assoc, or-true, or-false}
 use lib.Bits.{bit_and, and_block, and_mask, and_zero_r}
+use Rattle.planning.specs.Sets.{set_from}
 use Rattle.planning.specs.Task.{Task, action_at}
 use Rattle.planning.specs.Pattern.{mask}
+use Rattle.planning.proofs.Sets.{set_same, set_meet}
 use Rattle.planning.proofs.Test.{bool_iff, by_test, T_true, and_r, not_equal}
-use Rattle.packed_task.specs.Packed.{pack_by, naming, setting, pre_mask, pre_value, packed_system, compiled}
+use Rattle.packed_task.specs.Packed.{pack_by, naming, setting, pre_mask, pre_value, need_met, compiled}
 use Rattle.packed_task.specs.Packable.{all_cells_fit, Packable}
 use Rattle.packed_task.specs.Within.{permitted}
-use Rattle.packed_task.specs.Sets.{set_from, lowest_need, need_at, action_need, suits, byte_suits, SetsOf, spread, meet_from}
+use Rattle.packed_task.specs.Sets.{lowest_need, need_at, action_need, suits, byte_suits, SetsOf, met_bytes, meet_from}
 use Rattle.packed_task.proofs.Packing.{digits_equal, beyond_naming}
 use Rattle.packed_task.proofs.Compiled.{pre_mask_is, pre_value_is}
 use Rattle.packed_task.proofs.Simulating.{packable_action}
-use Rattle.packed_task.proofs.SetWords.{set_same, set_meet, set_whole}
+use Rattle.packed_task.proofs.SetWords.{set_whole}
 
 -- A precondition as two words whose digits are whole: 15 where it names a variable, and 0 in both words where it does not.
 pub data Whole : ℕ → ℕ → ℕ → Type 0 where
@@ -80,16 +82,16 @@ module _ (task : List ℕ) (mask actions bytes : ℕ) (sets : List ℕ) (few : a
 pub record Parted (task : List ℕ) (mask actions n : ℕ) : Type 0 where
   pub whole : (m : ℕ) → m < actions → Whole n (bit_and (pre_mask task m) mask) (bit_and (pre_value task m) mask)
 
-spread_some : (bytes : ℕ) → (n : ℕ) × (spread bytes ≡ suc n)
-unfolding spread
-spread_some bytes = by_test (leb bytes 2) (λ e. rw e (1, refl)) (λ e. rw e (by_test (leb bytes 4) (λ g. rw g (3, refl)) (λ g. rw g (7, refl))))
+met_bytes_some : (bytes : ℕ) → (n : ℕ) × (met_bytes bytes ≡ suc n)
+unfolding met_bytes
+met_bytes_some bytes = by_test (leb bytes 2) (λ e. rw e (1, refl)) (λ e. rw e (by_test (leb bytes 4) (λ g. rw g (3, refl)) (λ g. rw g (7, refl))))
 
 -- The actions that apply within the mask.
-pub applying-permitted : (task : List ℕ) (mask actions bytes : ℕ) (sets : List ℕ) → actions ≤ 64 → SetsOf task mask actions (spread bytes) sets → Parted task mask actions (2 * spread bytes) →
-    (s : ℕ) → meet_from sets 0 (spread bytes) s ≡ set_from (λ m. permitted task mask m s) 0 actions
+pub applying-permitted : (task : List ℕ) (mask actions bytes : ℕ) (sets : List ℕ) → actions ≤ 64 → SetsOf task mask actions (met_bytes bytes) sets → Parted task mask actions (2 * met_bytes bytes) →
+    (s : ℕ) → meet_from sets 0 (met_bytes bytes) s ≡ set_from (λ m. permitted task mask m s) 0 actions
 unfolding permitted
-applying-permitted task mask actions bytes sets few f w s = let k = spread_some bytes in
-    rw k.1 (sets_meet task mask actions (spread bytes) sets few f k.0 s (omega (arith, k.1)) ∙ set_same _ _ 0 actions (λ j h l. rw k.1 at (sym (whole_suits (w.whole j (omega arith)) s))))
+applying-permitted task mask actions bytes sets few f w s = let k = met_bytes_some bytes in
+    rw k.1 (sets_meet task mask actions (met_bytes bytes) sets few f k.0 s (omega (arith, k.1)) ∙ set_same _ _ 0 actions (λ j h l. rw k.1 at (sym (whole_suits (w.whole j (omega arith)) s))))
 
 -- Nothing is needed of digits that both words lack.
 whole_zero : (n : ℕ) → Whole n 0 0
@@ -126,15 +128,15 @@ module _ (t : Task) (k : Packable t) (n : ℕ) (wide : length t.sizes ≤ n) whe
   compiled_parted = record { whole = λ m l. rw (pre_mask_is t k.actions_few m l, pre_value_is t k.actions_few m l) (all_digits (action_at t m).precondition (packable_action t k m l).precondition_fits) }
 
   -- Every digit counts: the actions that are enabled.
-  pub applying_enabled : (bytes : ℕ) (sets : List ℕ) → n ≡ 2 * spread bytes → SetsOf (compiled t) 18446744073709551615 (length t.actions) (spread bytes) sets →
-      (s : ℕ) → meet_from sets 0 (spread bytes) s ≡ set_from (λ m. (packed_system (compiled t) (length t.actions)).enabled m s) 0 (length t.actions)
-  unfolding packed_system permitted
+  pub applying_enabled : (bytes : ℕ) (sets : List ℕ) → n ≡ 2 * met_bytes bytes → SetsOf (compiled t) 18446744073709551615 (length t.actions) (met_bytes bytes) sets →
+      (s : ℕ) → meet_from sets 0 (met_bytes bytes) s ≡ set_from (λ m. need_met (compiled t) m s) 0 (length t.actions)
+  unfolding need_met permitted
   applying_enabled bytes sets e f s = applying-permitted (compiled t) 18446744073709551615 (length t.actions) bytes sets k.actions_few f (rw e at compiled_parted) s
       ∙ set_same _ _ 0 (length t.actions) (λ m h b. let l : m < length t.actions = omega arith in let w = whole_below (whole_cells t.sizes (action_at t m).precondition 16 (packable_action t k m l).precondition_fits k.variables_few) in
       rw (pre_mask_is t k.actions_few m l, pre_value_is t k.actions_few m l, all_kept (pack_by naming (action_at t m).precondition) w.0, all_kept (pack_by setting (action_at t m).precondition) w.1))
 
 -- The bytes of the variables are among those that are looked at.
-pub spread-wide : (bytes variables : ℕ) → variables ≤ 2 * bytes → variables ≤ 16 → variables ≤ 2 * spread bytes
-unfolding spread
-spread-wide bytes variables h l = by_test (leb bytes 2) (λ e. let b = leb→le bytes 2 (rw e tt) in rw e (omega arith))
+pub met_bytes-wide : (bytes variables : ℕ) → variables ≤ 2 * bytes → variables ≤ 16 → variables ≤ 2 * met_bytes bytes
+unfolding met_bytes
+met_bytes-wide bytes variables h l = by_test (leb bytes 2) (λ e. let b = leb→le bytes 2 (rw e tt) in rw e (omega arith))
     (λ e. rw e (by_test (leb bytes 4) (λ g. let b = leb→le bytes 4 (rw g tt) in rw g (omega arith)) (λ g. rw g (omega arith))))

@@ -16,7 +16,7 @@ pub mod SoundPacked
 pub mod Simulating
 -- Packed words within a pattern's mask are those of the task's abstraction.
 pub mod Abstracted
--- Sets as words: met, joined, one more, and emptied lowest first.
+-- Sets as words: one number more, and emptied lowest first.
 pub mod SetWords
 -- Filling the sets of the actions that the bytes of a state permit.
 pub mod SetsFilled

@@ -1,51 +1,13 @@
--- Sets as words: two sets met or joined, one number more, and the loop that takes out the lowest number of a set until none is left.
+-- Sets as words: one number more, and the loop that takes out the lowest number of a set until none is left.
 -- Assumes nothing.
-use Rattle.std.proofs.Common.{◌≡◌, ℕ, zero, suc, ◌+◌, ◌-◌, ◌*◌, ◌/◌, ◌%◌, ◌^◌, ◌<◌, ◌≤◌, Bool, true, false, cond, ◌&&◌, ◌||◌, sym, refl, ap, ◌∙◌, ap₂, add-zero, mod-eq_of_lt, mul_assoc, suc-mul, mul_comm, add-mul, one-mul, pow-suc, zero-mul, arith, pow_pos, pow-add}
+use Rattle.std.proofs.Common.{◌≡◌, ℕ, zero, suc, ◌+◌, ◌-◌, ◌*◌, ◌/◌, ◌%◌, ◌^◌, ◌<◌, ◌≤◌, Bool, true, false, cond, sym, refl, ap, ◌∙◌, ap₂, add-zero, mod-eq_of_lt, mul_assoc, suc-mul, mul_comm, add-mul, one-mul, pow-suc, zero-mul, arith, pow_pos, pow-add}
 use Rattle.std.proofs.Math.Nat.{zero-div}
 use native.Mathlib.Nat.{pow-le-pow_right, div-div-eq-div-mul}
-use lib.Bits.{bit_and, bit_or, and_block, or_block, and_self, and_shifted, or_shifted_r, and_mask}
+use lib.Bits.{bit_and, bit_or, and_block, and_self, and_shifted, or_shifted_r, and_mask}
 use lib.Count.{count_trailing_zeros}
 use Rattle.planning.proofs.Test.{by_test}
-use Rattle.packed_task.specs.Sets.{set_from}
-
--- Tests that agree give the same set.
-pub set_same : (f g : ℕ → Bool) (m n : ℕ) → ((j : ℕ) → m ≤ j → j < m + n → f j ≡ g j) → set_from f m n ≡ set_from g m n
-unfolding set_from
-set_same f g m zero h = refl
-set_same f g m (suc n) h = ap₂ (λ a t. a * 2 + cond t 1 0) (set_same f g (m + 1) n (λ j k l. h j (omega arith) (omega arith))) (h m (omega arith) (omega arith))
-
-bit_small : (t : Bool) → cond t 1 0 < 2
-bit_small true = omega arith
-bit_small false = omega arith
-
-bit_and_lem : (t u : Bool) → bit_and (cond t 1 0) (cond u 1 0) ≡ cond (t && u) 1 0
-bit_and_lem true true = refl
-bit_and_lem true false = refl
-bit_and_lem false true = refl
-bit_and_lem false false = refl
-
-bit_or_lem : (t u : Bool) → bit_or (cond t 1 0) (cond u 1 0) ≡ cond (t || u) 1 0
-bit_or_lem true true = refl
-bit_or_lem true false = refl
-bit_or_lem false true = refl
-bit_or_lem false false = refl
-
-pub set_meet : (f g : ℕ → Bool) (m n : ℕ) → bit_and (set_from f m n) (set_from g m n) ≡ set_from (λ j. f j && g j) m n
-unfolding set_from
-set_meet f g m zero = refl
-set_meet f g m (suc n) = and_block 1 (set_from f (m + 1) n) (set_from g (m + 1) n) (cond (f m) 1 0) (cond (g m) 1 0) (bit_small (f m)) (bit_small (g m))
-    ∙ ap₂ (λ a b. a * 2 + b) (set_meet f g (m + 1) n) (bit_and_lem (f m) (g m))
-
-pub set_join : (f g : ℕ → Bool) (m n : ℕ) → bit_or (set_from f m n) (set_from g m n) ≡ set_from (λ j. f j || g j) m n
-unfolding set_from
-set_join f g m zero = refl
-set_join f g m (suc n) = or_block 1 (set_from f (m + 1) n) (set_from g (m + 1) n) (cond (f m) 1 0) (cond (g m) 1 0) (bit_small (f m)) (bit_small (g m))
-    ∙ ap₂ (λ a b. a * 2 + b) (set_join f g (m + 1) n) (bit_or_lem (f m) (g m))
-
-pub set_below : (f : ℕ → Bool) (m n : ℕ) → set_from f m n < 2 ^ n
-unfolding set_from
-set_below f m zero = omega arith
-set_below f m (suc n) = let i = set_below f (m + 1) n in let p = pow-suc 2 n in let b = bit_small (f m) in omega arith
+use Rattle.planning.specs.Sets.{set_from}
+use Rattle.planning.proofs.Sets.{digit_small, set_below}
 
 -- A set of at most 64 numbers is not changed by a meet with the word of all.
 pub set_whole : (f : ℕ → Bool) (m n : ℕ) → n ≤ 64 → bit_and (set_from f m n) 18446744073709551615 ≡ set_from f m n
@@ -134,7 +96,7 @@ set_above : (f : ℕ → Bool) (k m n : ℕ) → set_from f m n / 2 ^ k ≡ set_
 unfolding set_from
 set_above f zero m n = let z : m + 0 ≡ m = omega arith in let y : n - 0 ≡ n = omega arith in rw (z, y) (omega arith)
 set_above f (suc k) m zero = let y : 0 - suc k ≡ 0 = omega arith in rw y (zero-div (2 ^ suc k))
-set_above f (suc k) m (suc n) = let z : m + suc k ≡ m + 1 + k = omega arith in let y : suc n - suc k ≡ n - k = omega arith in let b = bit_small (f m) in
+set_above f (suc k) m (suc n) = let z : m + suc k ≡ m + 1 + k = omega arith in let y : suc n - suc k ≡ n - k = omega arith in let b = digit_small (f m) in
     let d : set_from f m (suc n) / 2 ≡ set_from f (m + 1) n = omega (arith, b) in let p = pow-suc 2 k in let q : 2 * 2 ^ k ≡ 2 ^ suc k = omega arith in
     rw (z, y) (ap (λ c. set_from f m (suc n) / c) (sym q) ∙ sym (div-div-eq-div-mul (set_from f m (suc n)) 2 (2 ^ k)) ∙ rw d (set_above f k (m + 1) n))
 

@@ -5,11 +5,13 @@ use native.Mathlib.Nat.{pow-le-pow_right}
 use native.Mathlib.Decide.{ℕ_discrete, dec_lt}
 use lib.Bits.{bit_and, bit_or}
 use Rattle.planning.specs.Finite.{tabulate}
+use Rattle.planning.specs.Sets.{set_from}
 use Rattle.planning.proofs.Finite.{length-tabulate, get_or_tabulate}
+use Rattle.planning.proofs.Sets.{set_meet, set_join}
 use Rattle.planning.proofs.Test.{T_true, not_T_false, by_test}
 use Rattle.packed_task.specs.Packed.{pre_mask, pre_value}
-use Rattle.packed_task.specs.Sets.{set_from, lowest_need, need_at, action_need, suits, byte_suits, SetsOf, spread, word_of_sets, sets_filled, meet_from, slot_after, entered, SlotsOf, slot_meet, RowFilled, RowsFilled}
-use Rattle.packed_task.proofs.SetWords.{set_meet, set_join, set_more}
+use Rattle.packed_task.specs.Sets.{lowest_need, need_at, action_need, suits, byte_suits, SetsOf, met_bytes, word_of_sets, sets_filled, meet_from, slot_after, entered, SlotsOf, slot_meet, RowFilled, RowsFilled}
+use Rattle.packed_task.proofs.SetWords.{set_more}
 
 -- An action is being entered: digits below v are done, and the rest of the words tells what is needed of those from v on.
 pub record Entering (old new : List ℕ) (need value bit v n x : ℕ) : Type 0 where
@@ -65,21 +67,21 @@ entered_at old need value bit digits v k few h l =
     get_or_tabulate (slot_after old need value bit digits) 0 272 (17 * v + k) 0 (omega arith) ∙ rw (zero-add, lt-ltb (17 * v + k) (17 * digits) b, q, r)
 
 -- How many bytes are looked at.
-pub spread_two : (bytes : ℕ) → bytes ≤ 2 → 2 ≡ spread bytes
-unfolding spread
-spread_two bytes h = rw (T_true (leb bytes 2) (le→leb bytes 2 h))
+pub met_bytes_two : (bytes : ℕ) → bytes ≤ 2 → 2 ≡ met_bytes bytes
+unfolding met_bytes
+met_bytes_two bytes h = rw (T_true (leb bytes 2) (le→leb bytes 2 h))
 
-pub spread_four : (bytes : ℕ) → 2 < bytes → bytes ≤ 4 → 4 ≡ spread bytes
-unfolding spread
-spread_four bytes k h = rw (not_T_false (leb bytes 2) (λ t. let l = leb→le bytes 2 t in omega arith), T_true (leb bytes 4) (le→leb bytes 4 h))
+pub met_bytes_four : (bytes : ℕ) → 2 < bytes → bytes ≤ 4 → 4 ≡ met_bytes bytes
+unfolding met_bytes
+met_bytes_four bytes k h = rw (not_T_false (leb bytes 2) (λ t. let l = leb→le bytes 2 t in omega arith), T_true (leb bytes 4) (le→leb bytes 4 h))
 
-pub spread_eight : (bytes : ℕ) → 4 < bytes → 8 ≡ spread bytes
-unfolding spread
-spread_eight bytes h = rw (not_T_false (leb bytes 2) (λ t. let l = leb→le bytes 2 t in omega arith), not_T_false (leb bytes 4) (λ t. let l = leb→le bytes 4 t in omega arith))
+pub met_bytes_eight : (bytes : ℕ) → 4 < bytes → 8 ≡ met_bytes bytes
+unfolding met_bytes
+met_bytes_eight bytes h = rw (not_T_false (leb bytes 2) (λ t. let l = leb→le bytes 2 t in omega arith), not_T_false (leb bytes 4) (λ t. let l = leb→le bytes 4 t in omega arith))
 
-spread_most : (bytes : ℕ) → spread bytes ≤ 8
-unfolding spread
-spread_most bytes = by_test (leb bytes 2) (λ e. rw e (omega arith)) (λ e. by_test (leb bytes 4) (λ f. rw (e, f) (omega arith)) (λ f. rw (e, f) (omega arith)))
+met_bytes_most : (bytes : ℕ) → met_bytes bytes ≤ 8
+unfolding met_bytes
+met_bytes_most bytes = by_test (leb bytes 2) (λ e. rw e (omega arith)) (λ e. by_test (leb bytes 4) (λ f. rw (e, f) (omega arith)) (λ f. rw (e, f) (omega arith)))
 
 -- Numbers below m are entered.
 pub record Slotting (needs : ℕ → ℕ → ℕ) (digits : ℕ) (slots : List ℕ) (m : ℕ) : Type 0 where
@@ -178,28 +180,28 @@ unfolding word_of_sets
 word_beyond task old mask actions bytes i t = rw t
 
 -- What the code fills is what the definition says.
-pub filled_as_defined : (task slots old sets : List ℕ) (mask actions bytes : ℕ) → actions ≤ 64 → SlotsOf (action_need task mask) actions (2 * spread bytes) slots → RowsFilled slots old sets (spread bytes) →
+pub filled_as_defined : (task slots old sets : List ℕ) (mask actions bytes : ℕ) → actions ≤ 64 → SlotsOf (action_need task mask) actions (2 * met_bytes bytes) slots → RowsFilled slots old sets (met_bytes bytes) →
     sets ≡ sets_filled task mask actions bytes old
 unfolding sets_filled
 filled_as_defined task slots old sets mask actions bytes few s f = rw (T_true (leb actions 64) (le→leb actions 64 few))
-    (ext_get_or 0 sets (tabulate (word_of_sets task mask actions (spread bytes) old) 0 2048) (f.long ∙ sym (length-tabulate (word_of_sets task mask actions (spread bytes) old) 0 2048))
-    (λ i l. word i ∙ sym (get_or_tabulate (word_of_sets task mask actions (spread bytes) old) 0 2048 i 0 (omega (arith, l, f.long)) ∙ rw (zero-add i))))
+    (ext_get_or 0 sets (tabulate (word_of_sets task mask actions (met_bytes bytes) old) 0 2048) (f.long ∙ sym (length-tabulate (word_of_sets task mask actions (met_bytes bytes) old) 0 2048))
+    (λ i l. word i ∙ sym (get_or_tabulate (word_of_sets task mask actions (met_bytes bytes) old) 0 2048 i 0 (omega (arith, l, f.long)) ∙ rw (zero-add i))))
   where
-    o : SetsOf task mask actions (spread bytes) sets
-    o = sets_filled_lem task slots sets mask actions (spread bytes) s f.rows
+    o : SetsOf task mask actions (met_bytes bytes) sets
+    o = sets_filled_lem task slots sets mask actions (met_bytes bytes) s f.rows
 
-    word : (i : ℕ) → get_or sets i 0 ≡ word_of_sets task mask actions (spread bytes) old i
-    word i = by_test (ltb i (256 * spread bytes))
-        (λ t. let l = ltb-true i (256 * spread bytes) t in let e : 256 * (i / 256) + i % 256 ≡ i = omega arith in
-        rw e at (o.set_at (i / 256) (i % 256) (omega arith) (omega arith) ∙ sym (word_of_byte task old mask actions (spread bytes) (i / 256) (i % 256) (omega arith) (omega arith))))
-        (λ t. f.rest i (ltb-false i (256 * spread bytes) t) ∙ sym (word_beyond task old mask actions (spread bytes) i t))
+    word : (i : ℕ) → get_or sets i 0 ≡ word_of_sets task mask actions (met_bytes bytes) old i
+    word i = by_test (ltb i (256 * met_bytes bytes))
+        (λ t. let l = ltb-true i (256 * met_bytes bytes) t in let e : 256 * (i / 256) + i % 256 ≡ i = omega arith in
+        rw e at (o.set_at (i / 256) (i % 256) (omega arith) (omega arith) ∙ sym (word_of_byte task old mask actions (met_bytes bytes) (i / 256) (i % 256) (omega arith) (omega arith))))
+        (λ t. f.rest i (ltb-false i (256 * met_bytes bytes) t) ∙ sym (word_beyond task old mask actions (met_bytes bytes) i t))
 
 -- The words that are filled are the sets of every byte that is looked at.
-pub filled-sets : (task old : List ℕ) (mask actions bytes : ℕ) → actions ≤ 64 → SetsOf task mask actions (spread bytes) (sets_filled task mask actions bytes old)
+pub filled-sets : (task old : List ℕ) (mask actions bytes : ℕ) → actions ≤ 64 → SetsOf task mask actions (met_bytes bytes) (sets_filled task mask actions bytes old)
 unfolding sets_filled
 filled-sets task old mask actions bytes few = rw (T_true (leb actions 64) (le→leb actions 64 few)) (record {
-  set_at = λ b x h i. get_or_tabulate (word_of_sets task mask actions (spread bytes) old) 0 2048 (256 * b + x) 0 (omega (arith, h, i, spread_most bytes))
-      ∙ rw (zero-add (256 * b + x)) (word_of_byte task old mask actions (spread bytes) b x h i);
+  set_at = λ b x h i. get_or_tabulate (word_of_sets task mask actions (met_bytes bytes) old) 0 2048 (256 * b + x) 0 (omega (arith, h, i, met_bytes_most bytes))
+      ∙ rw (zero-add (256 * b + x)) (word_of_byte task old mask actions (met_bytes bytes) b x h i);
 })
 
 -- The sets of two bytes more are met.

@@ -8,7 +8,7 @@ pub mod Within
 pub mod Squeezed
 -- The tasks that fit the packed form.
 pub mod Packable
--- Sets of small numbers as words, and the actions that the bytes of a state permit.
+-- The sets of the actions that the bytes of a state permit.
 pub mod Sets
 -- The words of a record's task, as they are made one by one.
 pub mod Compiling

@@ -1,15 +1,11 @@
--- Sets of small numbers as words, and the sets of the actions that the bytes of a packed state permit. A byte holds the digits of two
--- variables, so a state's actions are the meet of one set for each byte. Assumes nothing.
+-- The sets of the actions that the bytes of a packed state permit. A byte holds the digits of two variables, so a state's actions are the meet of one
+-- set for each byte. Assumes nothing.
 use Rattle.std.specs.Prelude.{◌≡◌, ℕ, zero, suc, ◌+◌, ◌-◌, ◌*◌, ◌/◌, ◌%◌, ◌<◌, ◌≤◌, Bool, cond, MatchOption, ◌≢◌, ◌&&◌, ◌||◌, List, length, ◌==◌, bit_and, bit_or, nat_eq, nat_le, nat_lt, slice_index}
 use Rattle.std.specs.declared.option.Option.{Option}
 use Rattle.std.specs.Int.Count.{count_trailing_zeros}
 use Rattle.planning.specs.Finite.{tabulate}
+use Rattle.planning.specs.Sets.{set_from}
 use Rattle.packed_task.specs.Packed.{pre_mask, pre_value}
-
--- The numbers m, m + 1, ..., n of them, that pass a test: the lowest binary digit stands for m.
-unfoldable pub set_from : (ℕ → Bool) → ℕ → ℕ → ℕ
-set_from f m zero = 0
-set_from f m (suc n) = set_from f (m + 1) n * 2 + cond (f m) 1 0
 
 -- The lowest number is taken out of a set; of an empty one there is none.
 abbrev pub TakesLowest : ℕ → Option ℕ → ℕ → Type 0
@@ -39,15 +35,15 @@ pub record SetsOf (task : List ℕ) (mask actions bytes : ℕ) (sets : List ℕ)
   pub set_at : (b x : ℕ) → b < bytes → x < 256 → slice_index sets (256 * b + x) ≡ set_from (byte_suits task mask b x) 0 actions
 
 -- How many bytes are looked at: 2, 4 or 8.
-unfoldable pub spread : ℕ → ℕ
-spread bytes = cond (nat_le bytes 2) 2 (cond (nat_le bytes 4) 4 8)
+unfoldable pub met_bytes : ℕ → ℕ
+met_bytes bytes = cond (nat_le bytes 2) 2 (cond (nat_le bytes 4) 4 8)
 
 -- 2,048 words with the sets of the bytes that are looked at; the words after them are as they were. More than 64 actions have no sets.
 unfoldable pub word_of_sets : List ℕ → ℕ → ℕ → ℕ → List ℕ → ℕ → ℕ
 word_of_sets task mask actions bytes old i = cond (nat_lt i (256 * bytes)) (set_from (byte_suits task mask (i / 256) (i % 256)) 0 actions) (slice_index old i)
 
 unfoldable pub sets_filled : List ℕ → ℕ → ℕ → ℕ → List ℕ → List ℕ
-sets_filled task mask actions bytes old = cond (nat_le actions 64) (tabulate (word_of_sets task mask actions (spread bytes) old) 0 2048) old
+sets_filled task mask actions bytes old = cond (nat_le actions 64) (tabulate (word_of_sets task mask actions (met_bytes bytes) old) 0 2048) old
 
 -- The sets of n bytes of a state from number b on, met.
 unfoldable pub meet_from : List ℕ → ℕ → ℕ → ℕ → ℕ

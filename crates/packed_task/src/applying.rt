@@ -3,9 +3,10 @@
 // 4 or 8 are looked at; the number of digits may be any, and 16 at most are entered. `applying` is for the innermost loop of the search.
 // Stays: `as` of a digit or a byte: a word has no `From` into an index, and `try_from` has a case that never happens.
 ghost use Rattle.std.specs.Prelude.{◌≡◌, ℕ, ◌+◌, ◌*◌, ◌/◌, ◌%◌, ◌<◌, ◌≤◌, min, bit_and, slice_index};
-ghost use Rattle.packed_task.specs.Sets.{lowest_need, action_need, spread, meet_from, entered, SlotsOf, RowFilled, RowsFilled, sets_filled};
+ghost use Rattle.packed_task.specs.Sets.{lowest_need, action_need, met_bytes, meet_from, entered, SlotsOf, RowFilled, RowsFilled, sets_filled};
 
 use crate::compiled_task::{need, value};
+use crate::layout::TASK_WORDS;
 use crate::numbers::ActionNumber;
 
 // The slot of the lowest digit that an action needs: its value, or the last of seventeen where any value will do.
@@ -35,7 +36,13 @@ pub fn enter(slots: &mut [u64; 272], need: u64, value: u64, bit: u64, digits: us
 }
 
 // Enters every action.
-fn enter_all(task: &[u64; 1282], mask: u64, actions: usize, digits: usize, slots: &mut [u64; 272])
+fn enter_all(
+    task: &[u64; TASK_WORDS],
+    mask: u64,
+    actions: usize,
+    digits: usize,
+    slots: &mut [u64; 272],
+)
     requires { (actions ≤ 64) × (digits ≤ 16) × ((i : ℕ) → slice_index slots.old i ≡ 0) }
     ensures { SlotsOf (action_need task.now mask) actions digits slots.new }
 {
@@ -64,8 +71,8 @@ fn fill_row(slots: &[u64; 272], sets: &mut [u64; 2048], q: usize)
     }
 }
 
-fn spread_of(bytes: usize) -> usize
-    ensures { (result ≡ spread bytes) × (result ≤ 8) }
+fn met_bytes(bytes: usize) -> usize
+    ensures { (result ≡ met_bytes bytes) × (result ≤ 8) }
 {
     if bytes <= 2 {
         return 2;
@@ -87,7 +94,7 @@ fn fill_rows(slots: &[u64; 272], sets: &mut [u64; 2048], bytes: usize)
 
 // The sets of a compiled task within a mask.
 pub fn fill_sets(
-    task: &[u64; 1282],
+    task: &[u64; TASK_WORDS],
     mask: u64,
     actions: usize,
     bytes: usize,
@@ -98,7 +105,7 @@ pub fn fill_sets(
     if actions > 64 {
         return;
     }
-    let n = spread_of(bytes);
+    let n = met_bytes(bytes);
     let mut slots = [0u64; 272];
     enter_all(task, mask, actions, 2 * n, &mut slots);
     fill_rows(&slots, sets, n);
@@ -120,7 +127,7 @@ fn two_bytes(sets: &[u64; 2048], b: usize, s: u64, rest: u64) -> u64
 
 // The actions whose preconditions a state meets, goal or not.
 pub fn applying(sets: &[u64; 2048], s: u64, bytes: usize) -> u64
-    ensures { result ≡ meet_from sets.now 0 (spread bytes) s }
+    ensures { result ≡ meet_from sets.now 0 (met_bytes bytes) s }
 {
     let all = u64::MAX;
     if bytes <= 2 {

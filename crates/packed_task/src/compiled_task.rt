@@ -7,70 +7,74 @@
 ghost use Rattle.std.specs.Prelude.{◌≡◌, ◌==◌, bit_and, bit_or};
 ghost use Rattle.packed_task.specs.Packed.{pre_mask, pre_value, outcome_count, action_weight, keep_mask, set_value, goal_mask, goal_value};
 
+use crate::layout::{
+    ACTION_WORDS, GOAL_NEED, GOAL_VALUE, IN_COUNT, IN_KEPT, IN_SET, IN_VALUE, IN_WEIGHT,
+    OUTCOME_WORDS, TASK_WORDS,
+};
 use crate::numbers::{ActionNumber, OutcomeNumber};
 
 // The digits that an action needs.
-pub fn need(task: &[u64; 1282], m: ActionNumber) -> u64
+pub fn need(task: &[u64; TASK_WORDS], m: ActionNumber) -> u64
     ensures { result ≡ pre_mask task.now m.number }
 {
-    task[20 * m.number]
+    task[ACTION_WORDS * m.number]
 }
 
 // The values that it needs of them.
-pub fn value(task: &[u64; 1282], m: ActionNumber) -> u64
+pub fn value(task: &[u64; TASK_WORDS], m: ActionNumber) -> u64
     ensures { result ≡ pre_value task.now m.number }
 {
-    task[20 * m.number + 1]
+    task[ACTION_WORDS * m.number + IN_VALUE]
 }
 
-pub fn outcome_count(task: &[u64; 1282], m: ActionNumber) -> usize
+pub fn outcome_count(task: &[u64; TASK_WORDS], m: ActionNumber) -> usize
     ensures { result ≡ outcome_count task.now m.number }
 {
-    task[20 * m.number + 2] as usize
+    task[ACTION_WORDS * m.number + IN_COUNT] as usize
 }
 
-pub fn weight(task: &[u64; 1282], m: ActionNumber) -> u64
+pub fn weight(task: &[u64; TASK_WORDS], m: ActionNumber) -> u64
     ensures { result ≡ action_weight task.now m.number }
 {
-    task[20 * m.number + 3]
+    task[ACTION_WORDS * m.number + IN_WEIGHT]
 }
 
 // The digits that an outcome of an action leaves as they are.
-pub fn kept(task: &[u64; 1282], m: ActionNumber, o: OutcomeNumber) -> u64
+pub fn kept(task: &[u64; TASK_WORDS], m: ActionNumber, o: OutcomeNumber) -> u64
     ensures { result ≡ keep_mask task.now m.number o.number }
 {
-    task[20 * m.number + 4 + 2 * o.number]
+    task[ACTION_WORDS * m.number + IN_KEPT + OUTCOME_WORDS * o.number]
 }
 
 // The values that it sets.
-pub fn set(task: &[u64; 1282], m: ActionNumber, o: OutcomeNumber) -> u64
+pub fn set(task: &[u64; TASK_WORDS], m: ActionNumber, o: OutcomeNumber) -> u64
     ensures { result ≡ set_value task.now m.number o.number }
 {
-    task[20 * m.number + 5 + 2 * o.number]
+    task[ACTION_WORDS * m.number + IN_SET + OUTCOME_WORDS * o.number]
 }
 
 // The state after it.
-pub fn successor(task: &[u64; 1282], s: u64, m: ActionNumber, o: OutcomeNumber) -> u64
+pub fn successor(task: &[u64; TASK_WORDS], s: u64, m: ActionNumber, o: OutcomeNumber) -> u64
     ensures { result ≡ bit_or (bit_and s (keep_mask task.now m.number o.number)) (set_value task.now m.number o.number) }
 {
     (s & kept(task, m, o)) | set(task, m, o)
 }
 
 // The digits that the goal needs.
-pub fn goal_need(task: &[u64; 1282]) -> u64
+pub fn goal_need(task: &[u64; TASK_WORDS]) -> u64
     ensures { result ≡ goal_mask task.now }
 {
-    task[1280]
+    task[GOAL_NEED]
 }
 
 // The values that it needs of them.
-pub fn goal_value(task: &[u64; 1282]) -> u64
+pub fn goal_value(task: &[u64; TASK_WORDS]) -> u64
     ensures { result ≡ goal_value task.now }
 {
-    task[1281]
+    task[GOAL_VALUE]
 }
 
-pub fn is_goal(task: &[u64; 1282], s: u64) -> bool
+pub fn is_goal(task: &[u64; TASK_WORDS], s: u64) -> bool
     ensures { result ≡ (bit_and s (goal_mask task.now) == goal_value task.now) }
 {
     s & goal_need(task) == goal_value(task)

@@ -17,14 +17,14 @@ use Rattle.planning.proofs.Estimate.{built_value_admissible, built_value_infinit
 use Rattle.task_record.specs.Numbers.{action_count}
 use Rattle.task_record.specs.Record.{Sound}
 use Rattle.task_record.specs.State.{state_check}
-use Rattle.task_record.specs.TaskOf.{action_of, task_of, patterns_of}
+use Rattle.task_record.specs.TaskOf.{action_of, task_of, patterns_of, values_of}
 use Rattle.std.proofs.Common.{Ok, Some, None}
 use Rattle.task_record.proofs.SoundTask.{all_tabulate, sound_well_formed}
 use Rattle.task_record.proofs.States.{checked_good, good_values}
 use Rattle.patterns.specs.Space.{entries_needed}
 use Rattle.patterns.specs.Additivity.{additivity_of}
 use Rattle.patterns.specs.Estimate.{judge_estimate}
-use Rattle.patterns.specs.Value.{value_of, values_of, read_value, state_value}
+use Rattle.patterns.specs.Value.{value_of, read_value, state_value}
 use Rattle.patterns.proofs.Refusals.{verdict_decides, ready_means, value_of_good, answered_means, read_finite, read_infinite}
 use Rattle.patterns.proofs.Room.{fits_small, small_fits}
 

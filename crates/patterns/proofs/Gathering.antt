@@ -1,48 +1,16 @@
--- Sets of patterns as numbers, gathered by `|`: the set of what was seen, and what is left, are the whole. Assumes nothing.
+-- Sets of patterns, gone through from the first pattern on, and the patterns that a variable brings in. Assumes nothing.
 use mathlib.Core.Path.{◌≡◌, refl, sym, ◌∙◌}
-use mathlib.Core.Bool.{Bool, true, false, not, ◌&&◌, ◌||◌, cond}
-use Prim.Native.Nat.{ℕ, zero, suc, ◌+◌, ◌*◌, ◌-◌, ◌/◌, ◌%◌, ◌≤◌, ◌<◌, ◌^◌}
+use mathlib.Core.Bool.{Bool, true, false, not, ◌&&◌, cond}
+use Prim.Native.Nat.{ℕ, zero, suc, ◌+◌, ◌*◌, ◌-◌, ◌/◌, ◌%◌, ◌≤◌, ◌<◌}
 use native.Mathlib.Nat.{pow-le-pow_right}
 use native.Mathlib.Omega.{arith}
-use lib.Bits.{bit_or, or_block}
 use lib.Dec.{eqb}
 use Rattle.planning.proofs.Test.{by_test}
-use Rattle.patterns.specs.Sets.{set_from}
-
-digit_or : (a b : Bool) → bit_or (cond a 1 0) (cond b 1 0) ≡ cond (a || b) 1 0
-digit_or true true = refl
-digit_or true false = refl
-digit_or false true = refl
-digit_or false false = refl
-
-pub digit_small : (a : Bool) → cond a 1 0 < 2
-digit_small true = omega arith
-digit_small false = omega arith
-
--- The set of what is in one of two sets.
-pub set_or : (f g : ℕ → Bool) (k n : ℕ) → bit_or (set_from f k n) (set_from g k n) ≡ set_from (λ p. f p || g p) k n
-unfolding set_from
-set_or f g k zero = refl
-set_or f g k (suc n) = or_block 1 (set_from f (k + 1) n) (set_from g (k + 1) n) (cond (f k) 1 0) (cond (g k) 1 0) (digit_small (f k)) (digit_small (g k))
-    ∙ rw (set_or f g (k + 1) n, digit_or (f k) (g k))
-
-pub set_ext : (f g : ℕ → Bool) (k n : ℕ) → ((i : ℕ) → i < k + n → f i ≡ g i) → set_from f k n ≡ set_from g k n
-unfolding set_from
-set_ext f g k zero h = refl
-set_ext f g k (suc n) h = rw (h k (omega arith), set_ext f g (k + 1) n (λ i l. h i (omega arith)))
-
-pub set_none : (k n : ℕ) → set_from (λ p. false) k n ≡ 0
-unfolding set_from
-set_none k zero = refl
-set_none k (suc n) = rw (set_none (k + 1) n)
-
-pub set_below : (f : ℕ → Bool) (k n : ℕ) → n ≤ 8 → set_from f k n < 2 ^ n
-unfolding set_from
-set_below f k zero h = omega arith
-set_below f k (suc n) h = let l = set_below f (k + 1) n (omega arith) in let d = digit_small (f k) in omega arith
+use Rattle.planning.specs.Sets.{set_from}
+use Rattle.planning.proofs.Sets.{set_same, digit_small, set_none, set_below}
 
 pub set_small : (f : ℕ → Bool) (k n : ℕ) → n ≤ 7 → set_from f k n ≤ 127
-set_small f k n h = let l = set_below f k n (omega arith) in let p = pow-le-pow_right {n = 2} (omega arith) {i = n} {j = 7} h in omega arith
+set_small f k n h = let l = set_below f k n in let p = pow-le-pow_right {n = 2} (omega arith) {i = n} {j = 7} h in omega arith
 
 -- A set and its first pattern.
 module _ (f : ℕ → Bool) (k n : ℕ) (l : k < n) where
@@ -66,8 +34,8 @@ set_empty f n = let e : n - n ≡ zero = omega arith in rw e
 -- A variable that an outcome names brings in the patterns that it is in; one that it does not name brings none.
 pub set-named : (f : ℕ → Bool) (y n : ℕ) → cond (eqb y 255) 0 (set_from f 0 n) ≡ set_from (λ p. f p && not (eqb y 255)) 0 n
 set-named f y n = by_test (eqb y 255)
-    (λ e. rw e (sym (set_ext (λ p. f p && false) (λ p. false) 0 n (λ i l. and_false (f i)) ∙ set_none 0 n)))
-    (λ e. rw e (sym (set_ext (λ p. f p && true) f 0 n (λ i l. and-true (f i)))))
+    (λ e. rw e (sym (set_same (λ p. f p && false) (λ p. false) 0 n (λ i z l. and_false (f i)) ∙ set_none 0 n)))
+    (λ e. rw e (sym (set_same (λ p. f p && true) f 0 n (λ i z l. and-true (f i)))))
   where
     and_false : (a : Bool) → (a && false) ≡ false
     and_false true = refl

@@ -1,8 +1,8 @@
 -- Laws of the sum of entries, pattern by pattern: what is summed, and the value of what is left, are the whole value. Assumes nothing.
-use mathlib.Core.Path.{◌≡◌, refl, sym, ◌∙◌}
+use mathlib.Core.Path.{◌≡◌, sym, ◌∙◌}
 use mathlib.Core.Bool.{false}
-use mathlib.Core.List.{List, [], ◌∷◌}
-use Prim.Native.Nat.{ℕ, zero, suc, ◌+◌, ◌*◌, ◌≤◌, ◌<◌}
+use mathlib.Core.List.{List, []}
+use Prim.Native.Nat.{ℕ, suc, ◌+◌, ◌*◌, ◌≤◌, ◌<◌}
 use native.Mathlib.Numerals.{add-one}
 use native.Mathlib.Omega.{arith}
 use lib.Dec.{T, eqb}
@@ -10,17 +10,11 @@ use lib.ListN.{length, get_or, drop}
 use lib.Seq.{drop-cons, drop-drop, get_or-drop}
 use Rattle.planning.specs.Extended.{fin, inf, add∞}
 use Rattle.planning.specs.Task.{in_sizes}
-use Rattle.planning.specs.Table.{index, state_count, cost_of, value}
+use Rattle.planning.specs.Table.{index, state_count, infinite_entry, cost_of, value}
 use Rattle.planning.proofs.Extended.{add∞-zero, add∞_comm, add∞_assoc}
 use Rattle.planning.proofs.Table.{index_below}
 use Rattle.patterns.specs.Space.{entries_needed}
 use Rattle.patterns.proofs.Weights.{drop_all}
-
--- Inside a list no default counts.
-get_or_inside : (l : List ℕ) (i d e : ℕ) → i < length l → get_or l i d ≡ get_or l i e
-get_or_inside [] i d e h = absurd (omega arith)
-get_or_inside (x ∷ l) zero d e h = refl
-get_or_inside (x ∷ l) (suc i) d e h = get_or_inside l i d e (omega arith)
 
 module _ (zs : List ℕ) (ps : List (List ℕ)) (s tabs : List ℕ) where
   -- The patterns below number p are passed: n is the sum of their entries, and their tables end at b.
@@ -28,7 +22,7 @@ module _ (zs : List ℕ) (ps : List (List ℕ)) (s tabs : List ℕ) where
     pub passed : p ≤ length ps
     pub whole : value zs ps tabs s ≡ add∞ (fin n) (value zs (drop p ps) (drop b tabs) s)
     pub room : b + entries_needed zs (drop p ps) ≤ length tabs
-    pub bounded : n ≤ 65534 * p
+    pub bounded : n ≤ infinite_entry * p
 
   pub summing_start : entries_needed zs ps ≤ length tabs → Summing 0 0 0
   summing_start h = record { passed = omega arith; whole = sym (add∞-zero (value zs ps tabs s)); room = omega arith; bounded = omega arith }
@@ -53,16 +47,16 @@ module _ (zs : List ℕ) (ps : List (List ℕ)) (s tabs : List ℕ) where
       pub table_inside : b + state_count zs (get_or ps p []) ≤ length tabs
       table_inside = omega (arith, table_room)
 
-      one_more : value zs ps tabs s ≡ add∞ (add∞ (fin n) (cost_of (get_or tabs place_of_entry 0))) (value zs (drop (p + 1) ps) (drop (b + state_count zs (get_or ps p [])) tabs) s)
+      one_more : value zs ps tabs s ≡ add∞ (add∞ (fin n) (cost_of (get_or tabs place_of_entry infinite_entry))) (value zs (drop (p + 1) ps) (drop (b + state_count zs (get_or ps p [])) tabs) s)
       unfolding value
-      one_more = a.whole ∙ rw (drop-cons ps p [] l, add-one p, get_or-drop b tabs (index zs (get_or ps p []) s) 65535, get_or_inside tabs place_of_entry 65535 0 place_inside, drop-drop (state_count zs (get_or ps p [])) b tabs)
-          (sym (add∞_assoc (fin n) (cost_of (get_or tabs place_of_entry 0)) (value zs (drop (suc p) ps) (drop (b + state_count zs (get_or ps p [])) tabs) s)))
+      one_more = a.whole ∙ rw (drop-cons ps p [] l, add-one p, get_or-drop b tabs (index zs (get_or ps p []) s) infinite_entry, drop-drop (state_count zs (get_or ps p [])) b tabs)
+          (sym (add∞_assoc (fin n) (cost_of (get_or tabs place_of_entry infinite_entry)) (value zs (drop (suc p) ps) (drop (b + state_count zs (get_or ps p [])) tabs) s)))
 
       -- A finite entry is added; an infinite one decides.
-      pub summing_finite : get_or tabs place_of_entry 0 ≤ 65534 → eqb (get_or tabs place_of_entry 0) 65535 ≡ false → Summing (n + get_or tabs place_of_entry 0) (b + state_count zs (get_or ps p [])) (p + 1)
+      pub summing_finite : get_or tabs place_of_entry infinite_entry < infinite_entry → eqb (get_or tabs place_of_entry infinite_entry) infinite_entry ≡ false → Summing (n + get_or tabs place_of_entry infinite_entry) (b + state_count zs (get_or ps p [])) (p + 1)
       unfolding cost_of add∞
       summing_finite h e = record { passed = omega arith; whole = one_more ∙ rw e; room = table_room; bounded = omega (arith, a.bounded) }
 
-      pub summing_infinite : get_or tabs place_of_entry 0 ≡ 65535 → value zs ps tabs s ≡ inf
+      pub summing_infinite : get_or tabs place_of_entry infinite_entry ≡ infinite_entry → value zs ps tabs s ≡ inf
       unfolding cost_of add∞
       summing_infinite e = one_more ∙ rw e

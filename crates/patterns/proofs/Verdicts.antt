@@ -1,8 +1,10 @@
--- What the answers of the additivity call mean for a sound record: yes exactly for additive patterns, else the first conflict. Assumes nothing.
+-- What the answers of the additivity call mean for a sound record: yes exactly for additive patterns, which are those that keep the owner
+-- rule over the assignments that remain, else the first conflict. Assumes nothing.
 use Rattle.std.proofs.Common.{◌≡◌, ℕ, List, refl, sym, ap, ◌∙◌, arith, Ok, Some, None}
 use mathlib.Core.Logic.{◌↔◌}
-use Rattle.planning.specs.Pattern.{Additive, Verdict, additive, conflict, verdict, FirstConflict}
+use Rattle.planning.specs.Pattern.{Additive, OwnerRule, Verdict, additive, conflict, verdict, FirstConflict}
 use Rattle.planning.proofs.Verdict.{verdict-additive, verdict-conflict}
+use Rattle.planning.proofs.Owners.{verdict_owners}
 use Rattle.task_record.specs.Record.{Sound}
 use Rattle.task_record.specs.TaskOf.{task_of, patterns_of}
 use Rattle.patterns.specs.Additivity.{additivity_of, additivity}
@@ -30,6 +32,14 @@ module _ (r : List ℕ) (sound : Sound r) where
   answers_yes_iff_additive = (
     λ h. (verdict-additive (task_of r) (patterns_of r)).0 (answer_yes (verdict (task_of r) (patterns_of r)) (let e = sym answer_of_sound ∙ h in cc)),
     λ a. answer_of_sound ∙ ap (λ v. Ok (additivity_of v)) ((verdict-additive (task_of r) (patterns_of r)).1 a),
+  )
+
+  -- "Verdicts are compared with the owner rule over the remaining assignments."
+  pub answers_yes_iff_owners : additivity r ≡ Ok None ↔ OwnerRule (task_of r) (patterns_of r)
+  unfolding additivity_of
+  answers_yes_iff_owners = (
+    λ h. (verdict_owners (task_of r) (patterns_of r)).0 (answer_yes (verdict (task_of r) (patterns_of r)) (let e = sym answer_of_sound ∙ h in cc)),
+    λ a. answer_of_sound ∙ ap (λ v. Ok (additivity_of v)) ((verdict_owners (task_of r) (patterns_of r)).1 a),
   )
 
   pub answers_first_conflict : (m p q : ℕ) → additivity r ≡ Ok (Some (record { action = m; lower = p; upper = q })) ↔ FirstConflict (task_of r).actions (patterns_of r) m p q

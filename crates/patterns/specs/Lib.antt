@@ -10,5 +10,5 @@ pub mod Estimate
 pub mod Value
 -- Each answer as the document's numbers, by case and by the lines of "Where a call can say no".
 pub mod Answers
--- Sets of patterns as numbers, a bit for each pattern.
+-- Sets of patterns as words: a set of at most one, and the patterns of a variable.
 pub mod Sets

@@ -1,12 +1,11 @@
 -- What the value call answers: document 01, "Value", and "Where a call can say no", lines 5 to 10. Assumes nothing.
-use Rattle.std.specs.Prelude.{List, ℕ, length, take, Result, Ok, Option, Some, None}
+use Rattle.std.specs.Prelude.{List, ℕ, length, Result, Ok, Option, Some, None}
 use Rattle.planning.specs.Extended.{ℕ∞, fin, inf}
 use Rattle.planning.specs.Table.{value}
-use Rattle.task_record.specs.Numbers.{variable_count}
 use Rattle.task_record.specs.Record.{record_check}
 use Rattle.task_record.specs.Refusals.{after}
 use Rattle.task_record.specs.State.{judge_state}
-use Rattle.task_record.specs.TaskOf.{task_of, patterns_of}
+use Rattle.task_record.specs.TaskOf.{task_of, patterns_of, values_of}
 use Rattle.task_record.specs.declared.refusal.Refusal.{Refusal}
 use Rattle.patterns.specs.Estimate.{judge_estimate}
 
@@ -14,10 +13,6 @@ use Rattle.patterns.specs.Estimate.{judge_estimate}
 unfoldable pub value_of : ℕ∞ → Option ℕ
 value_of (fin n) = Some n
 value_of inf = None
-
--- The values of the task's variables: "a state of 16 bytes (255 beyond N)".
-unfoldable pub values_of : List ℕ → List ℕ → List ℕ
-values_of r s = take (variable_count r) s
 
 -- The value that the lent tables say of a state, whoever wrote them.
 unfoldable pub read_value : List ℕ → List ℕ → List ℕ → ℕ∞

@@ -9,6 +9,7 @@ ghost use Rattle.patterns.specs.Estimate.{judge_estimate};
 ghost use Rattle.patterns.specs.Value.{value_of, read_value, state_value};
 ghost use Rattle.patterns.specs.Answers.{value_numbers, value_by_lines};
 
+use crate::entry::{Entry, INFINITE, entry_at};
 use crate::estimate::judge_estimate;
 use crate::places::place_of;
 use task_record::cells::{pattern_cells, pattern_count, variable_count};
@@ -18,7 +19,7 @@ use task_record::sound::SoundRecord;
 
 // Sizes and state have a cell for each variable of the task. The tables follow each other, so each begins where the one before ends.
 // Stays: a `for` over numbers: `cells[AT_PATTERNS..].chunks_exact(ROW_SIZE).take(..)` is no plainer than a row by its number (`pattern_cells`).
-fn sum_entries(record: &SoundRecord, sizes: &[u8], state: &[u8], tables: &[u16]) -> Option<u64>
+fn sum_entries(record: &SoundRecord, sizes: &[u8], state: &[u8], tables: &[Entry]) -> Option<u64>
     requires { (sizes.now ≡ (task_of record.now).sizes) × (State (task_of record.now) state.now) × (Small (task_of record.now) (patterns_of record.now)) × (entries_needed (task_of record.now).sizes (patterns_of record.now) ≤ length tables.now) }
     ensures { result ≡ value_of (value (task_of record.now).sizes (patterns_of record.now) tables.now state.now) }
 {
@@ -27,8 +28,8 @@ fn sum_entries(record: &SoundRecord, sizes: &[u8], state: &[u8], tables: &[u16])
     for p in 0..pattern_count(record.cells) {
         let place = place_of(sizes, pattern_cells(record.cells, p), state);
         let at = begin + place.index;
-        let entry = tables[at];
-        if entry == u16::MAX {
+        let entry = entry_at(tables, at);
+        if entry == INFINITE {
             return None;
         }
         sum += u64::from(entry);
@@ -37,7 +38,7 @@ fn sum_entries(record: &SoundRecord, sizes: &[u8], state: &[u8], tables: &[u16])
     Some(sum)
 }
 
-fn read_value(record: &SoundRecord, state: &[u8], tables: &[u16]) -> Option<u64>
+fn read_value(record: &SoundRecord, state: &[u8], tables: &[Entry]) -> Option<u64>
     requires { (judge_state record.now state.now ≡ Ok tt) × (judge_estimate record.now (length tables.now) ≡ Ok tt) }
     ensures { result ≡ value_of (read_value record.now state.now tables.now) }
 {
@@ -52,7 +53,7 @@ fn read_value(record: &SoundRecord, state: &[u8], tables: &[u16]) -> Option<u64>
 }
 
 // The value that the tables say of the state, none where it is infinite. The record is read once for its check and once for its patterns.
-pub fn state_value(rec: &[u8], state: &[u8], tables: &[u16]) -> Result<Option<u64>, Refusal>
+pub fn state_value(rec: &[u8], state: &[u8], tables: &[Entry]) -> Result<Option<u64>, Refusal>
     ensures value { result ≡ state_value rec.now state.now tables.now }
     ensures numbers { value_numbers result ≡ value_by_lines rec.now state.now tables.now }
 {

@@ -8,8 +8,9 @@ use Rattle.task_record.specs.State.{state_check, GoodState}
 use Rattle.task_record.specs.Refusals.{after}
 use Rattle.task_record.specs.declared.refusal.Refusal.{Refusal}
 use Rattle.task_record.proofs.States.{checked_good, good_checked}
+use Rattle.task_record.specs.TaskOf.{values_of}
 use Rattle.plan_check.specs.declared.check.Passed.{Passed}
-use Rattle.plan_check.specs.Tower.{tower, values_of}
+use Rattle.plan_check.specs.Tower.{tower}
 use Rattle.plan_check.specs.StrongPlan.{StrongPlan}
 use Rattle.plan_check.specs.Check.{answer_of, plan_check_of}
 use Rattle.plan_check.proofs.Tower.{tower_few, tower_some_outcome}

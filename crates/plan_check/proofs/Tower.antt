@@ -11,10 +11,11 @@ use Rattle.planning.proofs.Task.{task_filled}
 use Rattle.task_record.specs.Layout.{at_goal, at_precondition, at_outcome}
 use Rattle.task_record.specs.Numbers.{action_count, outcome_count}
 use Rattle.task_record.specs.Record.{Sound}
-use Rattle.task_record.specs.TaskOf.{cells_at, action_of, task_of}
+use Rattle.task_record.specs.TaskOf.{cells_at, action_of, task_of, values_of}
 use Rattle.task_record.proofs.SoundTask.{actions_right, sound_well_formed}
 use Rattle.task_record.proofs.States.{action_of_task, actions_of_task, goal_of_values, precondition_of_values}
-use Rattle.plan_check.specs.Tower.{tower, values_of}
+use Rattle.plan_check.specs.Tower.{tower}
+use Rattle.plan_check.specs.Stack.{most_weight}
 
 pub tower_actions : (r : List ℕ) → (tower r).actions ≡ action_count r
 unfolding tower system
@@ -26,10 +27,14 @@ pub tower_successors : (r : List ℕ) (m : ℕ) (s : List ℕ) → m < (tower r)
 unfolding tower system action_of
 tower_successors r m s l = let k : m < action_count r = omega (arith, tower_actions r) in rw (action_of_task r m k)
 
+pub tower_weight : (r : List ℕ) (m : ℕ) → m < (tower r).actions → (tower r).weight m ≡ (action_of r m).weight
+unfolding tower system
+tower_weight r m l = let k : m < action_count r = omega (arith, tower_actions r) in rw (action_of_task r m k)
+
 module _ (r : List ℕ) (sound : Sound r) where
-  pub tower_unit : (m : ℕ) → m < (tower r).actions → (tower r).weight m ≡ 1
-  unfolding tower system action_of
-  tower_unit m l = let k : m < action_count r = omega (arith, tower_actions r) in rw (action_of_task r m k)
+  pub tower_light : (m : ℕ) → m < (tower r).actions → (action_of r m).weight ≤ most_weight
+  unfolding action_of
+  tower_light m l = omega arith
 
   pub tower_few : (tower r).actions ≤ 254
   tower_few = omega (arith, tower_actions r, actions_right r sound)

@@ -6,8 +6,9 @@ use Rattle.task_record.specs.State.{state_check}
 use Rattle.task_record.specs.Refusals.{after}
 use Rattle.task_record.specs.declared.refusal.Refusal.{Refusal}
 use Rattle.task_record.specs.declared.refusal.Refusal.TheVariants.{UnfinishedPlan, UnknownByte, Inapplicable, EarlyArrival, TrailingBytes, TooDeep}
+use Rattle.task_record.specs.TaskOf.{values_of}
 use Rattle.plan_check.specs.declared.check.Passed.{Passed}
-use Rattle.plan_check.specs.Tower.{tower, values_of}
+use Rattle.plan_check.specs.Tower.{tower}
 
 -- The refusal of each of the numbers 12 to 17 that planning's check gives.
 unfoldable pub refusal_of : ℕ → ℕ → Refusal

@@ -6,7 +6,8 @@ use Rattle.planning.specs.PlanCheck.{Checked, passed, refused, check_plan, most_
 use Rattle.task_record.specs.Answers.{short_record, bad_cell, bad_state}
 use Rattle.task_record.specs.Refusals.{answer_numbers}
 use Rattle.task_record.specs.declared.refusal.Refusal.{Refusal}
-use Rattle.plan_check.specs.Tower.{tower, values_of}
+use Rattle.task_record.specs.TaskOf.{values_of}
+use Rattle.plan_check.specs.Tower.{tower}
 use Rattle.plan_check.specs.declared.check.Passed.{Passed}
 use Rattle.plan_check.specs.declared.for_c.PlannerAnswer.{PlannerAnswer}
 

@@ -5,33 +5,42 @@ use Rattle.planning.specs.Task.{apply}
 use Rattle.planning.specs.PlanCheck.{Pending}
 use Rattle.task_record.specs.Layout.{at_action, in_outcomes}
 use Rattle.task_record.specs.Numbers.{outcome_count}
-use Rattle.task_record.specs.TaskOf.{cells_at}
+use Rattle.task_record.specs.TaskOf.{cells_at, action_of, values_of}
 use Rattle.plan_check.specs.declared.frames.Frame.{Frame}
-use Rattle.plan_check.specs.Tower.{values_of}
 
--- Action m taken in state s after `depth` moves.
-unfoldable pub begun_frame : List ℕ → ℕ → List ℕ → ℕ → Frame
-begun_frame r m s depth = record { state = s; next = at_action m + in_outcomes; depth = depth + 1; left = outcome_count r m }
+-- The largest weight of an action: it is a byte.
+abbrev pub most_weight : ℕ
+most_weight = 255
+
+-- Action m taken in state s after `depth` moves, for which `paid` was paid.
+unfoldable pub begun_frame : List ℕ → ℕ → List ℕ → ℕ → ℕ → Frame
+begun_frame r m s depth paid = record {
+  state = s;
+  next = at_action m + in_outcomes;
+  paid = paid + (action_of r m).weight;
+  depth = depth + 1;
+  left = outcome_count r m;
+}
 
 -- The same action after its next outcome.
 unfoldable pub rest_frame : Frame → Frame
-rest_frame f = record { state = f.state; next = f.next + 16; depth = f.depth; left = f.left - 1 }
+rest_frame f = record { state = f.state; next = f.next + 16; paid = f.paid; depth = f.depth; left = f.left - 1 }
 
--- A state that the plan has reached by `depth` moves, each of weight 1.
-unfoldable pub reached : List ℕ → List ℕ → ℕ → Pending (List ℕ)
-reached r s depth = record { state = values_of r s; moves = depth; paid = depth }
+-- A state that the plan has reached by `depth` moves, for which `paid` was paid.
+unfoldable pub reached : List ℕ → List ℕ → ℕ → ℕ → Pending (List ℕ)
+reached r s depth paid = record { state = values_of r s; moves = depth; paid = paid }
 
 -- The states after n outcomes of an action in s, from the one at offset `next` on.
-unfoldable pub awaited_from : List ℕ → List ℕ → ℕ → ℕ → ℕ → List (Pending (List ℕ))
-awaited_from r s depth next zero = []
-awaited_from r s depth next (suc n) = reached r (apply (cells_at r next) s) depth ∷ awaited_from r s depth (next + 16) n
+unfoldable pub awaited_from : List ℕ → List ℕ → ℕ → ℕ → ℕ → ℕ → List (Pending (List ℕ))
+awaited_from r s depth paid next zero = []
+awaited_from r s depth paid next (suc n) = reached r (apply (cells_at r next) s) depth paid ∷ awaited_from r s depth paid (next + 16) n
 
 unfoldable pub awaited : List ℕ → Frame → List (Pending (List ℕ))
-awaited r f = awaited_from r f.state f.depth f.next f.left
+awaited r f = awaited_from r f.state f.depth f.paid f.next f.left
 
 -- The frame at a place of the stack.
 unfoldable pub frame_at : List Frame → ℕ → Frame
-frame_at frames i = get_or frames i (record { state = []; next = 0; depth = 0; left = 0 })
+frame_at frames i = get_or frames i (record { state = []; next = 0; paid = 0; depth = 0; left = 0 })
 
 -- The first n frames of the stack's places, the topmost first.
 unfoldable pub topmost_first : List Frame → ℕ → List Frame

@@ -2,7 +2,8 @@
 use Rattle.std.specs.Prelude.{◌≡◌, List, ℕ, ◌≤◌, length}
 use Rattle.planning.specs.Plan.{Plan, Strong, cost, depth, encode}
 use Rattle.planning.specs.PlanCheck.{most_moves}
-use Rattle.plan_check.specs.Tower.{tower, values_of}
+use Rattle.task_record.specs.TaskOf.{values_of}
+use Rattle.plan_check.specs.Tower.{tower}
 
 -- The bytes are those of a strong plan from the state, in the task of the record, and these are its cost and its length.
 pub record StrongPlan (r s plan : List ℕ) (worst bytes : ℕ) : Type 0 where

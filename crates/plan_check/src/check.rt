@@ -1,7 +1,8 @@
 // The check of a plan on three lent slices: record, state and plan. It accepts all inputs, and only reads.
 ghost use Rattle.std.specs.Prelude.{◌≡◌};
 ghost use Rattle.planning.specs.PlanCheck.{check_plan, most_moves};
-ghost use Rattle.plan_check.specs.Tower.{tower, values_of};
+ghost use Rattle.task_record.specs.TaskOf.{values_of};
+ghost use Rattle.plan_check.specs.Tower.{tower};
 ghost use Rattle.plan_check.specs.Check.{answer_of, end_of, plan_check_of};
 ghost use Rattle.plan_check.specs.ForC.{numbers_of, plan_by_lines};
 
@@ -41,17 +42,19 @@ fn check_bytes(checked: &SoundRecord, plan: &[u8], start: [u8; 16]) -> Result<Pa
 {
     let rec = checked.cells;
     let task = Task::of(checked);
-    let mut stack = Stack::new();
+    let mut frames = [Frame::unused(); 32];
+    let mut stack = Stack::new(&mut frames);
     let mut state = start;
     let mut depth = 0;
+    let mut paid = 0;
     let mut worst = 0;
     for (at, byte) in plan.iter().enumerate() {
         let b = *byte;
         task.judge_byte(at, b, state, depth)?;
         let frame = if task.has_action(b) {
-            Frame::begun(&task, b, state, depth)
+            Frame::begun(&task, b, state, depth, paid)
         } else {
-            worst = worst.max(depth);
+            worst = worst.max(paid);
             match stack.pop() {
                 Some(frame) => frame,
                 None => return ended(plan, at + 1, worst),
@@ -59,6 +62,7 @@ fn check_bytes(checked: &SoundRecord, plan: &[u8], start: [u8; 16]) -> Result<Pa
         };
         state = frame.next_state(rec);
         depth = frame.depth;
+        paid = frame.paid;
         if frame.left != 1 {
             stack.push(frame.rest());
         }

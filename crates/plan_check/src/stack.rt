@@ -6,40 +6,32 @@ use std::marker::Model;
 
 // Each frame has taken a move, and a path has at most 32. Clauses see the frames in use, the topmost first.
 // Stays: a count beside its array: by `ArrayVec<Frame, 32>`, whose `pop` writes a blank over what it takes, a plan's check takes 1.16 of the time,
-// and no operation may become slower.
+// and no operation may become slower. The array is lent, so that the count stays in a register: in one struct with the array it would stand in
+// memory, since a frame that is stored might change it.
 #[derive(Drop)]
-pub(crate) struct Stack {
-    frames: [Frame; 32],
+pub(crate) struct Stack<'a> {
+    frames: &'a mut [Frame; 32],
     used: usize,
 }
 
-impl Model for Stack {
-    ghost use Rattle.std.specs.Prelude.{◌≤◌, List};
+impl<'a> Model for Stack<'a> {
+    ghost use Rattle.std.specs.Prelude.{◌≡◌, ◌≤◌, List, length};
     ghost use Rattle.plan_check.specs.declared.frames.Frame.{Frame};
     ghost use Rattle.plan_check.specs.Stack.{topmost_first};
 
     ghost Value = { List Frame };
 
-    ghost view = { λ s. topmost_first s.frames s.used };
+    ghost view = { λ s. topmost_first s.frames.now s.used };
 
-    ghost invariant = { λ s. s.used ≤ 32 };
+    ghost invariant = { λ s. (s.used ≤ 32) × (length s.frames.now ≡ 32) };
 }
 
-impl Stack {
+impl<'a> Stack<'a> {
     #[tactic(auto, unfolding(crate::specs::Stack::topmost_first))]
-    pub(crate) fn new() -> Stack
+    pub(crate) fn new(frames: &'a mut [Frame; 32]) -> Stack<'a>
         ensures { result ≡ [] }
     {
-        let unused = Frame {
-            state: [0; 16],
-            next: 0,
-            depth: 0,
-            left: 0,
-        };
-        Stack {
-            frames: [unused; 32],
-            used: 0,
-        }
+        Stack { frames, used: 0 }
     }
 
     pub(crate) fn push(&mut self, frame: Frame)

@@ -2,7 +2,8 @@
 ghost use Rattle.std.specs.Prelude.{◌≡◌, ◌<◌, ltb};
 ghost use Rattle.planning.specs.PlanCheck.{most_moves};
 ghost use Rattle.task_record.specs.Numbers.{action_count};
-ghost use Rattle.plan_check.specs.Tower.{tower, values_of};
+ghost use Rattle.task_record.specs.TaskOf.{values_of};
+ghost use Rattle.plan_check.specs.Tower.{tower};
 ghost use Rattle.plan_check.specs.Refusal.{byte_judged};
 
 use crate::cells::{cells_at, met};
@@ -13,7 +14,7 @@ use task_record::refusal::Refusal;
 use task_record::sound::SoundRecord;
 
 // "at most 32 moves depth"
-const MOST_MOVES: u32 = 32;
+const MOST_MOVES: u16 = 32;
 
 // Arrival: no action's number.
 // Stays: the search has this number too: it is a byte of plans, and `task_record`, the crate below both, knows no plans.
@@ -77,7 +78,7 @@ impl<'a> Task<'a> {
         at: usize,
         b: u8,
         state: [u8; 16],
-        depth: u32,
+        depth: u16,
     ) -> Result<(), Refusal>
         ensures { result ≡ byte_judged (tower self.now) most_moves b depth (values_of self.now state) at }
     {

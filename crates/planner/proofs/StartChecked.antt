@@ -10,11 +10,11 @@ use Rattle.planning.specs.Task.{system}
 use Rattle.task_record.specs.Layout.{at_start}
 use Rattle.task_record.specs.Numbers.{variable_count}
 use Rattle.task_record.specs.Record.{Sound}
-use Rattle.task_record.specs.TaskOf.{cells_at, task_of, start_of}
+use Rattle.task_record.specs.TaskOf.{cells_at, task_of, start_of, values_of}
 use Rattle.task_record.proofs.SoundTask.{variables_right}
 use Rattle.task_record.proofs.States.{start_good, good_checked}
 use Rattle.plan_check.specs.Check.{answer_of, plan_check_of}
-use Rattle.plan_check.specs.Tower.{tower, values_of}
+use Rattle.plan_check.specs.Tower.{tower}
 
 module _ (r : List ℕ) (sound : Sound r) where
   start_values : values_of r (cells_at r at_start) ≡ start_of r

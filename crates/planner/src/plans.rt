@@ -6,11 +6,12 @@ ghost use Rattle.plan_check.specs.Check.{plan_check_of};
 ghost use Rattle.plan_check.specs.ForC.{numbers_of, five_numbers};
 
 use crate::answer::{PlannerAnswer, in_numbers};
+use patterns::entry::Entry;
 use plan_check::check::check_plan;
 use search::entry::search;
 
 #[unsafe(no_mangle)]
-pub extern "C" fn planner_search(rec: &[u8], tables: &mut [u16], plan: &mut [u8]) -> PlannerAnswer
+pub extern "C" fn planner_search(rec: &[u8], tables: &mut [Entry], plan: &mut [u8]) -> PlannerAnswer
     ensures { (result ≡ five_numbers (search_numbers (search_answer rec.now (length tables.old) (length plan.old)))) × (tables.new ≡ tables_prepared rec.now tables.old) × (plan.new ≡ plan_after rec.now (length tables.old) plan.old) }
 {
     in_numbers(search(rec, tables, plan))

@@ -8,11 +8,12 @@ ghost use Rattle.patterns.specs.Answers.{additivity_numbers, value_numbers};
 ghost use Rattle.tables.specs.Answers.{table_build_numbers, spread_numbers};
 ghost use Rattle.plan_check.specs.ForC.{five_numbers};
 
+use patterns::entry::Entry;
 use planner::answer::PlannerAnswer;
 use planner::estimates;
 
 #[unsafe(no_mangle)]
-pub extern "C" fn planner_build_tables(rec: &[u8], tables: &mut [u16]) -> PlannerAnswer
+pub extern "C" fn planner_build_tables(rec: &[u8], tables: &mut [Entry]) -> PlannerAnswer
     ensures { (result ≡ five_numbers (table_build_numbers (table_build rec.now (length tables.old)))) × (tables.new ≡ tables_built rec.now tables.old) }
 {
     estimates::planner_build_tables(rec, tables)
@@ -22,7 +23,7 @@ pub extern "C" fn planner_build_tables(rec: &[u8], tables: &mut [u16]) -> Planne
 pub extern "C" fn planner_spread(
     rec: &[u8],
     pattern: u64,
-    tables: &mut [u16],
+    tables: &mut [Entry],
     row: &mut [u32],
 ) -> PlannerAnswer
     ensures { (result ≡ five_numbers (spread_numbers (table_spread rec.now pattern (length tables.old) (length row.old)))) × (tables.new ≡ tables_spread rec.now pattern tables.old (length row.old)) × (row.new ≡ row_spread rec.now pattern (length tables.old) row.old) }
@@ -38,7 +39,7 @@ pub extern "C" fn planner_additive(rec: &[u8]) -> PlannerAnswer
 }
 
 #[unsafe(no_mangle)]
-pub extern "C" fn planner_value(rec: &[u8], state: &[u8], tables: &[u16]) -> PlannerAnswer
+pub extern "C" fn planner_value(rec: &[u8], state: &[u8], tables: &[Entry]) -> PlannerAnswer
     ensures { result ≡ five_numbers (value_numbers (state_value rec.now state.now tables.now)) }
 {
     estimates::planner_value(rec, state, tables)

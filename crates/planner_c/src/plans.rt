@@ -5,11 +5,12 @@ ghost use Rattle.search.specs.Entry.{search_answer, plan_after, search_numbers};
 ghost use Rattle.plan_check.specs.Check.{plan_check_of};
 ghost use Rattle.plan_check.specs.ForC.{numbers_of, five_numbers};
 
+use patterns::entry::Entry;
 use planner::answer::PlannerAnswer;
 use planner::plans;
 
 #[unsafe(no_mangle)]
-pub extern "C" fn planner_search(rec: &[u8], tables: &mut [u16], plan: &mut [u8]) -> PlannerAnswer
+pub extern "C" fn planner_search(rec: &[u8], tables: &mut [Entry], plan: &mut [u8]) -> PlannerAnswer
     ensures { (result ≡ five_numbers (search_numbers (search_answer rec.now (length tables.old) (length plan.old)))) × (tables.new ≡ tables_prepared rec.now tables.old) × (plan.new ≡ plan_after rec.now (length tables.old) plan.old) }
 {
     plans::planner_search(rec, tables, plan)

@@ -70,6 +70,15 @@ pub every_some : {A : Type 0} (p : A → Bool) (xs : List A) → Some (λ x. Uni
 every_some p [] e t = absurd e
 every_some p (x ∷ xs) e t = (x, and_l (p x) _ t)
 
+pub some_of_in : {A : Type 0} (p : A → Bool) (xs : List A) → Some (λ x. T (p x)) xs → T (some_of p xs)
+some_of_in p [] s = absurd s
+some_of_in p (x ∷ xs) (inl t) = or_l (p x) (some_of p xs) t
+some_of_in p (x ∷ xs) (inr s) = or_r (p x) (some_of p xs) (some_of_in p xs s)
+
+pub some_of_out : {A : Type 0} (p : A → Bool) (xs : List A) → T (some_of p xs) → Some (λ x. T (p x)) xs
+some_of_out p [] t = absurd t
+some_of_out p (x ∷ xs) t = or_elim (p x) (some_of p xs) t inl (λ s. inr (some_of_out p xs s))
+
 pub not_some_of : {A : Type 0} (p : A → Bool) (xs : List A) → T (not (some_of p xs)) → All (λ x. T (not (p x))) xs
 not_some_of p [] h = tt
 not_some_of p (x ∷ xs) h = let k = not_or (p x) (some_of p xs) h in (k.0, not_some_of p xs k.1)

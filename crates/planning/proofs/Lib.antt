@@ -4,6 +4,8 @@
 pub mod Test
 -- Finite lists and runs of numbers.
 pub mod Finite
+-- Sets as words: two of them met or joined, and how large one is.
+pub mod Sets
 -- Numbers with infinity.
 pub mod Extended
 -- A sum of components under one action.
@@ -40,6 +42,8 @@ pub mod Task
 pub mod Pattern
 -- The verdict is yes exactly for additive patterns, else the lowest conflict.
 pub mod Verdict
+-- The verdict is yes exactly where the assignments that remain keep the owner rule.
+pub mod Owners
 -- The table of a pattern holds the costs of its abstract states.
 pub mod Table
 -- A count of a spread is the number of states that have the cost.

@@ -3,13 +3,15 @@
 use mathlib.Core.Path.{◌≡◌, refl, sym, ap, ◌∙◌}
 use mathlib.Core.Bool.{Bool, true, false, not, ◌&&◌, ◌||◌, cond}
 use mathlib.Core.List.{List, [], ◌∷◌, map}
-use Prim.Native.Nat.{ℕ, ◌≤◌, ◌<◌}
-use lib.Dec.{T, eqb, ltb, lt→ltb}
-use lib.ListN.{length, length-map}
+use Prim.Native.Nat.{ℕ, zero, suc, ◌≤◌, ◌<◌}
+use native.Mathlib.Omega.{arith}
+use lib.Dec.{T, eqb, ltb, eqb→eq, lt→ltb}
+use borrow.Author.Tests.{eqb-true}
+use lib.ListN.{length, get_or, length-map}
 use Rattle.planning.specs.Finite.{All}
 use Rattle.planning.specs.System.{Invariant}
 use Rattle.planning.specs.Task.{Action, Task, meets_cell, meets, apply_cell, apply, permits, action_at, no_action, system, in_sizes, fits_sizes, State, WellFormedAction, WellFormed}
-use Rattle.planning.specs.Pattern.{keep, project, mask, mask_action, abstraction, AbstractState, affects, affects_pattern}
+use Rattle.planning.specs.Pattern.{keep, project, mask, mask_action, abstraction, AbstractState, counted_cell, counted, affects, affects_pattern}
 use Rattle.planning.proofs.Test.{and_in, and_l, and_r, not_or, by_test}
 use Rattle.planning.proofs.Finite.{all_of, all_imp, all_zip, all_map, some_map, not_some_of, get_or_map, map-map, map_ext}
 use Rattle.planning.proofs.Task.{task_invariant}
@@ -61,7 +63,7 @@ unfolding permits mask_action
 project-permits p q a s t = project-meets p a.precondition s t
 
 -- An outcome that names none of the pattern's variables leaves the projection as it is; so does every outcome of an action that applies
--- and does not affect the pattern.
+-- and does not affect the pattern (unaffected).
 unaffected_cell : (b : Bool) (y x : ℕ) → T (not (b && not (eqb y 255))) → cond b (apply_cell y x) 0 ≡ cond b x 0
 unaffected_cell true y x t = by_test (eqb y 255) (λ e. rw e) (λ e. absurd (rw e at t))
 unaffected_cell false y x t = refl
@@ -74,9 +76,73 @@ unaffected_outcome [] (y ∷ o) (x ∷ s) t = ap (λ l. 0 ∷ l) (unaffected_out
 unaffected_outcome (b ∷ p) (y ∷ o) (x ∷ s) t = let h = not_or (eqb b 1 && not (eqb y 255)) (affects p o) t in
     rw (unaffected_cell (eqb b 1) y x h.0, unaffected_outcome p o s h.1)
 
+-- Counting leaves a list of cells as long as it is, and goes cell by cell.
+pub length_counted : (n o : List ℕ) → length (counted n o) ≡ length o
+unfolding counted
+length_counted n [] = refl
+length_counted [] (y ∷ o) = refl
+length_counted (n ∷ need) (y ∷ o) = ap suc (length_counted need o)
+
+pub counted_at : (n o : List ℕ) (i d : ℕ) → i < length o → get_or (counted n o) i d ≡ counted_cell (get_or n i 255) (get_or o i d)
+unfolding counted
+counted_at n [] i d h = absurd (omega arith)
+counted_at [] (y ∷ o) i d h = by_test (eqb (get_or (y ∷ o) i d) 255) (λ e. rw e (eqb-true (get_or (y ∷ o) i d) 255 e)) (λ e. rw e)
+counted_at (n ∷ need) (y ∷ o) zero d h = refl
+counted_at (n ∷ need) (y ∷ o) (suc i) d h = counted_at need o i d (omega arith)
+
+pub counted_unnamed : (n : ℕ) → counted_cell n 255 ≡ 255
+counted_unnamed n = by_test (eqb 255 n) (λ e. rw e) (λ e. rw e)
+
+-- Where the need is met, what an outcome restates changes nothing: the assignments that count lead to the same state.
+counted_apply_cell : (n y x : ℕ) → T (meets_cell n x) → apply_cell (counted_cell n y) x ≡ apply_cell y x
+counted_apply_cell n y x t = by_test (eqb y n)
+    (λ e. let q = eqb-true y n e in by_test (eqb y 255)
+    (λ f. rw (e, f))
+    (λ f. let g : eqb n 255 ≡ false = rw q at f in let h : T (eqb n x) = rw g at t in let k = eqb→eq n x h in rw (e, f) (omega arith)))
+    (λ e. rw e)
+
+pub counted_apply : (n o s : List ℕ) → T (meets n s) → apply (counted n o) s ≡ apply o s
+unfolding meets apply counted
+counted_apply n [] s t = refl
+counted_apply [] (y ∷ o) s t = refl
+counted_apply (n ∷ need) (y ∷ o) [] t = refl
+counted_apply (n ∷ need) (y ∷ o) (x ∷ s) t = rw (counted_apply_cell n y x (and_l (meets_cell n x) _ t), counted_apply need o s (and_r (meets_cell n x) _ t))
+
+-- The abstraction counts what counts of the pattern.
+mask_counted_cell : (b : Bool) (n y : ℕ) → cond b (counted_cell n y) 255 ≡ counted_cell (cond b n 255) (cond b y 255)
+mask_counted_cell true n y = refl
+mask_counted_cell false n y = refl
+
+mask_counted : (p n o : List ℕ) → mask p (counted n o) ≡ counted (mask p n) (mask p o)
+unfolding keep counted
+mask_counted p n [] = refl
+mask_counted [] [] (y ∷ o) = refl
+mask_counted (b ∷ p) [] (y ∷ o) = refl
+mask_counted [] (n ∷ need) (y ∷ o) = ap (λ l. 255 ∷ l) (mask_counted [] need o)
+mask_counted (b ∷ p) (n ∷ need) (y ∷ o) = rw (mask_counted_cell (eqb b 1) n y, mask_counted p need o)
+
+pub masked_leads : (p : List ℕ) (a : Action) (o s : List ℕ) → T (meets (mask p a.precondition) s) → apply (mask p (counted a.precondition o)) s ≡ apply (mask p o) s
+masked_leads p a o s t = ap (λ c. apply c s) (mask_counted p a.precondition o) ∙ counted_apply (mask p a.precondition) (mask p o) s t
+
+counted_cell_fits : (n y z : ℕ) → T (eqb y 255 || ltb y z) → T (eqb (counted_cell n y) 255 || ltb (counted_cell n y) z)
+counted_cell_fits n y z t = by_test (eqb y n) (λ e. rw e tt) (λ e. rw e t)
+
+pub counted_fits : (zs n o : List ℕ) → T (fits_sizes zs o) → T (fits_sizes zs (counted n o))
+unfolding fits_sizes counted
+counted_fits zs n [] t = tt
+counted_fits zs [] (y ∷ o) t = t
+counted_fits [] (n ∷ need) (y ∷ o) t = tt
+counted_fits (z ∷ zs) (n ∷ need) (y ∷ o) t = and_in (eqb (counted_cell n y) 255 || ltb (counted_cell n y) z) _
+    (counted_cell_fits n y z (and_l (eqb y 255 || ltb y z) _ t)) (counted_fits zs need o (and_r (eqb y 255 || ltb y z) _ t))
+
+pub counted_leads : (a : Action) (o s : List ℕ) → T (permits a s) → apply (counted a.precondition o) s ≡ apply o s
+unfolding permits
+counted_leads a o s t = counted_apply a.precondition o s t
+
 pub unaffected : (a : Action) (p s : List ℕ) → T (permits a s) → T (not (affects_pattern a p)) → All (λ o. project p (apply o s) ≡ project p s) a.outcomes
 unfolding affects_pattern
-unaffected a p s t n = all_imp (λ o k. unaffected_outcome p o s k) a.outcomes (not_some_of (affects p) a.outcomes n)
+unaffected a p s t n = all_imp (λ o k. ap (project p) (sym (counted_leads a o s t)) ∙ unaffected_outcome p (counted a.precondition o) s k) a.outcomes
+    (not_some_of (λ o. affects p (counted a.precondition o)) a.outcomes n)
 
 -- The projection of a state is an abstract state.
 keep-cell-fits : (b : Bool) (x z : ℕ) → 1 ≤ z → T (ltb x z) → T (ltb (cond b x 0) z)

@@ -16,7 +16,7 @@ use Rattle.planning.specs.Extended.{ℕ∞, fin, inf, infinite_from}
 use Rattle.planning.specs.System.{iterate, IsCost, cost_within}
 use Rattle.planning.specs.Task.{Action, Task, system, no_action, in_sizes, State, WellFormed}
 use Rattle.planning.specs.Pattern.{keep, project, mask_action, abstraction, AbstractState}
-use Rattle.planning.specs.Table.{index_from, index, state_count, state_at, entry_at, largest_weight, table_round, table_after, rounds_enough, weighted_table, table, entry_of, cost_of, tables, EntriesBelow, value, estimate, Small, most_cost}
+use Rattle.planning.specs.Table.{index_from, index, state_count, state_at, entry_at, largest_weight, table_round, table_after, rounds_enough, weighted_table, table, infinite_entry, entry_of, cost_of, tables, EntriesBelow, value, estimate, Small, most_cost}
 use Rattle.planning.proofs.Test.{false_not_T, and_in, and_l, and_r, by_test, not_equal}
 use Rattle.planning.proofs.Finite.{all_imp, all_at, length-tabulate, get_or_tabulate, some_tabulate, get_or_map}
 use Rattle.planning.proofs.Extended.{infinite_below, infinite_above}
@@ -182,19 +182,19 @@ light_entries_bounded t u p h i k e = let l = entries_bounded t p (λ a. a.weigh
     let b = mul-le-mul_left (state_count t.sizes p - 1) (largest_weight_at_most t.actions (λ a. a.weight) 1 u) in omega arith
 
 -- An entry of 16 bits holds a value below 65,535, or infinity.
-pub cost_of_entry : (v : ℕ∞) → ((k : ℕ) → v ≡ fin k → k < 65535) → cost_of (entry_of v) ≡ v
+pub cost_of_entry : (v : ℕ∞) → ((k : ℕ) → v ≡ fin k → k < infinite_entry) → cost_of (entry_of v) ≡ v
 unfolding cost_of entry_of
-cost_of_entry (fin k) h = let l : k < 65535 = h k refl in rw (not_equal k 65535 (λ e. omega arith))
+cost_of_entry (fin k) h = let l : k < infinite_entry = h k refl in rw (not_equal k infinite_entry (λ e. omega arith))
 cost_of_entry inf h = refl
 
 module _ (t : Task) (s : List ℕ) (o : State t s) where
   -- The entry of a state, read from the first of some tables.
-  value_entry : (p : List ℕ) → EntriesBelow 65535 (table t p) → (more : List ℕ) →
-      cost_of (get_or (map entry_of (table t p) ++ more) (index t.sizes p s) 65535) ≡ entry_at t.sizes p (table t p) (project p s)
+  value_entry : (p : List ℕ) → EntriesBelow infinite_entry (table t p) → (more : List ℕ) →
+      cost_of (get_or (map entry_of (table t p) ++ more) (index t.sizes p s) infinite_entry) ≡ entry_at t.sizes p (table t p) (project p s)
   unfolding entry_at entry_of table
   value_entry p h more = rw (
     index_projected t.sizes p s,
-    get_or-append (map entry_of (table t p)) more 65535 (index t.sizes p s) (rw (length-map (table t p) entry_of, table-length t p (λ a. a.weight)) (index_below t.sizes p s o)),
+    get_or-append (map entry_of (table t p)) more infinite_entry (index t.sizes p s) (rw (length-map (table t p) entry_of, table-length t p (λ a. a.weight)) (index_below t.sizes p s o)),
     ListN.get_or-map entry_of (table t p) (index t.sizes p s) inf,
   )
       (cost_of_entry (get_or (table t p) (index t.sizes p s) inf) (h (index t.sizes p s)))
@@ -205,7 +205,7 @@ module _ (t : Task) (s : List ℕ) (o : State t s) where
       rw (← l) (drop-append_seam (map entry_of (table t p)) more)
 
   -- The value read from tables whose finite entries are below 65,535, whatever follows them, is the summed estimate.
-  pub value_of_entries_below : (ps : List (List ℕ)) → All (λ p. EntriesBelow 65535 (table t p)) ps → (rest : List ℕ) → value t.sizes ps (tables t ps ++ rest) s ≡ estimate t ps s
+  pub value_of_entries_below : (ps : List (List ℕ)) → All (λ p. EntriesBelow infinite_entry (table t p)) ps → (rest : List ℕ) → value t.sizes ps (tables t ps ++ rest) s ≡ estimate t ps s
   unfolding value tables estimate chain
   value_of_entries_below [] h rest = refl
   value_of_entries_below (p ∷ ps) h rest = rw (append_assoc (map entry_of (table t p)) (tables t ps) rest, value_entry p h.0 (tables t ps ++ rest), value-drop p (tables t ps ++ rest), value_of_entries_below ps h.1 rest)

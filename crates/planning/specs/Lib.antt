@@ -2,6 +2,8 @@
 
 -- Finite lists and runs of numbers.
 pub mod Finite
+-- Sets of small numbers as words.
+pub mod Sets
 -- Numbers with infinity.
 pub mod Extended
 -- Transition systems, Definition 2.9 and its limit: the cost of a state.

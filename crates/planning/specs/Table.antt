@@ -57,14 +57,18 @@ module _ (t : Task) (p : List ℕ) (q : Action → ℕ) where
 unfoldable pub table : Task → List ℕ → List ℕ∞
 table t p = weighted_table t p (λ a. a.weight)
 
--- "An entry is 16 bits; 65,535 is infinite. .. Tables follow each other in pattern order".
+-- "An entry is 16 bits; 65,535 is infinite."
+abbrev pub infinite_entry : ℕ
+infinite_entry = 65535
+
 unfoldable pub entry_of : ℕ∞ → ℕ
 entry_of (fin k) = k
-entry_of inf = 65535
+entry_of inf = infinite_entry
 
 unfoldable pub cost_of : ℕ → ℕ∞
-cost_of e = cond (eqb e 65535) inf (fin e)
+cost_of e = cond (eqb e infinite_entry) inf (fin e)
 
+-- "Tables follow each other in pattern order".
 unfoldable pub tables : Task → List (List ℕ) → List ℕ
 tables t ps = chain (λ p. map entry_of (table t p)) ps
 
@@ -75,7 +79,7 @@ EntriesBelow n tab = (i k : ℕ) → get_or tab i inf ≡ fin k → k < n
 -- "The sum of the entries of a state's projections, infinite if one is", from any tables that are lent.
 unfoldable pub value : List ℕ → List (List ℕ) → List ℕ → List ℕ → ℕ∞
 value zs [] tabs s = fin 0
-value zs (p ∷ ps) tabs s = add∞ (cost_of (get_or tabs (index zs p s) 65535)) (value zs ps (drop (state_count zs p) tabs) s)
+value zs (p ∷ ps) tabs s = add∞ (cost_of (get_or tabs (index zs p s) infinite_entry)) (value zs ps (drop (state_count zs p) tabs) s)
 
 -- "The summed estimate of demand 3": the same from the costs themselves. On tables as built the two are equal (value_of_built).
 unfoldable pub estimate : Task → List (List ℕ) → List ℕ → ℕ∞

@@ -15,13 +15,13 @@ use Rattle.task_record.specs.Layout.{at_start, at_budget}
 use Rattle.task_record.specs.Numbers.{variable_count, budget_of}
 use Rattle.task_record.specs.Record.{head_ok, cell_ok, record_check, Sound}
 use Rattle.task_record.specs.State.{state_check}
-use Rattle.task_record.specs.TaskOf.{cells_at, task_of, patterns_of, start_of}
+use Rattle.task_record.specs.TaskOf.{cells_at, task_of, patterns_of, start_of, values_of}
 use Rattle.task_record.proofs.Soundness.{sound_cell}
 use Rattle.task_record.proofs.SoundTask.{variables_right}
 use Rattle.task_record.proofs.States.{start_good, good_checked}
 use Rattle.patterns.specs.Space.{entries_needed}
 use Rattle.patterns.specs.Estimate.{judge_estimate, estimate_check}
-use Rattle.patterns.specs.Value.{value_of, values_of, state_value}
+use Rattle.patterns.specs.Value.{value_of, state_value}
 use Rattle.patterns.proofs.Built.{call_on_built}
 use Rattle.patterns.proofs.Refusals.{after_ok, ready_means}
 use Rattle.patterns.proofs.Room.{fits_small}

@@ -12,6 +12,7 @@ ghost use Rattle.report.specs.Report.{refusal_lines, value_line, found_lines, sp
 ghost use Rattle.report.specs.Writing.{Puts};
 
 use crate::lines::Lines;
+use patterns::entry::Entry;
 use patterns::value::state_value;
 use task_record::cells::start_cells;
 use task_record::refusal::Refusal;
@@ -41,7 +42,7 @@ fn put_value(lines: &mut Lines<'_>, value: Result<Option<u64>, Refusal>)
 }
 
 // The value of the start, from tables that a search left.
-pub(crate) fn put_start_value(lines: &mut Lines<'_>, rec: &[u8], tables: &[u16])
+pub(crate) fn put_start_value(lines: &mut Lines<'_>, rec: &[u8], tables: &[Entry])
     requires { lines.old.at ≡ 0 }
     ensures written { (v : ℕ∞) → state_value rec.now (cells_at rec.now at_start) tables.now ≡ Ok (value_of v) → Puts (value_line v) lines.old lines.new }
     ensures short { lines.new.at ≤ 53 }

@@ -7,6 +7,7 @@ ghost use Rattle.report.specs.Writing.{Puts, overwritten};
 
 use crate::answers::{put_count, put_found, put_refusal, put_spent, put_start_value};
 use crate::lines::Lines;
+use patterns::entry::Entry;
 use reader::text::read_text;
 use search::entry::{SearchAnswer, search};
 use task_record::layout::RECORD_SIZE;
@@ -14,7 +15,7 @@ use task_record::layout::RECORD_SIZE;
 // The lines of a record.
 // Stays: `lines.at ≡ 0`, here, in `report` and at a start's value: it says where lines begin, and holds of no `Lines` afterwards.
 // Stays: `as` at the plan's length, since a word has no `From` into an index, and `try_from` would have a case that never comes.
-fn report_record(rec: &[u8], tables: &mut [u16], plan: &mut [u8], lines: &mut Lines<'_>)
+fn report_record(rec: &[u8], tables: &mut [Entry], plan: &mut [u8], lines: &mut Lines<'_>)
     requires { lines.old.at ≡ 0 }
     ensures written { Puts (record_lines (length tables.old) (length plan.old) rec.now) lines.old lines.new }
     ensures tables { tables.new ≡ tables_prepared rec.now tables.old }
@@ -44,7 +45,7 @@ fn report_record(rec: &[u8], tables: &mut [u16], plan: &mut [u8], lines: &mut Li
 
 // The lines of a text.
 // Stays: an array for the record, since there is no heap.
-fn report_lines(text: &[u8], tables: &mut [u16], plan: &mut [u8], lines: &mut Lines<'_>)
+fn report_lines(text: &[u8], tables: &mut [Entry], plan: &mut [u8], lines: &mut Lines<'_>)
     requires { lines.old.at ≡ 0 }
     ensures written { Puts (printed (length tables.old) (length plan.old) text.now) lines.old lines.new }
     ensures tables { tables.new ≡ tables_left text.now tables.old }
@@ -60,7 +61,7 @@ fn report_lines(text: &[u8], tables: &mut [u16], plan: &mut [u8], lines: &mut Li
 
 // Reads the text, searches with the lent tables and plan, and puts the lines into `out` as far as it reaches. Answers how many bytes the
 // lines have: four for each byte of the plan and 256 are always enough.
-pub fn report_text(text: &[u8], tables: &mut [u16], plan: &mut [u8], out: &mut [u8]) -> usize
+pub fn report_text(text: &[u8], tables: &mut [Entry], plan: &mut [u8], out: &mut [u8]) -> usize
     ensures { (result ≡ length (printed (length tables.old) (length plan.old) text.now))
         × (out.new ≡ overwritten (printed (length tables.old) (length plan.old) text.now) out.old)
         × (tables.new ≡ tables_left text.now tables.old)

@@ -29,19 +29,19 @@ shift_bytes (suc b) = let e : 8 * suc b ≡ 8 + 8 * b = omega arith in let f : 2
     rw (e, f, pow-add 2 8 (8 * b), pow-add 16 2 (2 * b), shift_bytes b)
 
 -- One block more, and the end of the blocks.
-pub blocks_add : (places : List ℕ) (at j n i w s whole : ℕ) → j < n → w ≡ get_or places (at + 256 * j + s % 256) 0 →
-    whole ≡ i + block_sum places (at + 256 * j) (n - j) s → whole ≡ i + w + block_sum places (at + 256 * (j + 1)) (n - (j + 1)) (s / 256)
+pub blocks_add : (sums : List ℕ) (at j n i w s whole : ℕ) → j < n → w ≡ get_or sums (at + 256 * j + s % 256) 0 →
+    whole ≡ i + block_sum sums (at + 256 * j) (n - j) s → whole ≡ i + w + block_sum sums (at + 256 * (j + 1)) (n - (j + 1)) (s / 256)
 unfolding block_sum
-blocks_add places at j n i w s whole l e q = let m : n - j ≡ suc (n - (j + 1)) = omega arith in let a : at + 256 * (j + 1) ≡ at + 256 * j + 256 = omega arith in
+blocks_add sums at j n i w s whole l e q = let m : n - j ≡ suc (n - (j + 1)) = omega arith in let a : at + 256 * (j + 1) ≡ at + 256 * j + 256 = omega arith in
     q ∙ rw (m, a, e) (omega arith)
 
-pub blocks_whole : (places : List ℕ) (at j n i s whole : ℕ) → n ≤ j → whole ≡ i + block_sum places (at + 256 * j) (n - j) s → i ≡ whole
+pub blocks_whole : (sums : List ℕ) (at j n i s whole : ℕ) → n ≤ j → whole ≡ i + block_sum sums (at + 256 * j) (n - j) s → i ≡ whole
 unfolding block_sum
-blocks_whole places at j n i s whole l q = let m : n - j ≡ zero = omega arith in let r : whole ≡ i + 0 = rw m at q in omega arith
+blocks_whole sums at j n i s whole l q = let m : n - j ≡ zero = omega arith in let r : whole ≡ i + 0 = rw m at q in omega arith
 
 -- The blocks of a span give the index.
-module _ (ws places : List ℕ) (first count at : ℕ) (g : SpanAt ws places first count at) where
-  span_sum : (j n s : ℕ) → j + n ≡ count → weigh (drop (2 * (first + j)) ws) s ≡ block_sum places (at + 256 * j) n s
+module _ (ws sums : List ℕ) (first count at : ℕ) (g : SpanAt ws sums first count at) where
+  span_sum : (j n s : ℕ) → j + n ≡ count → weigh (drop (2 * (first + j)) ws) s ≡ block_sum sums (at + 256 * j) n s
   unfolding block_sum
   span_sum j zero s e = nothing_left ws (2 * (first + j)) s (λ u m. g.above u (omega arith))
   span_sum j (suc n) s e =
@@ -50,13 +50,13 @@ module _ (ws places : List ℕ) (first count at : ℕ) (g : SpanAt ws places fir
       rw (weigh_step ws (2 * (first + j)) s, weigh_step ws (2 * (first + j) + 1) (s / 16), v, q, a, (g.blocks j (omega arith)).block (s % 256) (omega arith), d, upper_digit s)
       (omega (arith, span_sum (j + 1) n (s / 256) (omega arith)))
 
-  pub span_index : (s : ℕ) → block_sum places at count (s / 2 ^ (8 * first)) ≡ weigh ws s
+  pub span_index : (s : ℕ) → block_sum sums at count (s / 2 ^ (8 * first)) ≡ weigh ws s
   span_index s = let a : first + 0 ≡ first = omega arith in let b : at + 256 * 0 ≡ at = omega arith in let z : 0 + 2 * first ≡ 2 * first = omega arith in
       let skipped = rw z at (digits_skipped ws 0 (2 * first) s (λ u l. g.below u (omega arith))) in
       let summed = rw (a, b) at (span_sum 0 count (s / 16 ^ (2 * first)) (omega arith)) in
       rw (shift_bytes first) (sym (skipped ∙ summed))
 
-pub blocks_start : (places : List ℕ) (at n s w : ℕ) → 1 ≤ n → w ≡ get_or places (at + s % 256) 0 → block_sum places at n s ≡ w + block_sum places (at + 256 * 1) (n - 1) (s / 256)
+pub blocks_start : (sums : List ℕ) (at n s w : ℕ) → 1 ≤ n → w ≡ get_or sums (at + s % 256) 0 → block_sum sums at n s ≡ w + block_sum sums (at + 256 * 1) (n - 1) (s / 256)
 unfolding block_sum
-blocks_start places at zero s w l e = absurd (omega arith)
-blocks_start places at (suc n) s w l e = let m : suc n - 1 ≡ n = omega arith in rw (m, e) refl
+blocks_start sums at zero s w l e = absurd (omega arith)
+blocks_start sums at (suc n) s w l e = let m : suc n - 1 ≡ n = omega arith in rw (m, e) refl

@@ -16,9 +16,9 @@ use Rattle.search.specs.declared.instance.Instance.{Instance}
 use Rattle.search.specs.declared.entry.SearchAnswer.TheVariants as outcome
 use Rattle.search.specs.Buffer.{Holds}
 use Rattle.patterns.specs.Value.{value_of}
-use Rattle.search.specs.Packed.{guided_examination, guided_value}
+use Rattle.search.specs.Packed.{instance_examination, instance_value}
 use Rattle.search.specs.Examination.{plan_size, plan_head}
-use Rattle.search.specs.Answer.{guided_rounds, answer_of, buffer_of, Replied, FoundBy, Left}
+use Rattle.search.specs.Answer.{instance_rounds, answer_of, buffer_of, Replied, FoundBy, Left}
 use Rattle.search.proofs.Endings.{Success}
 
 -- The rounds from d on: none left, or the next one; and how the next one ends them.
@@ -46,13 +46,13 @@ module _ (Y : System ℕ) (h : ℕ → ℕ∞) (budget limit s d c : ℕ) (x : p
     round_fails q = rounds_step l ∙ rw q
 
 -- A round that finds a plan: it has no more bytes than the budget has examinations, and is found again from the count 0.
-pub round_found : (instance : Instance) (s d c : ℕ) (x : planning.Answer) → x ≡ guided_rounds instance s d c → d ≤ instance.guide.limit → instance.guide.budget ≤ 1000000 →
-    (e n b : ℕ) → Success plan_size plan_head (guided_examination instance d s c) c instance.guide.budget e n b → FoundBy instance s x d e n
+pub round_found : (instance : Instance) (s d c : ℕ) (x : planning.Answer) → x ≡ instance_rounds instance s d c → d ≤ instance.constants.limit → instance.constants.budget ≤ 1000000 →
+    (e n b : ℕ) → Success plan_size plan_head (instance_examination instance d s c) c instance.constants.budget e n b → FoundBy instance s x d e n
 round_found instance s d c x w l m e n b q = let z : e ≡ c + (e - c) = omega (arith, q.counted) in record {
   plan = q.found;
-  is = round_finds (packed_system instance.task.now instance.guide.actions) (guided_value instance) instance.guide.budget instance.guide.limit s d c x w l e q.found q.is;
+  is = round_finds (packed_system instance.task.now instance.constants.actions) (instance_value instance) instance.constants.budget instance.constants.limit s d c x w l e q.found q.is;
   made = 0 + (e - c);
-  again = succeeded_anywhere (packed_system instance.task.now instance.guide.actions) (guided_value instance) instance.guide.budget d s q.found c (e - c) 0 (q.is ∙ ap (succeeded q.found) z) (omega (arith, q.budgeted));
+  again = succeeded_anywhere (packed_system instance.task.now instance.constants.actions) (instance_value instance) instance.constants.budget d s q.found c (e - c) 0 (q.is ∙ ap (succeeded q.found) z) (omega (arith, q.budgeted));
   sized = q.sized;
   short = omega (arith, q.short, q.budgeted, m);
   within = l;
@@ -145,5 +145,5 @@ module _ (n : ℕ) (new : List ℕ) (x : planning.Answer) where
         rw f.is (record { answer = rw (t, g); buffer = rw t (e ∙ rw (g, ← l) (filled_up (encode f.plan) mid b (omega (arith, h, g, l)))) })
 
 -- Rounds that may make as many examinations as any budget has are finished.
-pub always_ends : {instance : Instance} {s d c : ℕ} {x : planning.Answer} {C : Type 0} → instance.guide.budget ≤ 1000000 → Left instance s x 1000000 d c → C
+pub always_ends : {instance : Instance} {s d c : ℕ} {x : planning.Answer} {C : Type 0} → instance.constants.budget ≤ 1000000 → Left instance s x 1000000 d c → C
 always_ends b h = absurd (omega (arith, b, h.counted, h.many))

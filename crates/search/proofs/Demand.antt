@@ -14,13 +14,13 @@ use Rattle.planning.proofs.Estimate.{estimate_admissible}
 use Rattle.task_record.specs.Numbers.{limit_of, budget_of}
 use Rattle.task_record.specs.Record.{Sound}
 use Rattle.task_record.specs.State.{state_check}
-use Rattle.task_record.specs.TaskOf.{task_of, patterns_of, start_of}
+use Rattle.task_record.specs.TaskOf.{task_of, patterns_of, start_of, values_of}
 use Rattle.task_record.proofs.States.{checked_good}
 use Rattle.task_record.proofs.SoundTask.{actions_right, sound_well_formed, sound_start}
 use Rattle.patterns.specs.Space.{entries_needed}
 use Rattle.patterns.specs.Estimate.{estimate_check}
 use Rattle.tables.specs.RecordTables.{tables_built, tables_prepared}
-use Rattle.patterns.specs.Value.{value_of, values_of, state_value}
+use Rattle.patterns.specs.Value.{value_of, state_value}
 use Rattle.tables.proofs.BuiltTables.{buildable_built, prepared_as_built, value-after_build, finite_after_build, infinite_after_build}
 use Rattle.patterns.proofs.Reading.{actions_length}
 use Rattle.patterns.proofs.Refusals.{checked_ready}
@@ -52,11 +52,11 @@ module _ (r tabs s : List ℕ) where
   pub infinite_sum_no_plan : state_value r s (tables_built r tabs) ≡ Ok None → (p : Plan) → Strong (system (task_of r)) p (values_of r s) → ⊥
   infinite_sum_no_plan = infinite_after_build r tabs s
 
--- The same of the sum that the search is guided by, at every state of the task.
-pub guide_at_most_cost : (r : List ℕ) → Sound r → Additive (task_of r) (patterns_of r) → (p : Plan) (s : List ℕ) → State (task_of r) s →
+-- The same of the estimate that the search cuts by, at every state of the task.
+pub estimate_at_most_cost : (r : List ℕ) → Sound r → Additive (task_of r) (patterns_of r) → (p : Plan) (s : List ℕ) → State (task_of r) s →
     Strong (system (task_of r)) p s →
     T (estimate (task_of r) (patterns_of r) s ≤? cost (system (task_of r)) p)
-guide_at_most_cost r sound add = estimate_admissible (task_of r) (sound_well_formed r sound) (patterns_of r) add
+estimate_at_most_cost r sound add = estimate_admissible (task_of r) (sound_well_formed r sound) (patterns_of r) add
 
 -- The search, lent tables and a buffer that hold anything.
 module _ (r tabs buffer : List ℕ) where

@@ -26,28 +26,28 @@ pub record Success {A : Type 0} (size head : A → ℕ) (x : Result A) (c budget
   pub short : n ≤ e - c
 
 module _ {A : Type 0} {size head : A → ℕ} {r : ℕ → ℕ → ℕ → Result Plan} {budget c : ℕ} {memory : List Slot} where
-  pub told_success : (x : Result A) (e n b : ℕ) → Examines size head r budget x c memory (Succeeded e n b) → Success size head x c budget e n b
+  pub success_of_ending : (x : Result A) (e n b : ℕ) → Examines size head r budget x c memory (Succeeded e n b) → Success size head x c budget e n b
   unfolding ending_of visit_count size_by
-  told_success (succeeded a i) e n b h =
+  success_of_ending (succeeded a i) e n b h =
       let q = h.ending in
       let u : i ≡ e = cc in
       let v : size a ≡ n = cc in
       let w : head a ≡ b = cc in
       record { found = a; is = ap (succeeded a) u; sized = v; headed = w; counted = omega (arith, h.counted); budgeted = omega (arith, h.budgeted); short = omega (arith, h.short) }
-  told_success (failed i) e n b h = let q = h.ending in let z : ◌≡◌ {A = ℕ} 0 1 = cc in absurd (omega arith)
-  told_success (stopped i) e n b h = let q = h.ending in let z : ◌≡◌ {A = ℕ} 0 1 = cc in absurd (omega arith)
+  success_of_ending (failed i) e n b h = let q = h.ending in let z : ◌≡◌ {A = ℕ} 0 1 = cc in absurd (omega arith)
+  success_of_ending (stopped i) e n b h = let q = h.ending in let z : ◌≡◌ {A = ℕ} 0 1 = cc in absurd (omega arith)
 
-  pub told_failure : (x : Result A) (e : ℕ) → Examines size head r budget x c memory (Failed e) → (x ≡ failed e) × (c ≤ e) × (e ≤ budget)
+  pub failure_of_ending : (x : Result A) (e : ℕ) → Examines size head r budget x c memory (Failed e) → (x ≡ failed e) × (c ≤ e) × (e ≤ budget)
   unfolding ending_of visit_count
-  told_failure (succeeded a i) e h = let q = h.ending in let z : ◌≡◌ {A = ℕ} 0 1 = cc in absurd (omega arith)
-  told_failure (failed i) e h = let q = h.ending in let u : i ≡ e = cc in (ap failed u, omega (arith, h.counted), omega (arith, h.budgeted))
-  told_failure (stopped i) e h = let q = h.ending in let z : ◌≡◌ {A = ℕ} 0 1 = cc in absurd (omega arith)
+  failure_of_ending (succeeded a i) e h = let q = h.ending in let z : ◌≡◌ {A = ℕ} 0 1 = cc in absurd (omega arith)
+  failure_of_ending (failed i) e h = let q = h.ending in let u : i ≡ e = cc in (ap failed u, omega (arith, h.counted), omega (arith, h.budgeted))
+  failure_of_ending (stopped i) e h = let q = h.ending in let z : ◌≡◌ {A = ℕ} 0 1 = cc in absurd (omega arith)
 
-  pub told_stop : (x : Result A) (e : ℕ) → Examines size head r budget x c memory (Stopped e) → (x ≡ stopped e) × (c ≤ e) × (e ≤ budget)
+  pub stop_of_ending : (x : Result A) (e : ℕ) → Examines size head r budget x c memory (Stopped e) → (x ≡ stopped e) × (c ≤ e) × (e ≤ budget)
   unfolding ending_of visit_count
-  told_stop (succeeded a i) e h = let q = h.ending in let z : ◌≡◌ {A = ℕ} 0 1 = cc in absurd (omega arith)
-  told_stop (failed i) e h = let q = h.ending in let z : ◌≡◌ {A = ℕ} 0 1 = cc in absurd (omega arith)
-  told_stop (stopped i) e h = let q = h.ending in let u : i ≡ e = cc in (ap stopped u, omega (arith, h.counted), omega (arith, h.budgeted))
+  stop_of_ending (succeeded a i) e h = let q = h.ending in let z : ◌≡◌ {A = ℕ} 0 1 = cc in absurd (omega arith)
+  stop_of_ending (failed i) e h = let q = h.ending in let z : ◌≡◌ {A = ℕ} 0 1 = cc in absurd (omega arith)
+  stop_of_ending (stopped i) e h = let q = h.ending in let u : i ≡ e = cc in (ap stopped u, omega (arith, h.counted), omega (arith, h.budgeted))
 
 -- The other way.
 module _ {A : Type 0} (size head : A → ℕ) {r : ℕ → ℕ → ℕ → Result Plan} {budget c e : ℕ} {memory : List Slot} {x : Result A} (m : Remembers r budget memory) (l : c ≤ e) (k : e ≤ budget) where

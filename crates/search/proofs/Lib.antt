@@ -7,7 +7,7 @@ pub mod EntrySums
 -- The index by bytes is the index.
 pub mod ByteSums
 -- Filling the blocks by which an index is looked up.
-pub mod PlacesFilled
+pub mod BlocksFilled
 -- Filling the weights.
 pub mod WeightsFilled
 -- Weights give planning's index and value.

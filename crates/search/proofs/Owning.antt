@@ -1,16 +1,18 @@
 -- Laws of owners: an outcome that names no variable of a pattern leaves every word's index in it, and with additive patterns the pattern
 -- that an action touches is its only one. Assumes nothing.
-use Rattle.std.proofs.Common.{◌≡◌, ℕ, zero, suc, ◌+◌, ◌*◌, ◌/◌, ◌%◌, ◌<◌, ◌≤◌, Bool, true, false, cond, not, ◌&&◌, ◌||◌, T, eqb, List, [], ◌∷◌, length, get_or, drop, set, sym, refl, ap, ◌∙◌, subst, ap₂, inl, inr, add-zero, mod-eq_of_lt, zero-add, add-one, arith, length-set, get_or-set_other, get_or-set_same}
+use Rattle.std.proofs.Common.{◌≡◌, ℕ, zero, suc, ◌+◌, ◌*◌, ◌/◌, ◌%◌, ◌<◌, ◌≤◌, Bool, true, false, cond, not, ◌&&◌, ◌||◌, T, eqb, List, [], ◌∷◌, length, get_or, drop, set, sym, refl, ap, ◌∙◌, subst, ap₂, add-zero, mod-eq_of_lt, zero-add, add-one, arith, length-set, get_or-set_other, get_or-set_same}
 use Rattle.std.specs.List.{list_any, range_with_len}
 use native.Mathlib.Decide.{ℕ_discrete}
 use lib.Arith.{digits_div, digits_mod}
 use lib.Bits.{bit_and, bit_or, and_block, or_block, or_lt, and_le_l, and_mask, and_zero_r, or_zero_r}
-use Rattle.planning.specs.Finite.{Some, some_of, any_from}
+use Rattle.planning.specs.Finite.{some_of, any_from}
 use Rattle.planning.specs.Task.{no_action, action_at}
-use Rattle.planning.specs.Pattern.{affects, affects_pattern, affected_from, Additive}
+use Rattle.planning.specs.Pattern.{counted, affects, affects_pattern, affected_from, Additive}
 use Rattle.planning.proofs.Test.{by_test}
 use Rattle.planning.proofs.Finite.{all_at, not_some_of, length-tabulate, get_or_tabulate}
+use Rattle.planning.proofs.Pattern.{length_counted}
 use Rattle.planning.proofs.Verdict.{affected_all}
+use Rattle.planning.proofs.Owners.{one_alone}
 use Rattle.packed_task.specs.Packed.{pack_by, picking, leaving, setting, outcome_count, keep_mask, set_value, compiled}
 use Rattle.tables.specs.Steps.{weigh, weights_from}
 use Rattle.packed_task.proofs.Packing.{digits_equal, leaving-digit, setting-digit}
@@ -114,14 +116,6 @@ not_not : (b : Bool) → not (not b) ≡ b
 not_not true = refl
 not_not false = refl
 
--- Patterns of which an action affects at most one.
-one_alone : (l : List ℕ) (i j : ℕ) → length l ≤ 1 → Some (λ x. x ≡ 0 + i) l → Some (λ x. x ≡ 0 + j) l → i ≡ j
-one_alone [] i j n s u = absurd s
-one_alone (x ∷ []) i j n (inl a) (inl b) = omega arith
-one_alone (x ∷ []) i j n (inl a) (inr b) = absurd b
-one_alone (x ∷ []) i j n (inr a) u = absurd a
-one_alone (x ∷ (y ∷ l)) i j n s u = absurd (omega arith)
-
 module _ (r : List ℕ) (sound : Sound r) where
   outcome_long : (m k : ℕ) → m < action_count r → k < record-numbers.outcome_count r m → length (cells_at r (at_outcome m k)) ≡ 16
   outcome_long m k l b = let n = sound_length r sound in let a = actions_right r sound in let o = outcomes_right r sound m l in length_of_part r 16 (at_outcome m k) (omega arith)
@@ -135,32 +129,41 @@ module _ (r : List ℕ) (sound : Sound r) where
   outcomes_number m l = rw (action_at_lem r m l) (length-tabulate (λ j. cells_at r (at_outcome m j)) 0 (record-numbers.outcome_count r m))
 
   module _ (m : ℕ) (l : m < action_count r) where
-    module _ (k : ℕ) (b : k < record-numbers.outcome_count r m) where
-      kept_word : keep_mask (compiled (task_of r)) m k ≡ pack_by leaving (cells_at r (at_outcome m k))
-      kept_word = let o = outcomes_right r sound m l in let n = outcomes_number m l in
-          keep_mask_is (task_of r) (sound_packable r sound).actions_few m (rw (actions_length r) l) (omega arith) k (omega arith) ∙ ap (pack_by leaving) (outcome_is m k l b)
+    -- The assignments of outcome k that count: the words are theirs.
+    abbrev remaining : ℕ → List ℕ
+    remaining k = counted (action_at (task_of r) m).precondition (get_or (action_at (task_of r) m).outcomes k [])
 
-      set_word : set_value (compiled (task_of r)) m k ≡ pack_by setting (cells_at r (at_outcome m k))
+    module _ (k : ℕ) (b : k < record-numbers.outcome_count r m) where
+      remaining_long : length (remaining k) ≡ 16
+      remaining_long = length_counted (action_at (task_of r) m).precondition _ ∙ ap length (outcome_is m k l b) ∙ outcome_long m k l b
+
+      kept_word : keep_mask (compiled (task_of r)) m k ≡ pack_by leaving (remaining k)
+      kept_word = let o = outcomes_right r sound m l in let n = outcomes_number m l in
+          keep_mask_is (task_of r) (sound_packable r sound).actions_few m (rw (actions_length r) l) (omega arith) k (omega arith)
+
+      set_word : set_value (compiled (task_of r)) m k ≡ pack_by setting (remaining k)
       set_word = let o = outcomes_right r sound m l in let n = outcomes_number m l in
-          set_value_is (task_of r) (sound_packable r sound).actions_few m (rw (actions_length r) l) (omega arith) k (omega arith) ∙ ap (pack_by setting) (outcome_is m k l b)
+          set_value_is (task_of r) (sound_packable r sound).actions_few m (rw (actions_length r) l) (omega arith) k (omega arith)
 
     touches_is : (p : List ℕ) → length p ≤ 16 → touches (compiled (task_of r)) (pack_by picking p) m ≡ affects_pattern (action_at (task_of r) m) p
     unfolding touches affects_pattern
     touches_is p n = rw (outcome_count_is (task_of r) (sound_packable r sound).actions_few m (rw (actions_length r) l))
-        (any_some (affects p) (λ o. not (eqb (bit_and (keep_mask (compiled (task_of r)) m o) (pack_by picking p)) (pack_by picking p))) (action_at (task_of r) m).outcomes [] 0
-        (λ k b. let c : k < record-numbers.outcome_count r m = rw (outcomes_number m l) at b in let w = outcome_long m k l c in
-        rw (zero-add k, kept_word k c, outcome_is m k l c, kept_is p (cells_at r (at_outcome m k)) (omega arith)) (not_not _)))
+        (any_some (λ o. affects p (counted (action_at (task_of r) m).precondition o))
+        (λ o. not (eqb (bit_and (keep_mask (compiled (task_of r)) m o) (pack_by picking p)) (pack_by picking p))) (action_at (task_of r) m).outcomes [] 0
+        (λ k b. let c : k < record-numbers.outcome_count r m = rw (outcomes_number m l) at b in let w = remaining_long k c in
+        rw (zero-add k, kept_word k c, kept_is p (remaining k) (omega arith)) (not_not _)))
 
-    -- What does not affect a pattern leaves every word's index in it.
+    -- What does not affect a pattern leaves every word's index in it, whether the word permits the action or not.
     word_unmoved : (p : List ℕ) (k s : ℕ) → k < record-numbers.outcome_count r m → affects_pattern (action_at (task_of r) m) p ≡ false →
         weigh (weights_from 1 (task_of r).sizes p) (bit_or (bit_and s (keep_mask (compiled (task_of r)) m k)) (set_value (compiled (task_of r)) m k)) ≡
         weigh (weights_from 1 (task_of r).sizes p) s
     unfolding affects_pattern
-    word_unmoved p k s b e = let v = (sound_packable r sound).variables_few in let w = outcome_long m k l b in let n = outcomes_number m l in
-        let t : T (not (affects p (get_or (action_at (task_of r) m).outcomes k []))) =
-        all_at (λ o. T (not (affects p o))) (action_at (task_of r) m).outcomes [] (not_some_of (affects p) (action_at (task_of r) m).outcomes (rw e tt)) k (omega arith) in
-        let u : affects p (cells_at r (at_outcome m k)) ≡ false = not_true_false _ (rw (outcome_is m k l b) at t) in
-        rw (kept_word k b, set_word k b) (weigh_unmoved 1 (task_of r).sizes p (cells_at r (at_outcome m k)) s (omega arith) u)
+    word_unmoved p k s b e = let v = (sound_packable r sound).variables_few in let w = remaining_long k b in let n = outcomes_number m l in
+        let t : T (not (affects p (remaining k))) =
+        all_at (λ o. T (not (affects p (counted (action_at (task_of r) m).precondition o)))) (action_at (task_of r) m).outcomes []
+        (not_some_of (λ o. affects p (counted (action_at (task_of r) m).precondition o)) (action_at (task_of r) m).outcomes (rw e tt)) k (omega arith) in
+        let u : affects p (remaining k) ≡ false = not_true_false _ t in
+        rw (kept_word k b, set_word k b) (weigh_unmoved 1 (task_of r).sizes p (remaining k) s (omega arith) u)
 
   -- Every pattern below p that an action affects is its owner.
   pub record Owning (owners : List ℕ) (p : ℕ) : Type 0 where

@@ -19,8 +19,8 @@ use Rattle.packed_task.specs.Packed.{pack_by, low, cells_of, packed_system, comp
 use Rattle.patterns.proofs.Built.{unit_weights}
 use Rattle.packed_task.proofs.Packing.{cells_pack}
 use Rattle.patterns.proofs.Reading.{patterns_length, actions_length}
-use Rattle.packed_task.specs.Sets.{spread, SetsOf, sets_filled}
-use Rattle.packed_task.proofs.ApplyingSets.{applying_enabled, spread-wide}
+use Rattle.packed_task.specs.Sets.{met_bytes, SetsOf, sets_filled}
+use Rattle.packed_task.proofs.ApplyingSets.{applying_enabled, met_bytes-wide}
 use Rattle.packed_task.proofs.SetsFilled.{filled-sets}
 use Rattle.packed_task.proofs.Simulating.{PackedState, packed_state, packed_simulates}
 use Rattle.packed_task.proofs.SoundPacked.{sound_packable, compiled_weight, compiled_outcomes_few}
@@ -60,18 +60,17 @@ module _ (r : List ℕ) (sound : Sound r) where
   pub sets-applying : (old : List ℕ) {task sets : List ℕ} → task ≡ compiled (task_of r) →
       sets ≡ sets_filled (compiled (task_of r)) 18446744073709551615 (action_count r) ((variable_count r + 1) / 2) old →
       Applying task sets (action_count r) ((variable_count r + 1) / 2)
-  unfolding packed_system
   sets-applying old {task} {sets} e f = record {
     set_is = λ s. rw (e, ← actions_length r) (applying_enabled (task_of r) (sound_packable r sound)
-        (2 * spread ((variable_count r + 1) / 2)) wide ((variable_count r + 1) / 2) sets refl filled s);
+        (2 * met_bytes ((variable_count r + 1) / 2)) wide ((variable_count r + 1) / 2) sets refl filled s);
   }
     where
-      wide : length (task_of r).sizes ≤ 2 * spread ((variable_count r + 1) / 2)
+      wide : length (task_of r).sizes ≤ 2 * met_bytes ((variable_count r + 1) / 2)
       wide = let n = sizes_number r sound in let k = (variables_right r sound).1 in
-          let h = spread-wide ((variable_count r + 1) / 2) (variable_count r) (omega arith) k in omega arith
+          let h = met_bytes-wide ((variable_count r + 1) / 2) (variable_count r) (omega arith) k in omega arith
 
-      filled : SetsOf (compiled (task_of r)) 18446744073709551615 (length (task_of r).actions) (spread ((variable_count r + 1) / 2)) sets
-      filled = let g : SetsOf (compiled (task_of r)) 18446744073709551615 (action_count r) (spread ((variable_count r + 1) / 2)) sets =
+      filled : SetsOf (compiled (task_of r)) 18446744073709551615 (length (task_of r).actions) (met_bytes ((variable_count r + 1) / 2)) sets
+      filled = let g : SetsOf (compiled (task_of r)) 18446744073709551615 (action_count r) (met_bytes ((variable_count r + 1) / 2)) sets =
           rw f (filled-sets (compiled (task_of r)) old 18446744073709551615 (action_count r) ((variable_count r + 1) / 2) (actions_right r sound)) in
           rw (actions_length r) g
 

@@ -6,8 +6,8 @@ use Rattle.planning.specs.Plan.{Plan, encode}
 use Rattle.planning.specs.Search.{Result, succeeded}
 use Rattle.search.specs.Buffer.{Keeps, Holds}
 use Rattle.search.specs.Examination.{plan_size}
-use Rattle.search.specs.Memory.{said, empty, Says, Noted, Remembers}
-use Rattle.search.proofs.Remembering.{nothing_said}
+use Rattle.search.specs.Memory.{stored, empty, Stores, Noted, Remembers}
+use Rattle.search.proofs.Remembering.{nothing_stored}
 use Rattle.search.specs.Written.{Stands, Copied, Written}
 use Rattle.search.proofs.Bytes.{keeps_stored}
 use Rattle.search.specs.declared.memory.Slot.{Slot}
@@ -29,9 +29,9 @@ module _ (r : ℕ → ℕ → ℕ → Result Plan) where
   pub nothing_stands : (n : ℕ) (plan : List ℕ) → 1 ≤ n → Stands r (replicate n empty) plan 0
   nothing_stands n plan l = record {
     long = omega (arith, length-replicate {A = Slot} n empty);
-    before = λ w h. absurd (nothing_said n w h);
-    sized = λ w h. absurd (nothing_said n w h);
-    holds = λ w h. absurd (nothing_said n w h);
+    before = λ w h. absurd (nothing_stored n w h);
+    sized = λ w h. absurd (nothing_stored n w h);
+    holds = λ w h. absurd (nothing_stored n w h);
   }
 
   module _ {written : List Slot} {plan : List ℕ} {at : ℕ} (v : Stands r written plan at) where
@@ -49,7 +49,7 @@ module _ (r : ℕ → ℕ → ℕ → Result Plan) where
     stands_stored new byte e = rw e (still_stands (set plan at byte) (at + 1) (keeps_stored at byte plan) (length-set plan at byte) (omega arith))
 
     -- The plan p of a state with a depth was written from `from` on, and noted.
-    pub stands_noted : (later : List Slot) (s d n from b k : ℕ) (p : Plan) → Noted written later (said s d n from b) → r d s 0 ≡ succeeded p k → plan_size p ≡ n → from + n ≤ at → Holds (encode p) from plan → Stands r later plan at
+    pub stands_noted : (later : List Slot) (s d n from b k : ℕ) (p : Plan) → Noted written later (stored s d n from b) → r d s 0 ≡ succeeded p k → plan_size p ≡ n → from + n ≤ at → Holds (encode p) from plan → Stands r later plan at
     stands_noted later s d n from b k p t e z l f = record {
       long = omega (arith, t.long, v.long);
       before = λ w h. ⊎_elim (λ a. v.before w a) (λ i. rw i l) (t.besides w h);
@@ -58,7 +58,7 @@ module _ (r : ℕ → ℕ → ℕ → Result Plan) where
     }
 
     -- A plan that stands is copied to `at`.
-    module _ (s d n from b k : ℕ) (p : Plan) (h : Says written (said s d n from b)) (e : r d s 0 ≡ succeeded p k) where
+    module _ (s d n from b k : ℕ) (p : Plan) (h : Stores written (stored s d n from b)) (e : r d s 0 ≡ succeeded p k) where
       pub stands_before : from + n ≤ at
       stands_before = v.before _ h
 

@@ -3,7 +3,7 @@
 use Rattle.std.proofs.Common.{◌≡◌, ℕ, suc, ◌+◌, ◌-◌, ◌<◌, ◌≤◌, List, [], ◌∷◌, length, get_or, take, drop, sym, refl, ◌∙◌, ap₂, add-zero, zero-add, arith, get_or-drop, drop-drop}
 use Rattle.planning.specs.Extended.{add∞}
 use Rattle.planning.specs.Task.{Task}
-use Rattle.planning.specs.Table.{index, state_count, cost_of, value}
+use Rattle.planning.specs.Table.{index, state_count, infinite_entry, cost_of, value}
 use Rattle.packed_task.specs.Packed.{cells_of}
 use Rattle.packed_task.specs.Packable.{Packable}
 use Rattle.patterns.specs.Space.{entries_needed}
@@ -39,7 +39,7 @@ module _ (t : Task) (k : Packable t) (ps weights : List (List ℕ)) (offsets : L
         let d : q ≡ get_or ps p [] = rw e at (g 0 (omega arith)) in
         ap₂ (λ x y. add∞ (cost_of x) y)
         (rw (a, add-zero b, packed_index s p o (omega arith), ← d)
-        (sym (get_or-drop b tabs (index t.sizes q (cells_of (length t.sizes) s)) 65535)))
+        (sym (get_or-drop b tabs (index t.sizes q (cells_of (length t.sizes) s)) infinite_entry)))
         (rw (drop-drop (state_count t.sizes q) b tabs) (sum_value qs (p + 1) (b + state_count t.sizes q)
         (λ i m. let n : p + 1 + i ≡ p + suc i = omega arith in rw n (g (suc i) (omega arith)))
         (λ i m. let n : p + 1 + i ≡ p + suc i = omega arith in rw n (h (suc i) (omega arith) ∙ omega arith))

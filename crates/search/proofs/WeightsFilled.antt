@@ -12,9 +12,9 @@ use Rattle.task_record.proofs.SoundTask.{sizes_length}
 use Rattle.patterns.specs.Space.{all_sizes, entries_needed}
 use Rattle.patterns.proofs.Reading.{patterns_length, pattern_at}
 use Rattle.patterns.proofs.Sizes.{sixteen_sizes, sizes_taken}
-use Rattle.tables.specs.Steps.{weights_from, Sized}
+use Rattle.tables.specs.Steps.{weights_from, Bounded}
 use Rattle.tables.proofs.Spacing.{length_weights, Weighing, weighing_step, weighing_end, weighing_small}
-use Rattle.tables.proofs.TableChain.{pattern_sized}
+use Rattle.tables.proofs.TableChain.{pattern_bounded}
 use Rattle.search.specs.Weights.{pattern_weights, WeightsOf}
 
 -- Below a place and the next one, but not that place.
@@ -33,8 +33,8 @@ module _ (r : List ℕ) (sound : Sound r) where
     pattern_small = rw (pattern_at r p l) at
         (all_at (λ q. state_count (task_of r).sizes q ≤ 4096) (patterns_of r) [] small p (rw (patterns_length r) l))
 
-    sized_here : Sized (all_sizes r) (cells_at r (at_pattern p)) (variable_count r)
-    sized_here = pattern_sized r sound (all_sizes r) (sixteen_sizes r (all_sizes r) refl) (cells_at r (at_pattern p)) pattern_small
+    sized_here : Bounded (all_sizes r) (cells_at r (at_pattern p)) (variable_count r)
+    sized_here = pattern_bounded r sound (all_sizes r) (sixteen_sizes r (all_sizes r) refl) (cells_at r (at_pattern p)) pattern_small
 
     -- Variables below v have their weights, and w is the weight of the next one in the pattern.
     abbrev pub Filling : List ℕ → ℕ → ℕ → Type 0

@@ -18,14 +18,14 @@ use Rattle.search.specs.declared.instance.Instance.{Instance}
 use Rattle.search.specs.declared.examine.Ending.TheVariants.{Stopped, Failed, Succeeded}
 use Rattle.search.specs.Buffer.{Keeps, Holds}
 use Rattle.search.specs.Examination.{plan_size, plan_head, plans_size}
-use Rattle.search.specs.Memory.{said, Says, Noted, Remembers}
-use Rattle.search.specs.Packed.{guided_examination, guided_opening, guided_value}
+use Rattle.search.specs.Memory.{stored, Stores, Noted, Remembers}
+use Rattle.search.specs.Packed.{instance_examination, instance_opening, instance_value}
 use Rattle.search.specs.Value.{Estimated}
 use Rattle.search.specs.Cycle.{Examinable, Examines}
 use Rattle.search.specs.Written.{Stands, Succeeding, Starts, Writable, Written, Writes}
 use Rattle.search.proofs.Bytes.{keeps_itself, keeps_trans, keeps_stored, holds_stored, holds_nothing, holds_joined}
 use Rattle.search.proofs.Openings.{packed_invariant, spent_stops, arrived_succeeds, cut_fails, expand_facts, opened_below, packed_goal, arrived_not_spent, expand_tries_all, successors_step, successors_end}
-use Rattle.search.proofs.Endings.{Success, told_success, told_failure, told_stop, arrived_size, arrived_head}
+use Rattle.search.proofs.Endings.{Success, success_of_ending, failure_of_ending, stop_of_ending, arrived_size, arrived_head}
 use Rattle.search.proofs.Trying.{not_zero}
 use Rattle.search.proofs.Standing.{same_plan, stands_stored, stands_noted}
 use Rattle.search.specs.declared.memory.Slot.{Slot}
@@ -36,8 +36,8 @@ stop_no_success a b = let z : ◌≡◌ {A = ℕ} 0 1 = cc in omega arith
 failure_no_success : {x : Result Plan} {p : Plan} {i j : ℕ} → x ≡ failed i → x ≡ succeeded p j → ⊥
 failure_no_success a b = let z : ◌≡◌ {A = ℕ} 0 1 = cc in omega arith
 
-plan_told : {x : Result Plan} {budget c e n b k : ℕ} {p : Plan} → Success plan_size plan_head x c budget e n b → x ≡ succeeded p k → (plan_size p ≡ n) × (plan_head p ≡ b) × (k ≤ budget)
-plan_told {e = e} {k = k} {p = p} q f = let g = sym q.is ∙ f in let z : q.found ≡ p = cc in let i : e ≡ k = cc in rw (← z) (q.sized, q.headed, omega (arith, q.budgeted, i))
+plan_begins : {x : Result Plan} {budget c e n b k : ℕ} {p : Plan} → Success plan_size plan_head x c budget e n b → x ≡ succeeded p k → (plan_size p ≡ n) × (plan_head p ≡ b) × (k ≤ budget)
+plan_begins {e = e} {k = k} {p = p} q f = let g = sym q.is ∙ f in let z : q.found ≡ p = cc in let i : e ≡ k = cc in rw (← z) (q.sized, q.headed, omega (arith, q.budgeted, i))
 
 -- A row of actions that succeeds: one of them does.
 record Winner (t : ℕ → ℕ → Result Plan) (bound : ℕ) (p : Plan) (e : ℕ) : Type 0 where
@@ -72,87 +72,87 @@ chosen_acts false b x j m c ps e h = let z : ◌≡◌ {A = ℕ} 0 1 = cc in abs
 pub record Acts (instance : Instance) (d s m : ℕ) (p : Plan) : Type 0 where
   pub rest : Plans
   pub is : p ≡ act m rest
-  pub within : m < instance.guide.actions
+  pub within : m < instance.constants.actions
   pub light : action_weight instance.task.now m ≤ d
   pub from : ℕ
   pub to : ℕ
-  pub succeeds : examine_outcomes (guided_examination instance (d - action_weight instance.task.now m)) ((packed_system instance.task.now instance.guide.actions).successors m s) from ≡ succeeded rest to
-  pub budgeted : to ≤ instance.guide.budget
+  pub succeeds : examine_outcomes (instance_examination instance (d - action_weight instance.task.now m)) ((packed_system instance.task.now instance.constants.actions).successors m s) from ≡ succeeded rest to
+  pub budgeted : to ≤ instance.constants.budget
 
-acting : {instance : Instance} {d s : ℕ} (j from m : ℕ) (ps : Plans) (e : ℕ) → e ≤ instance.guide.budget → j < instance.guide.actions →
-    (j ≡ m) × (leb (action_weight instance.task.now j) d ≡ true) × (examine_outcomes (guided_examination instance (d - action_weight instance.task.now j)) ((packed_system instance.task.now instance.guide.actions).successors j s) from ≡ succeeded ps e) → Acts instance d s m (act m ps)
+acting : {instance : Instance} {d s : ℕ} (j from m : ℕ) (ps : Plans) (e : ℕ) → e ≤ instance.constants.budget → j < instance.constants.actions →
+    (j ≡ m) × (leb (action_weight instance.task.now j) d ≡ true) × (examine_outcomes (instance_examination instance (d - action_weight instance.task.now j)) ((packed_system instance.task.now instance.constants.actions).successors j s) from ≡ succeeded ps e) → Acts instance d s m (act m ps)
 acting {instance} {d = d} j from m ps e l b t = rw (← t.0) (record { rest = ps; is = refl; within = b; light = leb-true (action_weight instance.task.now j) d t.1; from = from; to = e; succeeds = t.2; budgeted = l })
 
 module _ {instance : Instance} {memory : List Slot} {s d : ℕ} (x : Succeeding instance memory s d) where
-  opens : (m : ℕ) (ps : Plans) (e : ℕ) (o : Opening) → guided_opening instance d s 0 ≡ o → guided_examination instance d s 0 ≡ succeeded (act m ps) e → guided_opening instance d s 0 ≡ Opening.Expand
-  opens m ps e Opening.Spent o h = let q = sym h ∙ spent_stops _ (packed_invariant instance.task.now instance.guide.actions instance.guided.ready.weights) _ _ _ _ _ o in let z : ◌≡◌ {A = ℕ} 0 1 = cc in absurd (omega arith)
-  opens m ps e Opening.Arrived o h = let q = sym h ∙ arrived_succeeds _ (packed_invariant instance.task.now instance.guide.actions instance.guided.ready.weights) _ _ _ _ _ o in let z : ◌≡◌ {A = ℕ} 0 1 = cc in absurd (omega arith)
-  opens m ps e Opening.Cut o h = let q = sym h ∙ cut_fails _ (packed_invariant instance.task.now instance.guide.actions instance.guided.ready.weights) _ _ _ _ _ o in let z : ◌≡◌ {A = ℕ} 0 1 = cc in absurd (omega arith)
+  opens : (m : ℕ) (ps : Plans) (e : ℕ) (o : Opening) → instance_opening instance d s 0 ≡ o → instance_examination instance d s 0 ≡ succeeded (act m ps) e → instance_opening instance d s 0 ≡ Opening.Expand
+  opens m ps e Opening.Spent o h = let q = sym h ∙ spent_stops _ (packed_invariant instance.task.now instance.constants.actions instance.matching.ready.weights) _ _ _ _ _ o in let z : ◌≡◌ {A = ℕ} 0 1 = cc in absurd (omega arith)
+  opens m ps e Opening.Arrived o h = let q = sym h ∙ arrived_succeeds _ (packed_invariant instance.task.now instance.constants.actions instance.matching.ready.weights) _ _ _ _ _ o in let z : ◌≡◌ {A = ℕ} 0 1 = cc in absurd (omega arith)
+  opens m ps e Opening.Cut o h = let q = sym h ∙ cut_fails _ (packed_invariant instance.task.now instance.constants.actions instance.matching.ready.weights) _ _ _ _ _ o in let z : ◌≡◌ {A = ℕ} 0 1 = cc in absurd (omega arith)
   opens m ps e Opening.Expand o h = o
 
-  acts_so : (m : ℕ) (ps : Plans) (e : ℕ) → guided_examination instance d s 0 ≡ succeeded (act m ps) e → e ≤ instance.guide.budget → Acts instance d s m (act m ps)
+  acts_so : (m : ℕ) (ps : Plans) (e : ℕ) → instance_examination instance d s 0 ≡ succeeded (act m ps) e → e ≤ instance.constants.budget → Acts instance d s m (act m ps)
   unfolding try_action packed_system
   acts_so m ps e h l =
-      let o = opens m ps e (guided_opening instance d s 0) refl h in
-      let w = winner _ _ _ _ _ _ (sym (expand_tries_all instance.task.now instance.guide.actions _ _ _ _ _ instance.guided.ready.weights o) ∙ h) in
+      let o = opens m ps e (instance_opening instance d s 0) refl h in
+      let w = winner _ _ _ _ _ _ (sym (expand_tries_all instance.task.now instance.constants.actions _ _ _ _ _ instance.matching.ready.weights o) ∙ h) in
       acting w.action w.count m ps e l (omega (arith, w.below))
-      (chosen_acts (applies (packed_system instance.task.now instance.guide.actions) w.action s) (leb (action_weight instance.task.now w.action) d) (examine_outcomes (guided_examination instance (d - action_weight instance.task.now w.action)) ((packed_system instance.task.now instance.guide.actions).successors w.action s) w.count) w.action m w.count ps e w.wins)
+      (chosen_acts (applies (packed_system instance.task.now instance.constants.actions) w.action s) (leb (action_weight instance.task.now w.action) d) (examine_outcomes (instance_examination instance (d - action_weight instance.task.now w.action)) ((packed_system instance.task.now instance.constants.actions).successors w.action s) w.count) w.action m w.count ps e w.wins)
 
   -- A goal's plan is one byte.
-  goal_told : (packed_system instance.task.now instance.guide.actions).goal s ≡ true → (o : Opening) → guided_opening instance d s 0 ≡ o → (p : Plan) (k : ℕ) → guided_examination instance d s 0 ≡ succeeded p k → (plan_size p ≡ 1) × (plan_head p ≡ 254) × (k ≤ instance.guide.budget)
-  goal_told g Opening.Spent o p k h = absurd (stop_no_success (spent_stops _ (packed_invariant instance.task.now instance.guide.actions instance.guided.ready.weights) _ _ _ _ _ o) h)
-  goal_told g Opening.Cut o p k h = absurd (failure_no_success (cut_fails _ (packed_invariant instance.task.now instance.guide.actions instance.guided.ready.weights) _ _ _ _ _ o) h)
-  goal_told g Opening.Expand o p k h = let n = (expand_facts _ (packed_invariant instance.task.now instance.guide.actions instance.guided.ready.weights) _ _ _ _ _ o (omega arith)).1 in let z : ◌≡◌ {A = ℕ} 0 1 = cc in absurd (omega arith)
-  goal_told g Opening.Arrived o p k h = let I = packed_invariant instance.task.now instance.guide.actions instance.guided.ready.weights in let q = sym (arrived_succeeds _ I _ _ _ _ _ o) ∙ h in let e : arrived ≡ p = cc in let n : suc 0 ≡ k = cc in
+  goal_begins : (packed_system instance.task.now instance.constants.actions).goal s ≡ true → (o : Opening) → instance_opening instance d s 0 ≡ o → (p : Plan) (k : ℕ) → instance_examination instance d s 0 ≡ succeeded p k → (plan_size p ≡ 1) × (plan_head p ≡ 254) × (k ≤ instance.constants.budget)
+  goal_begins g Opening.Spent o p k h = absurd (stop_no_success (spent_stops _ (packed_invariant instance.task.now instance.constants.actions instance.matching.ready.weights) _ _ _ _ _ o) h)
+  goal_begins g Opening.Cut o p k h = absurd (failure_no_success (cut_fails _ (packed_invariant instance.task.now instance.constants.actions instance.matching.ready.weights) _ _ _ _ _ o) h)
+  goal_begins g Opening.Expand o p k h = let n = (expand_facts _ (packed_invariant instance.task.now instance.constants.actions instance.matching.ready.weights) _ _ _ _ _ o (omega arith)).1 in let z : ◌≡◌ {A = ℕ} 0 1 = cc in absurd (omega arith)
+  goal_begins g Opening.Arrived o p k h = let I = packed_invariant instance.task.now instance.constants.actions instance.matching.ready.weights in let q = sym (arrived_succeeds _ I _ _ _ _ _ o) ∙ h in let e : arrived ≡ p = cc in let n : suc 0 ≡ k = cc in
       let b = opened_below _ I _ _ _ _ _ o arrived_not_spent (omega arith) in rw (← e) (arrived_size, arrived_head, omega arith)
 
-  pub goal_starts : {b : Bool} → b ≡ eqb (bit_and s (goal_mask instance.task.now)) (goal_value instance.task.now) → b ≡ true → Starts (guided_examination instance) instance.guide.budget d s memory 1 254
-  goal_starts e t = record { told = λ p k h. goal_told (packed_goal instance.task.now instance.guide.actions s e ∙ t) (guided_opening instance d s 0) refl p k h; remembers = x.remembers }
+  pub goal_starts : {b : Bool} → b ≡ eqb (bit_and s (goal_mask instance.task.now)) (goal_value instance.task.now) → b ≡ true → Starts (instance_examination instance) instance.constants.budget d s memory 1 254
+  goal_starts e t = record { begins = λ p k h. goal_begins (packed_goal instance.task.now instance.constants.actions s e ∙ t) (instance_opening instance d s 0) refl p k h; remembers = x.remembers }
 
   -- What the slot of the state says of its plan.
-  pub recalled_starts : {k n b : ℕ} → Says memory (said s d k n b) → k ≤ instance.guide.budget → Starts (guided_examination instance) instance.guide.budget d s memory n b
-  recalled_starts {k} {n} {b} h l = record { told = λ p j f. by_size p j f (ℕ_discrete n 0); remembers = x.remembers }
+  pub recalled_starts : {k n b : ℕ} → Stores memory (stored s d k n b) → k ≤ instance.constants.budget → Starts (instance_examination instance) instance.constants.budget d s memory n b
+  recalled_starts {k} {n} {b} h l = record { begins = λ p j f. by_size p j f (ℕ_discrete n 0); remembers = x.remembers }
     where
-      by_size : (p : Plan) (j : ℕ) → guided_examination instance d s 0 ≡ succeeded p j → Dec (n ≡ 0) → (plan_size p ≡ n) × (plan_head p ≡ b) × (j ≤ instance.guide.budget)
-      by_size p j f (yes z) = absurd (failure_no_success ((x.remembers.shown _ h).fails z 0 (omega arith)) f)
-      by_size p j f (no z) = let w = (x.remembers.shown _ h).wins (not_zero n z) in let q = sym (w.succeeds 0 (omega arith)) ∙ f in let e : w.plan ≡ p = cc in let i : 0 + k ≡ j = cc in
+      by_size : (p : Plan) (j : ℕ) → instance_examination instance d s 0 ≡ succeeded p j → Dec (n ≡ 0) → (plan_size p ≡ n) × (plan_head p ≡ b) × (j ≤ instance.constants.budget)
+      by_size p j f (yes z) = absurd (failure_no_success ((x.remembers.correct _ h).fails z 0 (omega arith)) f)
+      by_size p j f (no z) = let w = (x.remembers.correct _ h).wins (not_zero n z) in let q = sym (w.succeeds 0 (omega arith)) ∙ f in let e : w.plan ≡ p = cc in let i : 0 + k ≡ j = cc in
           rw (← e) (w.sized, w.headed, omega arith)
 
   -- It may be examined, with any number that stands for its value.
-  pub again_examinable : {value : ℕ} → Estimated (guided_value instance s) value → Examinable instance memory s value d 0
+  pub again_examinable : {value : ℕ} → Estimated (instance_value instance s) value → Examinable instance memory s value d 0
   again_examinable e = record { remembers = x.remembers; within = omega arith; shallow = x.shallow; valued = e }
 
   -- What examining it again answers.
-  module _ {later : List Slot} {a : Ending} (h : Examines plan_size plan_head (guided_examination instance) instance.guide.budget (guided_examination instance d s 0) 0 later a) where
+  module _ {later : List Slot} {a : Ending} (h : Examines plan_size plan_head (instance_examination instance) instance.constants.budget (instance_examination instance d s 0) 0 later a) where
     pub never_stops : {e : ℕ} → a ≡ Stopped e → ⊥
-    never_stops {e} f = stop_no_success (told_stop (guided_examination instance d s 0) e (rw f at h)).0 x.is
+    never_stops {e} f = stop_no_success (stop_of_ending (instance_examination instance d s 0) e (rw f at h)).0 x.is
 
     pub never_fails : {e : ℕ} → a ≡ Failed e → ⊥
-    never_fails {e} f = failure_no_success (told_failure (guided_examination instance d s 0) e (rw f at h)).0 x.is
+    never_fails {e} f = failure_no_success (failure_of_ending (instance_examination instance d s 0) e (rw f at h)).0 x.is
 
-    pub examined_starts : {e n b : ℕ} → a ≡ Succeeded e n b → Starts (guided_examination instance) instance.guide.budget d s later n b
-    examined_starts {e} {n} {b} f = record { told = λ p k g. plan_told (told_success (guided_examination instance d s 0) e n b (rw f at h)) g; remembers = h.remembers }
+    pub examined_starts : {e n b : ℕ} → a ≡ Succeeded e n b → Starts (instance_examination instance) instance.constants.budget d s later n b
+    examined_starts {e} {n} {b} f = record { begins = λ p k g. plan_begins (success_of_ending (instance_examination instance d s 0) e n b (rw f at h)) g; remembers = h.remembers }
 
-  acts_by : (p : Plan) (e b m : ℕ) → guided_examination instance d s 0 ≡ succeeded p e → e ≤ instance.guide.budget → plan_head p ≡ b → m ≡ b → (b ≡ 254 → ⊥) → Acts instance d s m p
+  acts_by : (p : Plan) (e b m : ℕ) → instance_examination instance d s 0 ≡ succeeded p e → e ≤ instance.constants.budget → plan_head p ≡ b → m ≡ b → (b ≡ 254 → ⊥) → Acts instance d s m p
   unfolding plan_head
   acts_by arrived e b m h l k f n = absurd (n (sym k))
   acts_by (act j ps) e b m h l k f n = rw (f ∙ sym k) (acts_so j ps e h l)
 
-  small_by : (p : Plan) (e b : ℕ) → guided_examination instance d s 0 ≡ succeeded p e → e ≤ instance.guide.budget → plan_head p ≡ b → b < 256
+  small_by : (p : Plan) (e b : ℕ) → instance_examination instance d s 0 ≡ succeeded p e → e ≤ instance.constants.budget → plan_head p ≡ b → b < 256
   unfolding plan_head
   small_by arrived e b h l k = omega arith
-  small_by (act j ps) e b h l k = let a = acts_so j ps e h l in omega (arith, k, a.within, instance.guided.ready.few_actions)
+  small_by (act j ps) e b h l k = let a = acts_so j ps e h l in omega (arith, k, a.within, instance.matching.ready.few_actions)
 
-  arrived_by : (p : Plan) (e b byte at : ℕ) (later written : List Slot) (old new : List ℕ) → guided_examination instance d s 0 ≡ succeeded p e → e ≤ instance.guide.budget → plan_head p ≡ b → b ≡ 254 → new ≡ set old at byte → byte ≡ b →
-      Remembers (guided_examination instance) instance.guide.budget later → Stands (guided_examination instance) written old at → Written (guided_examination instance) instance.guide.budget p at later written old new (at + 1)
+  arrived_by : (p : Plan) (e b byte at : ℕ) (later written : List Slot) (old new : List ℕ) → instance_examination instance d s 0 ≡ succeeded p e → e ≤ instance.constants.budget → plan_head p ≡ b → b ≡ 254 → new ≡ set old at byte → byte ≡ b →
+      Remembers (instance_examination instance) instance.constants.budget later → Stands (instance_examination instance) written old at → Written (instance_examination instance) instance.constants.budget p at later written old new (at + 1)
   unfolding plan_head encode
   arrived_by arrived e b byte at later written old new h l k n u v m t = rw (u, v, n) (record { after = refl; keeps = keeps_stored at 254 old; holds = holds_stored at 254 old; remembers = m; stands = stands_stored _ t _ _ refl })
-  arrived_by (act j ps) e b byte at later written old new h l k n u v m t = let a = acts_so j ps e h l in absurd (omega (arith, k, n, a.within, instance.guided.ready.few_actions))
+  arrived_by (act j ps) e b byte at later written old new h l k n u v m t = let a = acts_so j ps e h l in absurd (omega (arith, k, n, a.within, instance.matching.ready.few_actions))
 
   -- The plan by its start: its first byte is a byte, and its action one of the task's.
-  module _ {later : List Slot} {n b : ℕ} (t : Starts (guided_examination instance) instance.guide.budget d s later n b) where
-    start : (plan_size x.found ≡ n) × (plan_head x.found ≡ b) × (x.made ≤ instance.guide.budget)
-    start = t.told x.found x.made x.is
+  module _ {later : List Slot} {n b : ℕ} (t : Starts (instance_examination instance) instance.constants.budget d s later n b) where
+    start : (plan_size x.found ≡ n) × (plan_head x.found ≡ b) × (x.made ≤ instance.constants.budget)
+    start = t.begins x.found x.made x.is
 
     pub first_small : b < 256
     first_small = small_by x.found x.made b x.is start.2 start.1
@@ -160,8 +160,8 @@ module _ {instance : Instance} {memory : List Slot} {s d : ℕ} (x : Succeeding 
     pub acts : {m : ℕ} → m ≡ b → (b ≡ 254 → ⊥) → Acts instance d s m x.found
     acts {m} f o = acts_by x.found x.made b m x.is start.2 start.1 f o
 
-    pub arrived-written : {byte at : ℕ} {written : List Slot} {old new : List ℕ} → b ≡ 254 → new ≡ set old at byte → byte ≡ b → Stands (guided_examination instance) written old at → Writes instance d s at later written old new (at + 1)
-    arrived-written {byte} {at} {written} {old} {new} o u v q = λ p k f. let i = t.told p k f in arrived_by p k b byte at later written old new f i.2 i.1 o u v t.remembers q
+    pub arrived-written : {byte at : ℕ} {written : List Slot} {old new : List ℕ} → b ≡ 254 → new ≡ set old at byte → byte ≡ b → Stands (instance_examination instance) written old at → Writes instance d s at later written old new (at + 1)
+    arrived-written {byte} {at} {written} {old} {new} o u v q = λ p k f. let i = t.begins p k f in arrived_by p k b byte at later written old new f i.2 i.1 o u v t.remembers q
 
 -- In the middle of a row of plans, whose outcomes xs are left: they succeed, and their bytes from `end` on make the whole plan p at `at`.
 pub record Writing (r : ℕ → ℕ → Result Plan) (budget : ℕ) (xs : List ℕ) (p : Plan) (at end : ℕ) (old plan : List ℕ) : Type 0 where
@@ -179,7 +179,7 @@ pub record Writing (r : ℕ → ℕ → Result Plan) (budget : ℕ) (xs : List �
   pub finish : (new : List ℕ) → length new ≡ length plan → Keeps end plan new → Holds (encodes left) end new → Holds (encode p) at new
 
 writing_begins : (instance : Instance) (d s m b byte n l at : ℕ) (p : Plan) (old mid : List ℕ) → Acts instance d s m p → at + plan_size p ≤ 1000000 → at + plan_size p ≤ length old → m ≡ b → l ≡ d - action_weight instance.task.now m → n ≡ outcome_count instance.task.now m → mid ≡ set old at byte → byte ≡ b →
-    Writing (guided_examination instance l) instance.guide.budget (tabulate (λ k. bit_or (bit_and s (keep_mask instance.task.now m k)) (set_value instance.task.now m k)) 0 (n - 0)) p at (at + 1) mid mid
+    Writing (instance_examination instance l) instance.constants.budget (tabulate (λ k. bit_or (bit_and s (keep_mask instance.task.now m k)) (set_value instance.task.now m k)) 0 (n - 0)) p at (at + 1) mid mid
 unfolding encode packed_system
 writing_begins instance d s m b byte n l at p old mid a y z f w e u v = rw (sub-zero, e, w, a.is, u, v, ← f) (record {
   left = a.rest;
@@ -265,7 +265,7 @@ writing_ends f k n byte {at = at} {end = end} {old = old} {plan = plan} g l v u 
     let e = rw (successors_end f k n l) at v.succeeds in let q : done ≡ v.left = cc in let z = ap (λ (ps : Plans). plans_size ps) q in
     record { after = omega (arith, v.place, z); keeps = keeps_trans at at old (set old at byte) plan (omega arith) (keeps_stored at byte old) (rw u at v.keeps); holds = v.finish plan refl (keeps_itself end plan) (rw (← q) (holds_nothing end plan)); remembers = m; stands = t }
 
-written_noted : {g : ℕ → ℕ → ℕ → Result Plan} {b : ℕ} {p : Plan} {at end : ℕ} {old plan : List ℕ} {memory written : List Slot} (later : List Slot) (s d k n : ℕ) → Written g b p at memory written old plan end → Noted written later (said s d n at 0) → g d s 0 ≡ succeeded p k → plan_size p ≡ n → Written g b p at memory later old plan end
+written_noted : {g : ℕ → ℕ → ℕ → Result Plan} {b : ℕ} {p : Plan} {at end : ℕ} {old plan : List ℕ} {memory written : List Slot} (later : List Slot) (s d k n : ℕ) → Written g b p at memory written old plan end → Noted written later (stored s d n at 0) → g d s 0 ≡ succeeded p k → plan_size p ≡ n → Written g b p at memory later old plan end
 written_noted {g} {p = p} {at = at} later s d k n w t e q = let a = w.after in record { after = a; keeps = w.keeps; holds = w.holds; remembers = w.remembers; stands = stands_noted g w.stands later s d n at 0 k p t e q (omega arith) w.holds }
 
 written_same : {g : ℕ → ℕ → ℕ → Result Plan} {b : ℕ} {p q : Plan} {at end : ℕ} {old plan : List ℕ} {memory written : List Slot} → p ≡ q → Written g b p at memory written old plan end → Written g b q at memory written old plan end
@@ -275,21 +275,21 @@ written_same e w = rw (← e) w
 pub record Underway (instance : Instance) (s d m left end k at to n : ℕ) (memory written : List Slot) (old plan : List ℕ) : Type 0 where
   pub found : Plan
   pub made : ℕ
-  pub is : guided_examination instance d s 0 ≡ succeeded found made
+  pub is : instance_examination instance d s 0 ≡ succeeded found made
   pub sized : plan_size found ≡ n
-  pub writing : Writing (guided_examination instance left) instance.guide.budget (tabulate (λ j. bit_or (bit_and s (keep_mask instance.task.now m j)) (set_value instance.task.now m j)) k (end - k)) found at to old plan
+  pub writing : Writing (instance_examination instance left) instance.constants.budget (tabulate (λ j. bit_or (bit_and s (keep_mask instance.task.now m j)) (set_value instance.task.now m j)) k (end - k)) found at to old plan
   pub reached : k ≤ end
-  pub remembers : Remembers (guided_examination instance) instance.guide.budget memory
-  pub stands : Stands (guided_examination instance) written plan to
+  pub remembers : Remembers (instance_examination instance) instance.constants.budget memory
+  pub stands : Stands (instance_examination instance) written plan to
 
 pub underway_begins : {instance : Instance} {memory written : List Slot} {plan : List ℕ} {later : List Slot} {mid : List ℕ} {s d at n b m left end byte : ℕ} (w : Writable instance memory written plan s d at) →
-    Starts (guided_examination instance) instance.guide.budget d s later n b → m ≡ b → (b ≡ 254 → ⊥) → left ≡ d - action_weight instance.task.now m → end ≡ outcome_count instance.task.now m → mid ≡ set plan at byte → byte ≡ b →
+    Starts (instance_examination instance) instance.constants.budget d s later n b → m ≡ b → (b ≡ 254 → ⊥) → left ≡ d - action_weight instance.task.now m → end ≡ outcome_count instance.task.now m → mid ≡ set plan at byte → byte ≡ b →
     Underway instance s d m left end 0 at (at + 1) n later written mid mid
 underway_begins {instance} {plan = plan} {mid = mid} {s = s} {d = d} {at = at} {b = b} {m = m} {left = left} {end = end} {byte = byte} w t f o g e u v = let x = w.succeeding in record {
   found = x.found;
   made = x.made;
   is = x.is;
-  sized = (t.told x.found x.made x.is).0;
+  sized = (t.begins x.found x.made x.is).0;
   writing = writing_begins instance d s m b byte end left at x.found plan mid (acts x t f o) w.near w.fits f g e u v;
   reached = omega arith;
   remembers = t.remembers;
@@ -299,11 +299,11 @@ underway_begins {instance} {plan = plan} {mid = mid} {s = s} {d = d} {at = at} {
 module _ {instance : Instance} {memory written : List Slot} {old plan : List ℕ} {s d m left end k at to n : ℕ} (i : Underway instance s d m left end k at to n memory written old plan) where
   -- The next outcome: the plan of the state after it may be written.
   module _ {x : ℕ} (l : k < end) (e : x ≡ bit_or (bit_and s (keep_mask instance.task.now m k)) (set_value instance.task.now m k)) where
-    abbrev next : Next (guided_examination instance left) instance.guide.budget x (tabulate (λ j. bit_or (bit_and s (keep_mask instance.task.now m j)) (set_value instance.task.now m j)) (k + 1) (end - (k + 1))) i.writing.left i.writing.to
-    next = writing_next (packed_system instance.task.now instance.guide.actions) (guided_value instance) instance.guide.budget left (λ j. bit_or (bit_and s (keep_mask instance.task.now m j)) (set_value instance.task.now m j)) k end x i.found at to old plan l e i.writing
+    abbrev next : Next (instance_examination instance left) instance.constants.budget x (tabulate (λ j. bit_or (bit_and s (keep_mask instance.task.now m j)) (set_value instance.task.now m j)) (k + 1) (end - (k + 1))) i.writing.left i.writing.to
+    next = writing_next (packed_system instance.task.now instance.constants.actions) (instance_value instance) instance.constants.budget left (λ j. bit_or (bit_and s (keep_mask instance.task.now m j)) (set_value instance.task.now m j)) k end x i.found at to old plan l e i.writing
 
     next_within : to + plan_size next.plan ≤ at + plan_size i.found
-    next_within = next_fits (packed_system instance.task.now instance.guide.actions) (guided_value instance) instance.guide.budget left (λ j. bit_or (bit_and s (keep_mask instance.task.now m j)) (set_value instance.task.now m j)) k end x i.found at to old plan l e i.writing
+    next_within = next_fits (packed_system instance.task.now instance.constants.actions) (instance_value instance) instance.constants.budget left (λ j. bit_or (bit_and s (keep_mask instance.task.now m j)) (set_value instance.task.now m j)) k end x i.found at to old plan l e i.writing
 
     pub next_writable : left < 256 → Writable instance memory written plan x left to
     next_writable h = record {
@@ -319,7 +319,7 @@ module _ {instance : Instance} {memory written : List Slot} {old plan : List ℕ
       made = i.made;
       is = i.is;
       sized = i.sized;
-      writing = writing_goes_on (packed_system instance.task.now instance.guide.actions) (guided_value instance) instance.guide.budget left (λ j. bit_or (bit_and s (keep_mask instance.task.now m j)) (set_value instance.task.now m j)) k end x i.found at to old plan l e i.writing (guided_examination instance) instance.guide.budget after memory₁ written₁ new q w;
+      writing = writing_goes_on (packed_system instance.task.now instance.constants.actions) (instance_value instance) instance.constants.budget left (λ j. bit_or (bit_and s (keep_mask instance.task.now m j)) (set_value instance.task.now m j)) k end x i.found at to old plan l e i.writing (instance_examination instance) instance.constants.budget after memory₁ written₁ new q w;
       reached = omega arith;
       remembers = w.remembers;
       stands = w.stands;
@@ -329,6 +329,6 @@ module _ {instance : Instance} {memory written : List Slot} {old plan : List ℕ
   pub underway_near : at + n ≤ 1000000
   underway_near = omega (arith, i.sized, i.writing.near)
 
-  pub underway_ends : {first : List ℕ} {later : List Slot} (byte : ℕ) → end ≤ k → old ≡ set first at byte → Noted written later (said s d n at 0) → Writes instance d s at memory later first plan to
+  pub underway_ends : {first : List ℕ} {later : List Slot} (byte : ℕ) → end ≤ k → old ≡ set first at byte → Noted written later (stored s d n at 0) → Writes instance d s at memory later first plan to
   underway_ends {first} {later} byte l u t = λ p j f. written_same (same_plan i.is f)
-      (written_noted later s d i.made n (writing_ends (λ j. bit_or (bit_and s (keep_mask instance.task.now m j)) (set_value instance.task.now m j)) k end byte (guided_examination instance) l i.writing u i.remembers i.stands) t i.is i.sized)
+      (written_noted later s d i.made n (writing_ends (λ j. bit_or (bit_and s (keep_mask instance.task.now m j)) (set_value instance.task.now m j)) k end byte (instance_examination instance) l i.writing u i.remembers i.stands) t i.is i.sized)

@@ -6,7 +6,7 @@ use Rattle.planning.specs.Search as planning
 use Rattle.packed_task.specs.Packed.{packed_system}
 use Rattle.search.specs.Examination.{plan_size}
 use Rattle.search.specs.Value.{packed_value, Estimated}
-use Rattle.search.specs.Packed.{guided_examination, guided_value}
+use Rattle.search.specs.Packed.{instance_examination, instance_value}
 use Rattle.search.specs.Memory.{Remembers}
 use Rattle.search.specs.declared.entry.SearchAnswer.{SearchAnswer}
 use Rattle.search.specs.declared.entry.SearchAnswer.TheVariants as outcome
@@ -20,26 +20,26 @@ abbrev pub packed_search : (task : List ℕ) (weights : List (List ℕ)) (offset
 packed_search task weights offsets tables actions patterns budget limit s = search (packed_system task actions) (packed_value weights offsets tables patterns) budget limit s
 
 -- The same of an instance, and its rounds from round d on with the count c.
-abbrev pub guided_search : Instance → ℕ → planning.Answer
-guided_search i s = packed_search i.task.now i.weights.now i.guide.offsets i.tables.now i.guide.actions i.guide.patterns i.guide.budget i.guide.limit s
+abbrev pub instance_search : Instance → ℕ → planning.Answer
+instance_search i s = packed_search i.task.now i.weights.now i.constants.offsets i.tables.now i.constants.actions i.constants.patterns i.constants.budget i.constants.limit s
 
-abbrev pub guided_rounds : Instance → (s d c : ℕ) → planning.Answer
-guided_rounds i s d c = rounds (packed_system i.task.now i.guide.actions) (guided_value i) i.guide.budget i.guide.limit s (i.guide.limit + 1 - d) d c
+abbrev pub instance_rounds : Instance → (s d c : ℕ) → planning.Answer
+instance_rounds i s d c = rounds (packed_system i.task.now i.constants.actions) (instance_value i) i.constants.budget i.constants.limit s (i.constants.limit + 1 - d) d c
 
 -- What rounds from state s with its value ask, where d is the depth of the first and c the count.
 pub record Startable (i : Instance) (s value d c : ℕ) : Type 0 where
   -- The count has not passed the budget.
-  pub within : c ≤ i.guide.budget
+  pub within : c ≤ i.constants.budget
   -- The depths of all rounds fit a byte of a slot.
   pub shallow : d < 256
-  pub limited : i.guide.limit < 256
+  pub limited : i.constants.limit < 256
   -- The number stands for the value of s.
-  pub valued : Estimated (guided_value i s) value
+  pub valued : Estimated (instance_value i s) value
 
 -- The same with a memory.
 pub record Begun (i : Instance) (memory : List Slot) (s value d c : ℕ) : Type 0 where
   pub startable : Startable i s value d c
-  pub remembers : Remembers (guided_examination i) i.guide.budget memory
+  pub remembers : Remembers (instance_examination i) i.constants.budget memory
 
 -- The answer with a buffer of n bytes: a plan that is longer is refused with the count and the bytes that it needs, and the buffer holds 255 alone.
 unfoldable pub answer_of : ℕ → planning.Answer → Result SearchAnswer TooLong
@@ -67,16 +67,16 @@ module _ (i : Instance) (s : ℕ) (x : planning.Answer) where
     pub is : x ≡ found plan d c
     -- The same plan is found again when it is written, from the count 0.
     pub made : ℕ
-    pub again : guided_examination i d s 0 ≡ succeeded plan made
+    pub again : instance_examination i d s 0 ≡ succeeded plan made
     pub sized : plan_size plan ≡ n
     pub short : n ≤ 1000000
-    pub within : d ≤ i.guide.limit
+    pub within : d ≤ i.constants.limit
 
   -- The rounds left, from d on with the count c, are the whole; more than `most` examinations were made.
   pub record Left (most d c : ℕ) : Type 0 where
-    pub same : x ≡ guided_rounds i s d c
-    pub within : d ≤ i.guide.limit
-    pub counted : c ≤ i.guide.budget
+    pub same : x ≡ instance_rounds i s d c
+    pub within : d ≤ i.constants.limit
+    pub counted : c ≤ i.constants.budget
     pub many : most < c
 
   -- How the rounds end, with a buffer of n bytes.

@@ -4,8 +4,8 @@
 pub mod Value
 -- The owner of an action: the one pattern in which it may move a word.
 pub mod Owned
--- The guide has the numbers of a record, and a budget.
-pub mod Guide
+-- The constants of a search are a record's numbers, and a budget.
+pub mod Constants
 -- The weights of each pattern's variables, and where its table begins.
 pub mod Weights
 -- The index of a state, by the bytes of its word.

@@ -1,13 +1,13 @@
 -- The estimate of a packed state from the weights of each pattern's variables. Assumes nothing.
 use Rattle.std.specs.Prelude.{◌≡◌, ℕ, zero, suc, ◌+◌, ◌-◌, ◌<◌, cond, List, [], nat_le, nat_lt, slice_index, slice_index_or}
 use Rattle.planning.specs.Extended.{ℕ∞, fin, add∞, ◌≤?◌}
-use Rattle.planning.specs.Table.{cost_of}
+use Rattle.planning.specs.Table.{infinite_entry, cost_of}
 use Rattle.tables.specs.Steps.{weigh}
 
 module _ (weights : List (List ℕ)) (offsets tables : List ℕ) where
   -- The entry of s in the table of pattern p. What lies past the tables' end counts as infinite.
   unfoldable pub pattern_entry : ℕ → ℕ → ℕ
-  pattern_entry s p = slice_index_or tables (slice_index offsets p + weigh (slice_index_or weights p []) s) 65535
+  pattern_entry s p = slice_index_or tables (slice_index offsets p + weigh (slice_index_or weights p []) s) infinite_entry
 
   -- The sum over n patterns from p on, infinite if one is.
   unfoldable pub pattern_sum : ℕ → ℕ → ℕ → ℕ∞
@@ -24,7 +24,7 @@ module _ (weights : List (List ℕ)) (offsets tables : List ℕ) where
   unfoldable pub sum_with : ℕ → ℕ → ℕ → ℕ → ℕ
   sum_with patterns x p rest = cond (nat_lt p patterns) (rest + pattern_entry x p) rest
 
--- A number stands for a value below 65,535: it is the value, or both are above every depth.
+-- A number stands for a value below the infinite entry: it is the value, or both are above every depth.
 pub record Estimated (h : ℕ∞) (v : ℕ) : Type 0 where
-  pub within : (d : ℕ) → d < 65535 → (h ≤? d) ≡ nat_le v d
-  pub exact : v < 65535 → h ≡ fin v
+  pub within : (d : ℕ) → d < infinite_entry → (h ≤? d) ≡ nat_le v d
+  pub exact : v < infinite_entry → h ≡ fin v

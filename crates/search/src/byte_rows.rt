@@ -1,5 +1,5 @@
-// The index of a state in a pattern's table by the bytes of its word: for each byte that the pattern has, one entry says what its two
-// digits add. There is room for 16 blocks of 256 entries; a pattern that finds none is summed digit by digit.
+// The index of a state in a pattern's table by the bytes of its word: for each byte that the pattern has, one sum says what its two
+// digits add. There is room for 16 blocks of 256 sums; a pattern that finds none is summed digit by digit.
 // Asks for at most 8 patterns.
 ghost use Rattle.std.specs.Prelude.{◌≡◌, ◌+◌, ◌*◌, ◌/◌, ◌%◌, ◌^◌, ◌<◌, ◌≤◌, ℕ, [], slice_index, slice_index_or};
 ghost use Rattle.tables.specs.Steps.{weigh};
@@ -16,14 +16,14 @@ pub(crate) struct Span {
     pub at: usize,
 }
 
-// Room for 16 blocks of 256 entries, and which of them each pattern has, if any.
+// Room for 16 blocks of 256 sums, and which of them each pattern has, if any.
 #[derive(Clone, Copy)]
-pub(crate) struct Places {
+pub(crate) struct Blocks {
     pub sums: [u16; 4096],
     pub spans: [Option<Span>; 8],
 }
 
-// Stays: `as`: a word has no `From` into a place, and `try_from` has a case that never happens. `packed_task` has the same line for its sets: as a
+// Stays: `as`: a word has no `From` into an index, and `try_from` has a case that never happens. `packed_task` has the same line for its sets: as a
 // public function there, with its promise, it would be longer than what it saves here.
 fn lowest_byte(s: u64) -> usize
     ensures { (result ≡ s % 256) × (result < 256) }
@@ -39,7 +39,7 @@ fn from_bit(s: u64, shift: usize) -> u64
 }
 
 // What the bytes of a word add, from blocks that follow each other. The first block is read before the loop: most patterns have no other, and a loop over
-// all of them takes a test and a step more for each entry.
+// all of them takes a test and a step more for each entry of a table.
 fn sum_blocks(sums: &[u16; 4096], at: usize, count: usize, s: u64) -> usize
     requires { (1 ≤ count) × (count ≤ 8) × (at + 256 * count ≤ 4096) }
     ensures { (result ≡ block_sum sums.now at count s) × (result ≤ 65535 * 16) }
@@ -55,14 +55,14 @@ fn sum_blocks(sums: &[u16; 4096], at: usize, count: usize, s: u64) -> usize
 
 // The index of a state in the table of pattern p.
 pub(crate) fn index_by_bytes(instance: &Instance, s: u64, p: usize) -> usize
-    requires { p < instance.now.guide.patterns }
+    requires { p < instance.now.constants.patterns }
     ensures { (result ≡ weigh (slice_index_or instance.now.weights.now p []) s) × (result ≤ 983025 * 16) }
 {
-    match instance.places.spans[p] {
+    match instance.blocks.spans[p] {
         None => index_of(&instance.weights[p], s),
         Some(span) => {
             let rest = from_bit(s, 8 * span.first);
-            sum_blocks(&instance.places.sums, span.at, span.count, rest)
+            sum_blocks(&instance.blocks.sums, span.at, span.count, rest)
         }
     }
 }
@@ -78,7 +78,7 @@ fn fill_block(sums: &mut [u16; 4096], at: usize, low: u16, high: u16)
     }
 }
 
-// The blocks of a span; false if the most that a byte adds would be no entry: fifteen times its two weights.
+// The blocks of a span; false if the most that a byte adds would not fit 16 bits: fifteen times its two weights.
 fn fill_span(weights: &[u16; 16], sums: &mut [u16; 4096], span: Span) -> bool
     requires { (span.first + span.count ≤ 8) × (span.at + 256 * span.count ≤ 4096) }
     ensures { SpanFilled weights.now span.first span.count sums.old sums.new span.at result }
@@ -95,7 +95,7 @@ fn fill_span(weights: &[u16; 16], sums: &mut [u16; 4096], span: Span) -> bool
     true
 }
 
-// The first variable that has a weight, and the place after the last.
+// The first variable that has a weight, and the number after the last.
 fn first_used(weights: &[u16; 16]) -> usize
     ensures { (result ≤ 16) × ((v : ℕ) → v < result → slice_index weights.now v ≡ 0) }
 {
@@ -130,14 +130,14 @@ fn place_pattern(weights: &[u16; 16], sums: &mut [u16; 4096], at: usize) -> (Opt
 }
 
 // The blocks of every pattern.
-pub(crate) fn fill_places(weights: &[[u16; 16]; 8], patterns: usize, places: &mut Places)
+pub(crate) fn fill_blocks(weights: &[[u16; 16]; 8], patterns: usize, blocks: &mut Blocks)
     requires { patterns ≤ 8 }
-    ensures { BytesOf weights.now patterns places.new }
+    ensures { BytesOf weights.now patterns blocks.new }
 {
     let mut at = 0usize;
     for p in 0..patterns {
-        let (span, end) = place_pattern(&weights[p], &mut places.sums, at);
-        places.spans[p] = span;
+        let (span, end) = place_pattern(&weights[p], &mut blocks.sums, at);
+        blocks.spans[p] = span;
         at = end;
     }
 }

@@ -4,17 +4,18 @@ ghost use Rattle.std.specs.Prelude.{◌≡◌, ◌-◌, ◌≤◌, nat_lt};
 ghost use Rattle.packed_task.specs.Packed.{action_weight};
 
 use packed_task::compiled_task::weight;
+use packed_task::layout::TASK_WORDS;
 use packed_task::numbers::ActionNumber;
 
 // Stays: a test with the value beside it: with an Option of what is left a search takes up to 1.02 of the instructions by `checked_sub`, and up to 1.03
 // by this test.
-pub(crate) fn is_beyond(task: &[u64; 1282], m: ActionNumber, d: u32) -> bool
+pub(crate) fn is_beyond(task: &[u64; TASK_WORDS], m: ActionNumber, d: u32) -> bool
     ensures { result ≡ nat_lt d (action_weight task.now m.number) }
 {
     u64::from(d) < weight(task, m)
 }
 
-pub(crate) fn left_after(task: &[u64; 1282], m: ActionNumber, d: u32) -> u32
+pub(crate) fn left_after(task: &[u64; TASK_WORDS], m: ActionNumber, d: u32) -> u32
     requires { action_weight task.now m.number ≤ d }
     ensures { result ≡ d - action_weight task.now m.number }
 {

@@ -6,11 +6,13 @@ ghost use Rattle.search.specs.Answer.{answer_of, buffer_of};
 ghost use Rattle.search.specs.Entry.{answer_within, search_answer, plan_after, search_numbers, search_by_lines};
 
 use crate::built::BuiltTask;
-use crate::byte_rows::{Places, fill_places};
-use crate::guide::guide_of;
+use crate::byte_rows::{Blocks, fill_blocks};
+use crate::constants::constants_of;
 use crate::instance::Instance;
 use crate::rounds::{TooLong, run_rounds};
 use crate::weights::fill_weights;
+use packed_task::layout::TASK_WORDS;
+use patterns::entry::Entry;
 use tables::record_tables::prepare;
 use task_record::cells::budget;
 use task_record::refusal::Refusal;
@@ -29,34 +31,34 @@ fn search_built(built: &BuiltTask, plan: &mut [u8]) -> Result<SearchAnswer, TooL
     ensures answer { result ≡ answer_of (length plan.old) (answer_within built.now.budget built.now.rec.now) }
     ensures buffer { plan.new ≡ buffer_of (length plan.old) (answer_within built.now.budget built.now.rec.now) }
 {
-    let mut places = Places {
+    let mut blocks = Blocks {
         sums: [0; 4096],
         spans: [None; 8],
     };
     let mut weights = [[0u16; 16]; 8];
     let mut offsets = [0u32; 8];
     fill_weights(built, &mut weights, &mut offsets);
-    let guide = guide_of(built, offsets);
-    fill_places(&weights, guide.patterns, &mut places);
+    let constants = constants_of(built, offsets);
+    fill_blocks(&weights, constants.patterns, &mut blocks);
     let instance = Instance {
         task: built.task,
         sets: built.sets,
-        places: &places,
+        blocks: &blocks,
         weights: &weights,
-        guide,
+        constants,
         tables: built.tables,
     };
     run_rounds(&instance, plan, built.start)
 }
 
 // The search from the record's start with its limit and budget. A found plan stands at the start of `plan`; `tables` are built here.
-pub fn search(rec: &[u8], tables: &mut [u16], plan: &mut [u8]) -> Result<SearchAnswer, Refusal>
+pub fn search(rec: &[u8], tables: &mut [Entry], plan: &mut [u8]) -> Result<SearchAnswer, Refusal>
     ensures answer { result ≡ search_answer rec.now (length tables.old) (length plan.old) }
     ensures tables { tables.new ≡ tables_prepared rec.now tables.old }
     ensures plan { plan.new ≡ plan_after rec.now (length tables.old) plan.old }
     ensures numbers { search_numbers result ≡ search_by_lines rec.now (length tables.old) (length plan.old) }
 {
-    let mut task = [0u64; 1282];
+    let mut task = [0u64; TASK_WORDS];
     let mut sets = [0u64; 2048];
     let start = prepare(rec, tables, &mut task, &mut sets)?;
     let built = BuiltTask {

@@ -3,9 +3,10 @@
 // result is remembered. Asks for what `Examinable` names, of a state that opens for `Openable`, and gives what `Examines` names.
 // Stays: `Examinable` at three functions: it speaks of the memory, which every call changes, so that a type of it would be made anew at every call.
 ghost use Rattle.std.specs.Prelude.{◌≡◌, ◌<◌};
+ghost use Rattle.planning.specs.Table.{infinite_entry};
 ghost use Rattle.search.specs.Examination.{plan_size, plan_head, plans_size, plans_head};
 ghost use Rattle.search.specs.Value.{Estimated};
-ghost use Rattle.search.specs.Packed.{guided_opening, guided_examination, guided_outcomes, guided_value};
+ghost use Rattle.search.specs.Packed.{instance_opening, instance_examination, instance_outcomes, instance_value};
 ghost use Rattle.search.specs.Cycle.{Examinable, Openable, Examines, Glanced};
 
 use crate::buffer::ARRIVED;
@@ -36,7 +37,7 @@ pub(crate) enum Ending {
 }
 
 // A state to examine: its value, the depth left and the count so far.
-// Stays: an infinite value is a number from 65,535 on: entries are added as they stand in the tables, and one test against the depth serves both.
+// Stays: an infinite value is a number from `INFINITE` on: entries are added as they stand in the tables, and one test against the depth serves both.
 #[derive(Clone, Copy)]
 pub(crate) struct Visit {
     pub s: u64,
@@ -47,10 +48,10 @@ pub(crate) struct Visit {
 
 // What is decided at once about a state of a value: with no depth left it is a goal or cut.
 fn open_state(instance: &Instance, v: Visit) -> Opening
-    requires { (v.d < 65535) × (Estimated (guided_value instance.now v.s) v.value) }
-    ensures { result ≡ guided_opening instance.now v.d v.s v.count }
+    requires { (v.d < infinite_entry) × (Estimated (instance_value instance.now v.s) v.value) }
+    ensures { result ≡ instance_opening instance.now v.d v.s v.count }
 {
-    if v.count == instance.guide.budget {
+    if v.count == instance.constants.budget {
         return Opening::Spent;
     }
     if is_goal(instance.task, v.s) {
@@ -66,7 +67,7 @@ fn open_state(instance: &Instance, v: Visit) -> Opening
 }
 
 // An action's number as a plan's byte.
-// Stays: `as`: a place has no `From` into a byte, and `try_from` has a case that never happens with 64 actions.
+// Stays: `as`: an index has no `From` into a byte, and `try_from` has a case that never happens with 64 actions.
 fn number_of(m: usize) -> u8
     requires { m < 64 }
     ensures { result ≡ m }
@@ -84,7 +85,7 @@ fn look(instance: &Instance, memory: &[Slot], v: Visit) -> Option<Ending>
         Opening::Cut => Some(Ending::Failed(v.count + 1)),
         Opening::Arrived => Some(Ending::Succeeded(v.count + 1, 1, ARRIVED)),
         Opening::Expand => {
-            let known = recall(memory, v.s, v.d, instance.guide.budget - v.count)?;
+            let known = recall(memory, v.s, v.d, instance.constants.budget - v.count)?;
             if known.size == 0 {
                 return Some(Ending::Failed(v.count + known.made));
             }
@@ -97,10 +98,10 @@ fn look(instance: &Instance, memory: &[Slot], v: Visit) -> Option<Ending>
 #[cycle(examine_outcomes)]
 fn examine(instance: &Instance, memory: &mut [Slot], v: Visit) -> Ending
     requires { Openable instance.now memory.old v.s v.value v.d v.count }
-    ensures { Examines plan_size plan_head (guided_examination instance.now) instance.now.guide.budget (guided_examination instance.now v.d v.s v.count) v.count memory.new result }
+    ensures { Examines plan_size plan_head (instance_examination instance.now) instance.now.constants.budget (instance_examination instance.now v.d v.s v.count) v.count memory.new result }
 {
     let mut c = v.count + 1;
-    let set = applying(instance.sets, v.s, (instance.guide.variables + 1) / 2);
+    let set = applying(instance.sets, v.s, (instance.constants.variables + 1) / 2);
     for m in Members(set) {
         match outcomes(instance, memory, m, Visit { count: c, ..v }) {
             Ending::Stopped(e) => {
@@ -127,8 +128,8 @@ fn examine(instance: &Instance, memory: &mut [Slot], v: Visit) -> Ending
 // the time.
 #[cycle(examine_outcomes)]
 fn outcomes(instance: &Instance, memory: &mut [Slot], m: usize, v: Visit) -> Ending
-    requires { (Examinable instance.now memory.old v.s v.value v.d v.count) × (m < instance.now.guide.actions) × (v.value < 256) }
-    ensures { Examines plans_size plans_head (guided_examination instance.now) instance.now.guide.budget (guided_outcomes instance.now v.d v.s m v.count) v.count memory.new result }
+    requires { (Examinable instance.now memory.old v.s v.value v.d v.count) × (m < instance.now.constants.actions) × (v.value < 256) }
+    ensures { Examines plans_size plans_head (instance_examination instance.now) instance.now.constants.budget (instance_outcomes instance.now v.d v.s m v.count) v.count memory.new result }
 {
     let action = ActionNumber { number: m };
     if is_beyond(instance.task, action, v.d) {
@@ -147,14 +148,12 @@ fn outcomes(instance: &Instance, memory: &mut [Slot], m: usize, v: Visit) -> End
             count: c,
         };
         match look(instance, memory, w) {
-            Some(seen) => match seen {
-                Ending::Stopped(e) => return Ending::Stopped(e),
-                Ending::Failed(e) => return Ending::Failed(e),
-                Ending::Succeeded(e, size, _) => {
-                    c = e;
-                    n += size;
-                }
-            },
+            Some(Ending::Stopped(e)) => return Ending::Stopped(e),
+            Some(Ending::Failed(e)) => return Ending::Failed(e),
+            Some(Ending::Succeeded(e, size, _)) => {
+                c = e;
+                n += size;
+            }
             None => match examine(instance, memory, w) {
                 Ending::Stopped(e) => return Ending::Stopped(e),
                 Ending::Failed(e) => return Ending::Failed(e),
@@ -171,7 +170,7 @@ fn outcomes(instance: &Instance, memory: &mut [Slot], m: usize, v: Visit) -> End
 // Examines any state, for a round and for the writer: what the leaf decides, or the examination of a state that opens.
 pub(crate) fn examine_any(instance: &Instance, memory: &mut [Slot], v: Visit) -> Ending
     requires { Examinable instance.now memory.old v.s v.value v.d v.count }
-    ensures { Examines plan_size plan_head (guided_examination instance.now) instance.now.guide.budget (guided_examination instance.now v.d v.s v.count) v.count memory.new result }
+    ensures { Examines plan_size plan_head (instance_examination instance.now) instance.now.constants.budget (instance_examination instance.now v.d v.s v.count) v.count memory.new result }
 {
     match look(instance, memory, v) {
         Some(seen) => seen,

@@ -2,11 +2,11 @@
 // and a word: the depth (8 bits), the number of examinations (20), the plan's size (20; 0: it fails) and its first byte.
 // A slot with no examinations holds nothing, and a result that finds its slot taken replaces what is there. Asks for a memory of at least one
 // slot; all slots are used where their number is a power of two.
-// Stays: `as` of a word into a place, and of a part of it into a smaller number: a word has no `From` into either, and `try_from` has a case that never
+// Stays: `as` of a word into an index, and of a part of it into a smaller number: a word has no `From` into either, and `try_from` has a case that never
 // happens. `d < 256`, here, in `written` and in `rounds`: a slot's byte needs the bound of this one number, and a type for it would be made at every call.
 // `1 ≤ length`, here and in `written`: a struct that lends slots on says in each contract that they are the same ones before and after, which is longer.
 ghost use Rattle.std.specs.Prelude.{◌≡◌, ◌<◌, ◌≤◌, true, length};
-ghost use Rattle.search.specs.Memory.{said, result_word, Recalls, Noted};
+ghost use Rattle.search.specs.Memory.{stored, result_word, Recalls, Noted};
 
 // Stays: four numbers in one word: with a field for each a slot is half as large again, and a short search, which fills the small memory once, takes
 // 1.09 of the instructions, one that fills the large one 1.07 (a search may not become slower).
@@ -70,7 +70,7 @@ fn result_word(d: u32, k: u32, n: u32, b: u8) -> u64
 // Examining state s with depth d ends after k examinations, with a plan of n bytes whose first is b; with none it fails.
 pub(crate) fn note(memory: &mut [Slot], s: u64, d: u32, k: u32, n: u32, b: u8)
     requires { (1 ≤ length memory.old) × (d < 256) × (k < 1048576) × (n < 1048576) }
-    ensures { Noted memory.old memory.new (said s d k n b) }
+    ensures { Noted memory.old memory.new (stored s d k n b) }
 {
     let word = result_word(d, k, n, b);
     memory[slot_of(s, d, memory.len())] = Slot { state: s, word };

@@ -11,12 +11,13 @@ ghost use Rattle.search.specs.Owned.{Owned, Marked, touches};
 
 use crate::built::BuiltTask;
 use packed_task::compiled_task::{kept, outcome_count};
+use packed_task::layout::TASK_WORDS;
 use packed_task::numbers::{ActionNumber, OutcomeNumber};
 use packed_task::packed::mask_of;
 use task_record::cells::{action_count, pattern_count};
 
 // Whether an outcome of action m names a variable under the mask.
-fn names_under(task: &[u64; 1282], mask: u64, m: ActionNumber) -> bool
+fn names_under(task: &[u64; TASK_WORDS], mask: u64, m: ActionNumber) -> bool
     requires { outcome_count task.now m.number ≤ 8 }
     ensures { result ≡ touches task.now mask m.number }
 {

@@ -8,8 +8,8 @@
 ghost use Rattle.std.specs.Prelude.{◌≡◌, ◌<◌, ◌≤◌, length};
 ghost use Rattle.planning.specs.Search as planning;
 ghost use Rattle.search.specs.Memory.{Remembers};
-ghost use Rattle.search.specs.Packed.{guided_examination};
-ghost use Rattle.search.specs.Answer.{Begun, FoundBy, Startable, Replies, Replied, guided_rounds, guided_search};
+ghost use Rattle.search.specs.Packed.{instance_examination};
+ghost use Rattle.search.specs.Answer.{Begun, FoundBy, Startable, Replies, Replied, instance_rounds, instance_search};
 
 use crate::buffer::clear;
 use crate::entry::SearchAnswer;
@@ -61,14 +61,14 @@ fn found_with(v: Visit, bytes: u32) -> SearchAnswer
 }
 
 // The plan of n bytes that a visit's depth has found with its count: written, if the buffer is long enough.
-fn tell_found(
+fn answer_found(
     instance: &Instance,
     memory: &mut [Slot],
     plan: &mut [u8],
     v: Visit,
     n: u32,
 ) -> Result<SearchAnswer, TooLong>
-    requires { (Remembers (guided_examination instance.now) instance.now.guide.budget memory.old) × (v.d < 256) × ((x : planning.Answer) × (FoundBy instance.now v.s x v.d v.count n)) }
+    requires { (Remembers (instance_examination instance.now) instance.now.constants.budget memory.old) × (v.d < 256) × ((x : planning.Answer) × (FoundBy instance.now v.s x v.d v.count n)) }
     ensures { (x : planning.Answer) → FoundBy instance.now v.s x v.d v.count n → Replied (length plan.old) x plan.new result }
 {
     let bytes = n as usize;
@@ -93,10 +93,10 @@ fn deepen(
     most: u32,
 ) -> Result<Result<SearchAnswer, TooLong>, Unfinished>
     requires { Begun instance.now memory.old v.s v.value v.d v.count }
-    ensures { Replies instance.now v.s (guided_rounds instance.now v.s v.d v.count) most (length plan.old) plan.new result }
+    ensures { Replies instance.now v.s (instance_rounds instance.now v.s v.d v.count) most (length plan.old) plan.new result }
 {
     let mut c = v.count;
-    for d in v.d..instance.guide.limit + 1 {
+    for d in v.d..instance.constants.limit + 1 {
         if is_outgrown(memory, most, c) {
             return Err(Unfinished { round: d, count: c });
         }
@@ -110,7 +110,7 @@ fn deepen(
             }
             Ending::Succeeded(e, n, _) => {
                 let w = Visit { d, count: e, ..v };
-                return Ok(tell_found(instance, memory, plan, w, n));
+                return Ok(answer_found(instance, memory, plan, w, n));
             }
         }
     }
@@ -126,7 +126,7 @@ fn run_with<const SLOTS: usize>(
     most: u32,
 ) -> Result<Result<SearchAnswer, TooLong>, Unfinished>
     requires { (1 ≤ SLOTS) × (SLOTS ≤ 16384) × Startable instance.now v.s v.value v.d v.count }
-    ensures { Replies instance.now v.s (guided_rounds instance.now v.s v.d v.count) most (length plan.old) plan.new result }
+    ensures { Replies instance.now v.s (instance_rounds instance.now v.s v.d v.count) most (length plan.old) plan.new result }
 {
     let mut memory = [EMPTY; SLOTS];
     deepen(instance, &mut memory, plan, v, most)
@@ -135,7 +135,7 @@ fn run_with<const SLOTS: usize>(
 // The rounds with the large memory. They may make as many examinations as any budget has, so that they are never unfinished.
 fn run_large(instance: &Instance, plan: &mut [u8], v: Visit) -> Result<SearchAnswer, TooLong>
     requires { Startable instance.now v.s v.value v.d v.count }
-    ensures { Replied (length plan.old) (guided_rounds instance.now v.s v.d v.count) plan.new result }
+    ensures { Replied (length plan.old) (instance_rounds instance.now v.s v.d v.count) plan.new result }
 {
     match run_with::<LARGE>(instance, plan, v, 1000000) {
         Ok(answer) => answer,
@@ -151,7 +151,7 @@ fn run_large(instance: &Instance, plan: &mut [u8], v: Visit) -> Result<SearchAns
 // calls itself. So a short search touches no page of the large memory, and the large one is made when the arrays of the build are gone.
 fn run_from(instance: &Instance, plan: &mut [u8], v: Visit) -> Result<SearchAnswer, TooLong>
     requires { Startable instance.now v.s v.value v.d v.count }
-    ensures { Replied (length plan.old) (guided_rounds instance.now v.s v.d v.count) plan.new result }
+    ensures { Replied (length plan.old) (instance_rounds instance.now v.s v.d v.count) plan.new result }
 {
     if v.count > MOST {
         return run_large(instance, plan, v);
@@ -175,8 +175,8 @@ pub(crate) fn run_rounds(
     plan: &mut [u8],
     s: u64,
 ) -> Result<SearchAnswer, TooLong>
-    requires { instance.now.guide.limit < 256 }
-    ensures { Replied (length plan.old) (guided_search instance.now s) plan.new result }
+    requires { instance.now.constants.limit < 256 }
+    ensures { Replied (length plan.old) (instance_search instance.now s) plan.new result }
 {
     match value_of(instance, s) {
         None => {
@@ -184,7 +184,7 @@ pub(crate) fn run_rounds(
             Ok(SearchAnswer::None(0))
         }
         Some(value) => {
-            if u64::from(instance.guide.limit) < value {
+            if u64::from(instance.constants.limit) < value {
                 clear(plan);
                 return Ok(SearchAnswer::Over(0));
             }

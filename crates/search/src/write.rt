@@ -7,7 +7,7 @@ ghost use Rattle.planning.specs.Plan.{Plan, encode};
 ghost use Rattle.planning.specs.Search.{succeeded};
 ghost use Rattle.search.specs.Buffer.{Holds};
 ghost use Rattle.search.specs.Examination.{plan_size};
-ghost use Rattle.search.specs.Packed.{guided_examination};
+ghost use Rattle.search.specs.Packed.{instance_examination};
 ghost use Rattle.search.specs.Written.{Names, Succeeding, Starts, Writable};
 
 use crate::buffer::{ARRIVED, put};
@@ -40,7 +40,7 @@ fn action_of(b: u8) -> Option<usize>
 // The size and the first byte of the plan of a state that succeeds: a goal's, what the state's slot says, or else what examining it again answers.
 fn start_of(instance: &Instance, memory: &mut [Slot], s: u64, d: u32) -> Start
     requires { Succeeding instance.now memory.old s d }
-    ensures { Starts (guided_examination instance.now) instance.now.guide.budget d s memory.new result.size result.first }
+    ensures { Starts (instance_examination instance.now) instance.now.constants.budget d s memory.new result.size result.first }
 {
     if is_goal(instance.task, s) {
         return Start {
@@ -48,7 +48,7 @@ fn start_of(instance: &Instance, memory: &mut [Slot], s: u64, d: u32) -> Start
             first: ARRIVED,
         };
     }
-    if let Some(known) = recall(memory, s, d, instance.guide.budget) {
+    if let Some(known) = recall(memory, s, d, instance.constants.budget) {
         return Start {
             size: known.size,
             first: known.first,
@@ -112,7 +112,7 @@ impl<'a> Writer<'a> {
 // Writes the plan of a state that succeeds at the start of a buffer that it fits.
 pub(crate) fn write_found(instance: &Instance, memory: &mut [Slot], plan: &mut [u8], s: u64, d: u32)
     requires { (w : Succeeding instance.now memory.old s d) × (plan_size w.found ≤ length plan.old) × (plan_size w.found ≤ 1000000) }
-    ensures { (p : Plan) (k : ℕ) → guided_examination instance.now d s 0 ≡ succeeded p k → Holds (encode p) 0 plan.new }
+    ensures { (p : Plan) (k : ℕ) → instance_examination instance.now d s 0 ≡ succeeded p k → Holds (encode p) 0 plan.new }
 {
     let mut written = [EMPTY; 128];
     let mut writer = Writer {

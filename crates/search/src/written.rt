@@ -2,7 +2,7 @@
 // those of `memory`, with the number of the plan's bytes in place of the examinations and the place of the first in place of the size; a slot that is
 // taken for another plan only costs writing the first again. Asks for one slot at least.
 ghost use Rattle.std.specs.Prelude.{◌+◌, ◌<◌, ◌≤◌, length};
-ghost use Rattle.search.specs.Memory.{said, Noted};
+ghost use Rattle.search.specs.Memory.{stored, Noted};
 ghost use Rattle.search.specs.Written.{Copied, Finds};
 
 use crate::memory::{Slot, note, recall};
@@ -40,7 +40,7 @@ pub(crate) fn find_passage(written: &[Slot], s: u64, d: u32) -> Option<Passage>
 // The plan of state s with depth d has n bytes, which stand from `from` on.
 pub(crate) fn note_passage(written: &mut [Slot], s: u64, d: u32, from: usize, n: u32)
     requires { (1 ≤ length written.old) × (d < 256) × (from + n ≤ 1000000) }
-    ensures { Noted written.old written.new (said s d n from 0) }
+    ensures { Noted written.old written.new (stored s d n from 0) }
 {
     note(written, s, d, n, from as u32, 0);
 }

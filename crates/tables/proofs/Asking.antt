@@ -1,14 +1,15 @@
--- Laws of what an action says along its edges, and of asking it about one state. Assumes nothing.
+-- Laws of the Bellman value of an action along its edges, and of asking the action about one state. Assumes nothing.
 use Rattle.std.proofs.Common.{◌≡◌, ℕ, zero, suc, ◌+◌, ◌*◌, ◌/◌, ◌%◌, ◌<◌, ◌≤◌, min, max, true, false, ◌⊎◌, Bool, List, [], ◌∷◌, length, get_or, drop, set, sym, refl, ap, ◌∙◌, inl, inr, mul-le-mul, zero-add, arith, length-set, drop_of_length-le, get_or-set_other, le-ltb, ◌^◌, lt-ltb}
+use Rattle.planning.specs.Table.{infinite_entry}
 use native.Mathlib.Decide.{ℕ_discrete, dec_lt}
 use lib.Bits.{bit_and, and_zero_r}
 use lib.ListN.{get_or-eq_default}
 use Rattle.packed_task.specs.Packed.{outcome_count, action_weight}
-use Rattle.tables.specs.Steps.{Space, weigh, worst, raised, outcome_entry, offer, offer_at, permitted_at, none, more}
+use Rattle.tables.specs.Steps.{Space, weigh, worst, raised, outcome_entry, bellman_value, bellman_value_at, permitted_at, none, more}
 use Rattle.tables.specs.Waiting.{index_after, Waits, Heard, low, later}
 use Rattle.tables.specs.Queue.{Queue, Put}
 use Rattle.tables.specs.Edges.{edge_back, edge_action, edge_weight, edge_lanes, edge_free, edge_first, edge_end, lane_weight, lane_sum, lane_after, way_back, Plain, Single, Before, EdgesOf}
-use Rattle.tables.specs.Visits.{way_forward, Offered, Says, Only, Asked, AskedFrom}
+use Rattle.tables.specs.Visits.{way_forward, BellmanValue, Lowers, Only, Asked, AskedFrom}
 use Rattle.tables.specs.declared.worklist.edge.Edge.{Edge}
 use Rattle.tables.proofs.Settled.{inside}
 use Rattle.task_record.proofs.Tests.{false_true}
@@ -51,12 +52,12 @@ pub way_on : (x : Space) (es : List Edge) (f i j : ℕ) → i ≤ 4096 → edge_
 unfolding way_forward way_back
 way_on x es f i j l c b = omega (arith, l, c, b.near, b.sum)
 
-finite_inside : (t : List ℕ) (j : ℕ) → get_or t j 65535 < 65535 → j < length t
+finite_inside : (t : List ℕ) (j : ℕ) → get_or t j infinite_entry < infinite_entry → j < length t
 finite_inside t j l = either (dec_lt j (length t))
   where
     either : Dec (j < length t) → j < length t
     either (yes b) = b
-    either (no b) = let z : get_or t j 65535 ≡ 65535 = get_or-eq_default t 65535 (let n : length t ≤ j = omega arith in n) in absurd (omega (arith, z, l))
+    either (no b) = let z : get_or t j infinite_entry ≡ infinite_entry = get_or-eq_default t infinite_entry (let n : length t ≤ j = omega arith in n) in absurd (omega (arith, z, l))
 
 worst-least : (f : ℕ → ℕ) (b j n : ℕ) → ((o : ℕ) → o < n → f (j + o) ≤ b) → worst f j n ≤ b
 unfolding worst
@@ -67,50 +68,50 @@ worst-least f b j (suc n) h = let e : j + 0 ≡ j = omega arith in let a : f j �
 -- A weight from 65,535 on counts as that.
 raised_cut : (w v : ℕ) → raised (min w 65535) v ≡ raised w v
 unfolding raised
-raised_cut w v = either (dec_lt (w + v) 65535)
+raised_cut w v = either (dec_lt (w + v) infinite_entry)
   where
-    either : Dec (w + v < 65535) → raised (min w 65535) v ≡ raised w v
+    either : Dec (w + v < infinite_entry) → raised (min w 65535) v ≡ raised w v
     either (yes l) = let e : min w 65535 ≡ w = omega arith in rw e
-    either (no l) = rw (le-ltb (w + v) 65535 (omega arith), le-ltb (min w 65535 + v) 65535 (omega arith))
+    either (no l) = rw (le-ltb (w + v) infinite_entry (omega arith), le-ltb (min w 65535 + v) infinite_entry (omega arith))
 
 -- Where edge g leads from state i.
 abbrev pub onward : Space → List Edge → ℕ → ℕ → ℕ
 onward x es i g = way_forward es x.weights g i (get_or x.states i 0)
 
 -- The action of edge e, edge by edge: f is the next one, and `most` the largest entry so far, none infinite.
-pub record Offering (x : Space) (es : List Edge) (t : List ℕ) (e i f most : ℕ) : Type 0 where
+pub record Largest (x : Space) (es : List Edge) (t : List ℕ) (e i f most : ℕ) : Type 0 where
   pub begun : edge_first es e ≤ f
-  pub finite : most < 65535
-  pub over : (g : ℕ) → edge_first es e ≤ g → g < f → get_or t (onward x es i g) 65535 ≤ most
+  pub finite : most < infinite_entry
+  pub over : (g : ℕ) → edge_first es e ≤ g → g < f → get_or t (onward x es i g) infinite_entry ≤ most
   pub met : most ≤ worst (outcome_entry x.task x.mask x.weights t (edge_action es e) (get_or x.states i 0)) 0 (outcome_count x.task (edge_action es e))
 
-pub offering_start : (x : Space) (es : List Edge) (t : List ℕ) (e i : ℕ) → Offering x es t e i (edge_first es e) 0
-offering_start x es t e i = record { begun = omega arith; finite = omega arith; over = λ g l b. absurd (omega arith); met = omega arith }
+pub largest_start : (x : Space) (es : List Edge) (t : List ℕ) (e i : ℕ) → Largest x es t e i (edge_first es e) 0
+largest_start x es t e i = record { begun = omega arith; finite = omega arith; over = λ g l b. absurd (omega arith); met = omega arith }
 
 -- An outcome's entry is at most the largest.
 pub entry_met : (x : Space) (t : List ℕ) (m i n j : ℕ) → n < outcome_count x.task m → index_after x m i n ≡ j →
-    get_or t j 65535 ≤ worst (outcome_entry x.task x.mask x.weights t m (get_or x.states i 0)) 0 (outcome_count x.task m)
+    get_or t j infinite_entry ≤ worst (outcome_entry x.task x.mask x.weights t m (get_or x.states i 0)) 0 (outcome_count x.task m)
 unfolding outcome_entry index_after
 entry_met x t m i n j l e = let f = outcome_entry x.task x.mask x.weights t m (get_or x.states i 0) in
     let h : f n ≤ worst f 0 (outcome_count x.task m) = rw (zero-add n) at (worst_at f 0 (outcome_count x.task m) n l) in
-    let q : f n ≡ get_or t j 65535 = ap (λ y. get_or t y 65535) e in omega (arith, h, q)
+    let q : f n ≡ get_or t j infinite_entry = ap (λ y. get_or t y infinite_entry) e in omega (arith, h, q)
 
 module _ {x : Space} {sizes : List ℕ} {es : List Edge} {t : List ℕ} {k e i f most : ℕ} (o : EdgesOf x sizes (length t) es k) (l : e < k) (b : i < length t) (few : length t ≤ 4096)
-    (p : permitted_at x (edge_action es e) i ≡ true) (w : Offering x es t e i f most) where
+    (p : permitted_at x (edge_action es e) i ≡ true) (w : Largest x es t e i f most) where
   -- An outcome that edge f stands for.
   here : f < edge_end es e → (n : ℕ) × (n < outcome_count x.task (edge_action es e)) × (index_after x (edge_action es e) i n ≡ onward x es i f)
   here d = let a = o.each e f l (record { after = w.begun; before = d }) in (a.0, a.1, sym (way_on x es f i _ (omega (arith, b, few)) (o.back f (omega (arith, o.span e l, d))) (a.2.back i b p)))
 
-  module _ (j v : ℕ) (at : j ≡ onward x es i f) (is : v ≡ get_or t j 65535) (d : f < edge_end es e) where
-    pub offering_inside : v ≤ 65535 → (v ≡ 65535 → ⊥) → j < length t
-    offering_inside u n = finite_inside t j (omega (arith, u, n, is))
+  module _ (j v : ℕ) (at : j ≡ onward x es i f) (is : v ≡ get_or t j infinite_entry) (d : f < edge_end es e) where
+    pub largest_inside : v ≤ infinite_entry → (v ≡ infinite_entry → ⊥) → j < length t
+    largest_inside u n = finite_inside t j (omega (arith, u, n, is))
 
-    now_over : (m g : ℕ) → m ≡ max most v → edge_first es e ≤ g → g < f + 1 → Dec (g < f) → get_or t (onward x es i g) 65535 ≤ m
+    now_over : (m g : ℕ) → m ≡ max most v → edge_first es e ≤ g → g < f + 1 → Dec (g < f) → get_or t (onward x es i g) infinite_entry ≤ m
     now_over m g q y z (yes r) = let h = w.over g y r in omega (arith, h, q)
     now_over m g q y z (no r) = let s : g ≡ f = omega arith in rw (s, sym at, sym is) (omega (arith, q))
 
-    pub offering_next : (m : ℕ) → m ≡ max most v → v ≤ 65535 → (v ≡ 65535 → ⊥) → Offering x es t e i (f + 1) m
-    offering_next m q u n = let a = here d in let h = entry_met x t (edge_action es e) i a.0 j a.1 (a.2 ∙ sym at) in record {
+    pub largest_next : (m : ℕ) → m ≡ max most v → v ≤ infinite_entry → (v ≡ infinite_entry → ⊥) → Largest x es t e i (f + 1) m
+    largest_next m q u n = let a = here d in let h = entry_met x t (edge_action es e) i a.0 j a.1 (a.2 ∙ sym at) in record {
       begun = omega (arith, w.begun);
       finite = omega (arith, w.finite, q, u, n);
       over = λ g y z. now_over m g q y z (dec_lt g f);
@@ -118,12 +119,12 @@ module _ {x : Space} {sizes : List ℕ} {es : List Edge} {t : List ℕ} {k e i f
     }
 
     -- An entry is infinite, or its state waits.
-    pub offered_infinite : {marks : List Bool} {r : ℕ} → r ≡ 65535 → get_or t i 0 ≤ 65535 → v ≡ 65535 → Offered x t marks (edge_action es e) i r
-    offered_infinite q c z = let a = here d in let y : get_or t (index_after x (edge_action es e) i a.0) 65535 ≡ 65535 = rw (a.2, sym at) (sym is ∙ z) in
-        record { said = λ h. absurd (omega (arith, h, q)); nothing = λ h. low (outcome_bound x t (edge_action es e) i a.0 (get_or t i 0) a.1 c (omega (arith, y, c))) }
+    pub value_infinite : {marks : List Bool} {r : ℕ} → r ≡ infinite_entry → get_or t i 0 ≤ infinite_entry → v ≡ infinite_entry → BellmanValue x t marks (edge_action es e) i r
+    value_infinite q c z = let a = here d in let y : get_or t (index_after x (edge_action es e) i a.0) infinite_entry ≡ infinite_entry = rw (a.2, sym at) (sym is ∙ z) in
+        record { finite = λ h. absurd (omega (arith, h, q)); infinite = λ h. low (outcome_bound x t (edge_action es e) i a.0 (get_or t i 0) a.1 c (omega (arith, y, c))) }
 
-    pub offered_waits : {marks : List Bool} {r : ℕ} → r ≡ 65535 → Waits marks j → Offered x t marks (edge_action es e) i r
-    offered_waits q z = let a = here d in record { said = λ h. absurd (omega (arith, h, q)); nothing = λ h. later a.0 a.1 (rw (a.2, sym at) z) }
+    pub value_waits : {marks : List Bool} {r : ℕ} → r ≡ infinite_entry → Waits marks j → BellmanValue x t marks (edge_action es e) i r
+    value_waits q z = let a = here d in record { finite = λ h. absurd (omega (arith, h, q)); infinite = λ h. later a.0 a.1 (rw (a.2, sym at) z) }
 
   -- Every outcome has an edge, so the largest entry of the edges is that of the outcomes.
   all_over : edge_end es e ≤ f → worst (outcome_entry x.task x.mask x.weights t (edge_action es e) (get_or x.states i 0)) 0 (outcome_count x.task (edge_action es e)) ≤ most
@@ -132,11 +133,11 @@ module _ {x : Space} {sizes : List ℕ} {es : List Edge} {t : List ℕ} {k e i f
       let s = way_on x es a.0 i (index_after x (edge_action es e) i n) (omega (arith, b, few)) (o.back a.0 (omega (arith, o.span e l, a.1.before))) (a.2.back i b p) in
       let h = rw s at (w.over a.0 a.1.after (omega (arith, a.1.before, d))) in rw z h)
 
-  pub offered_end : {marks : List Bool} {r : ℕ} → edge_end es e ≤ f → get_or t i 0 ≤ 65535 → r ≡ raised (edge_weight es e) most → Offered x t marks (edge_action es e) i r
-  unfolding offer_at offer
-  offered_end d c q = let z : most ≡ worst (outcome_entry x.task x.mask x.weights t (edge_action es e) (get_or x.states i 0)) 0 (outcome_count x.task (edge_action es e)) = omega (arith, w.met, all_over d) in
+  pub value_end : {marks : List Bool} {r : ℕ} → edge_end es e ≤ f → get_or t i 0 ≤ infinite_entry → r ≡ raised (edge_weight es e) most → BellmanValue x t marks (edge_action es e) i r
+  unfolding bellman_value_at bellman_value
+  value_end d c q = let z : most ≡ worst (outcome_entry x.task x.mask x.weights t (edge_action es e) (get_or x.states i 0)) 0 (outcome_count x.task (edge_action es e)) = omega (arith, w.met, all_over d) in
       let y = q ∙ rw (o.weight e l) (raised_cut (action_weight x.task (edge_action es e)) most) ∙ ap (raised (action_weight x.task (edge_action es e))) z in
-      record { said = λ h. y; nothing = λ h. low (omega (arith, y, h, c)) }
+      record { finite = λ h. y; infinite = λ h. low (omega (arith, y, h, c)) }
 
 -- An edge whose first lane alone is free leads to j from the states that the lane's values give, and no others.
 pub single_on : (x : Space) (es : List Edge) (e i j : ℕ) → edge_back es e < 65536 → j < 65536 → Single es e → i ≡ way_back es e j + lane_sum (edge_lanes es e) (get_or x.states i 0) → onward x es i e ≡ j
@@ -150,25 +151,25 @@ single_before x es e i j p b = let s = get_or x.states i 0 in let y = lane_none 
 pub plain_on : (x : Space) (es : List Edge) (e i j : ℕ) → edge_back es e < 65536 → j < 65536 → Plain es e → i ≡ way_back es e j → onward x es i e ≡ j
 plain_on x es e i j c d p a = let n = lane_none (edge_lanes es e) (get_or x.states i 0) p.one in single_on x es e i j c d (record { two = p.two; free = p.free }) (omega (arith, a, n))
 
-raised_less : (w v said : ℕ) → said ≡ v + w → said < 65535 → said ≡ raised w v
+raised_less : (w v value : ℕ) → value ≡ v + w → value < infinite_entry → value ≡ raised w v
 unfolding raised
-raised_less w v said e l = let s : w + v < 65535 = omega arith in rw (lt-ltb (w + v) 65535 s) (omega (arith, e))
+raised_less w v value e l = let s : w + v < infinite_entry = omega arith in rw (lt-ltb (w + v) infinite_entry s) (omega (arith, e))
 
--- The only edge of an action says the entry that it leads to and its weight.
-offered_only : {x : Space} {sizes : List ℕ} {es : List Edge} {t : List ℕ} {marks : List Bool} {k e i said : ℕ} → EdgesOf x sizes (length t) es k → e < k → i < length t → length t ≤ 4096 → permitted_at x (edge_action es e) i ≡ true →
-    Only x es t e i said → Offered x t marks (edge_action es e) i said
-offered_only {x} {sizes} {es} {t} {marks} {k} {e} {i} {said} o l b few p s =
-    offered_end o l b few p (offering_next o l b few p (offering_start x es t e i) s.after (get_or t s.after 0) first (inside t s.after 0 65535 s.says.near) near (get_or t s.after 0) (omega arith) small finite) (omega (arith, s.alone)) s.says.small
-    (raised_less (edge_weight es e) (get_or t s.after 0) said s.says.said_is (omega (arith, s.says.less, s.says.small)))
+-- Along the only edge of an action the Bellman value is the entry that it leads to and its weight.
+value_only : {x : Space} {sizes : List ℕ} {es : List Edge} {t : List ℕ} {marks : List Bool} {k e i value : ℕ} → EdgesOf x sizes (length t) es k → e < k → i < length t → length t ≤ 4096 → permitted_at x (edge_action es e) i ≡ true →
+    Only x es t e i value → BellmanValue x t marks (edge_action es e) i value
+value_only {x} {sizes} {es} {t} {marks} {k} {e} {i} {value} o l b few p s =
+    value_end o l b few p (largest_next o l b few p (largest_start x es t e i) s.after (get_or t s.after 0) first (inside t s.after 0 infinite_entry s.lowers.near) near (get_or t s.after 0) (omega arith) small finite) (omega (arith, s.alone)) s.lowers.small
+    (raised_less (edge_weight es e) (get_or t s.after 0) value s.lowers.value_is (omega (arith, s.lowers.less, s.lowers.small)))
   where
     near : edge_first es e < edge_end es e
     near = omega (arith, s.alone)
 
-    small : get_or t s.after 0 ≤ 65535
-    small = omega (arith, s.says.said_is, s.says.less, s.says.small)
+    small : get_or t s.after 0 ≤ infinite_entry
+    small = omega (arith, s.lowers.value_is, s.lowers.less, s.lowers.small)
 
-    finite : get_or t s.after 0 ≡ 65535 → ⊥
-    finite z = omega (arith, z, s.says.said_is, s.says.less, s.says.small)
+    finite : get_or t s.after 0 ≡ infinite_entry → ⊥
+    finite z = omega (arith, z, s.lowers.value_is, s.lowers.less, s.lowers.small)
 
     first : s.after ≡ onward x es i (edge_first es e)
     first = let w = o.own e l in let z : edge_first es e ≡ e = omega (arith, w.after, w.before, s.alone) in rw z (sym s.there)
@@ -178,15 +179,15 @@ module _ {x : Space} {m i : ℕ} {t q : List ℕ} {marks : List Bool} {h c : ℕ
   pub asked_never : permitted_at x m i ≡ false → Asked x m i t marks c t q marks h c
   asked_never e = record { going = λ j n. going_none k; heard = λ p. false_true (sym e ∙ p) }
 
-  pub asked_miss : (v : ℕ) → Offered x t marks m i v → get_or t i 0 ≤ v → Asked x m i t marks c t q marks h c
-  asked_miss v o b = record { going = λ j n. going_none k; heard = λ p. either (dec_lt v 65535) }
+  pub asked_miss : (v : ℕ) → BellmanValue x t marks m i v → get_or t i 0 ≤ v → Asked x m i t marks c t q marks h c
+  asked_miss v o b = record { going = λ j n. going_none k; heard = λ p. either (dec_lt v infinite_entry) }
     where
-      either : Dec (v < 65535) → Heard x t marks m i
-      either (yes a) = low (omega (arith, o.said a, b))
-      either (no a) = o.nothing (omega arith)
+      either : Dec (v < infinite_entry) → Heard x t marks m i
+      either (yes a) = low (omega (arith, o.finite a, b))
+      either (no a) = o.infinite (omega arith)
 
-  hit : {q₁ : List ℕ} {marks₁ : List Bool} {d : ℕ} → m < x.actions → permitted_at x m i ≡ true → offer_at x t m i < get_or t i 0 → Put (length t) q marks h c i q₁ marks₁ d → Asked x m i t marks c (set t i (offer_at x t m i)) q₁ marks₁ h d
-  hit {q₁} {marks₁} {d} a e f p = let w = offer_at x t m i in let n = total-set t i w l in let b : w ≤ get_or t i 0 = omega (arith, f) in record {
+  hit : {q₁ : List ℕ} {marks₁ : List Bool} {d : ℕ} → m < x.actions → permitted_at x m i ≡ true → bellman_value_at x t m i < get_or t i 0 → Put (length t) q marks h c i q₁ marks₁ d → Asked x m i t marks c (set t i (bellman_value_at x t m i)) q₁ marks₁ h d
+  hit {q₁} {marks₁} {d} a e f p = let w = bellman_value_at x t m i in let n = total-set t i w l in let b : w ≤ get_or t i 0 = omega (arith, f) in record {
     going = λ j o. record {
       moved = record {
         long = length-set t i w;
@@ -206,22 +207,22 @@ module _ {x : Space} {m i : ℕ} {t q : List ℕ} {marks : List Bool} {h c : ℕ
       changed w z j (yes g) = inr (rw g z)
       changed w z j (no g) = inl (get_or-set_other t i j w 0 g)
 
-  pub asked_hit : {u q₁ : List ℕ} {marks₁ : List Bool} {n d : ℕ} (v : ℕ) → m < x.actions → permitted_at x m i ≡ true → get_or t i 0 ≤ 65535 → Offered x t marks m i v → v < get_or t i 0 → u ≡ set t i v → n ≡ length t →
+  pub asked_hit : {u q₁ : List ℕ} {marks₁ : List Bool} {n d : ℕ} (v : ℕ) → m < x.actions → permitted_at x m i ≡ true → get_or t i 0 ≤ infinite_entry → BellmanValue x t marks m i v → v < get_or t i 0 → u ≡ set t i v → n ≡ length t →
       Put n q marks h c i q₁ marks₁ d → Asked x m i t marks c u q₁ marks₁ h d
-  asked_hit v a e b o f g y p = let z = o.said (omega (arith, b, f)) in let g₁ = rw z at g in rw g₁ (hit a e (omega (arith, z, f)) (rw y at p))
+  asked_hit v a e b o f g y p = let z = o.finite (omega (arith, b, f)) in let g₁ = rw z at g in rw g₁ (hit a e (omega (arith, z, f)) (rw y at p))
 
 -- The only edge of its action.
-pub asked_only : {x : Space} {sizes : List ℕ} {es : List Edge} {t q u q₁ : List ℕ} {marks marks₁ : List Bool} {k e i said h c n d : ℕ} → EdgesOf x sizes (length t) es k → e < k → i < length t → length t ≤ 4096 → Queue (length t) q marks h c →
-    permitted_at x (edge_action es e) i ≡ true → Only x es t e i said → u ≡ set t i said → n ≡ length t → Put n q marks h c i q₁ marks₁ d → Asked x (edge_action es e) i t marks c u q₁ marks₁ h d
-asked_only {said = said} o l b few k p s g y z = asked_hit b k said (o.known _ l) p s.says.small (offered_only o l b few p s) s.says.less g y z
+pub asked_only : {x : Space} {sizes : List ℕ} {es : List Edge} {t q u q₁ : List ℕ} {marks marks₁ : List Bool} {k e i value h c n d : ℕ} → EdgesOf x sizes (length t) es k → e < k → i < length t → length t ≤ 4096 → Queue (length t) q marks h c →
+    permitted_at x (edge_action es e) i ≡ true → Only x es t e i value → u ≡ set t i value → n ≡ length t → Put n q marks h c i q₁ marks₁ d → Asked x (edge_action es e) i t marks c u q₁ marks₁ h d
+asked_only {value = value} o l b few k p s g y z = asked_hit b k value (o.known _ l) p s.lowers.small (value_only o l b few p s) s.lowers.less g y z
 
--- The entry that is said to be less is not the one that says so.
-pub less_other : (t : List ℕ) (i j w said : ℕ) → said ≡ get_or t j 0 + w → said < get_or t i 0 → j ≡ i → ⊥
-less_other t i j w said s l e = let f = rw e at s in omega (arith, f, l)
+-- The entry that an edge lowers is not the one that it leads to.
+pub less_other : (t : List ℕ) (i j w value : ℕ) → value ≡ get_or t j 0 + w → value < get_or t i 0 → j ≡ i → ⊥
+less_other t i j w value s l e = let f = rw e at s in omega (arith, f, l)
 
-module _ {x : Space} {es : List Edge} {t : List ℕ} {marks : List Bool} {e i j said h c : ℕ} (s : Says es t e i j said) where
+module _ {x : Space} {es : List Edge} {t : List ℕ} {marks : List Bool} {e i j value h c : ℕ} (s : Lowers es t e i j value) where
   pub asked_from : {u q₁ : List ℕ} {marks₁ : List Bool} {d : ℕ} → Asked x (edge_action es e) i t marks c u q₁ marks₁ h d → AskedFrom x es e j i t marks c u q₁ marks₁ h d
-  asked_from a = record { going = a.going j (less_other t i j (edge_weight es e) said s.said_is s.less); heard = λ p n. a.heard p }
+  asked_from a = record { going = a.going j (less_other t i j (edge_weight es e) value s.value_is s.less); heard = λ p n. a.heard p }
 
   pub asked_elsewhere : {q : List ℕ} → Queue (length t) q marks h c → (Before x es e i j → ⊥) → AskedFrom x es e j i t marks c t q marks h c
   asked_elsewhere k f = record { going = going_none k; heard = λ p n. absurd (f n) }

@@ -3,7 +3,7 @@ use Rattle.std.proofs.Common.{◌≡◌, ℕ, ◌-◌, ◌<◌, false, not, List
 use Rattle.planning.specs.Task.{Task}
 use Rattle.planning.specs.Table.{index, state_count, state_at}
 use Rattle.planning.proofs.Finite.{length-tabulate}
-use Rattle.packed_task.specs.Sets.{set_from}
+use Rattle.planning.specs.Sets.{set_from}
 use Rattle.packed_task.specs.Packed.{pack_by, low, picking, compiled}
 use Rattle.packed_task.specs.Packable.{Packable}
 use Rattle.tables.specs.Steps.{weights_from, Space, space, none, started, Settled}
@@ -15,11 +15,11 @@ use Rattle.packed_task.proofs.SetWords.{left_all, none_left}
 use Rattle.task_record.proofs.Tests.{false_true}
 
 -- Where every action may leave each state as it is, the start is the table.
-pub settled_idle : (x : Space) (t : List ℕ) (live : ℕ) → live ≡ set_from (λ m. not (idles x.task x.mask m)) 0 x.actions → live ≡ 0 → Settled x t t
-settled_idle x t live e z = record { steps = none; stable = record { low = λ m i l b q h. false_true (sym (rw q at (idle m l))) } }
+pub settled_idle : (x : Space) (t : List ℕ) (effective : ℕ) → effective ≡ set_from (λ m. not (idles x.task x.mask m)) 0 x.actions → effective ≡ 0 → Settled x t t
+settled_idle x t effective e z = record { steps = none; stable = record { low = λ m i l b q h. false_true (sym (rw q at (idle m l))) } }
   where
     idle : (m : ℕ) → m < x.actions → not (idles x.task x.mask m) ≡ false
-    idle m l = none_left (λ m. not (idles x.task x.mask m)) 0 x.actions live (left_all (λ m. not (idles x.task x.mask m)) x.actions live e) z m (omega arith) l
+    idle m l = none_left (λ m. not (idles x.task x.mask m)) 0 x.actions effective (left_all (λ m. not (idles x.task x.mask m)) x.actions effective e) z m (omega arith) l
 
 module _ (a : List ℕ) (actions n mask : ℕ) (sizes p weights states new : List ℕ)
     (m : mask ≡ pack_by picking p) (w : weights ≡ weights_from 1 (take n sizes) p ++ replicate (16 - n) 0)

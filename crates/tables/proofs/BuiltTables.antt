@@ -8,12 +8,12 @@ use Rattle.planning.specs.System.{IsCost}
 use Rattle.planning.specs.Plan.{Plan, Strong, cost}
 use Rattle.planning.specs.Task.{Task, WellFormed, system}
 use Rattle.planning.specs.Pattern.{Additive, abstraction}
-use Rattle.planning.specs.Table.{state_count, state_at, table, tables, entry_of, cost_of, estimate, Small}
+use Rattle.planning.specs.Table.{state_count, state_at, table, tables, entry_of, cost_of, estimate, Small, infinite_entry}
 use Rattle.planning.proofs.Finite.{all_imp, all_at, get_or_map}
 use Rattle.planning.proofs.Table.{table-length, table_entry, light_entries_bounded, cost_of_entry}
 use Rattle.task_record.specs.Record.{Sound}
 use Rattle.task_record.specs.State.{state_check}
-use Rattle.task_record.specs.TaskOf.{task_of, patterns_of}
+use Rattle.task_record.specs.TaskOf.{task_of, patterns_of, values_of}
 use Rattle.task_record.proofs.SoundTask.{sound_well_formed}
 use Rattle.task_record.proofs.States.{checked_good}
 use Rattle.patterns.specs.Space.{entries_needed, judge_tables, table_check}
@@ -21,7 +21,7 @@ use Rattle.patterns.specs.Estimate.{judge_estimate, estimate_check}
 use Rattle.task_record.specs.Refusals.{where_ok}
 use Rattle.task_record.specs.declared.refusal.Refusal.{Refusal}
 use Rattle.tables.specs.RecordTables.{table_build, Fits, Buildable, built_over, tables_built, tables_prepared}
-use Rattle.patterns.specs.Value.{value_of, values_of, state_value}
+use Rattle.patterns.specs.Value.{value_of, state_value}
 use Rattle.patterns.proofs.Built.{built_length, unit_weights, call_on_built, finite_answer_admissible, infinite_answer_no_plan}
 use Rattle.patterns.proofs.Refusals.{ready_means, fits_means, checked_ready, answered_means}
 use Rattle.patterns.proofs.Room.{fits_small, fits_room, small_fits}
@@ -67,12 +67,12 @@ module _ (t : Task) where
       (chained_table ps rest k (omega arith))
 
   pub chained_entry : (ps : List (List ℕ)) (rest : List ℕ) (k i : ℕ) → k < length ps → i < state_count t.sizes (get_or ps k []) →
-      get_or (tables t ps ++ rest) (entries_needed t.sizes (take k ps) + i) 65535 ≡ entry_of (get_or (table t (get_or ps k [])) i inf)
+      get_or (tables t ps ++ rest) (entries_needed t.sizes (take k ps) + i) infinite_entry ≡ entry_of (get_or (table t (get_or ps k [])) i inf)
   unfolding table
   chained_entry ps rest k i l h = let begin = entries_needed t.sizes (take k ps) in let states = state_count t.sizes (get_or ps k []) in
-      sym (get_or-take states (drop begin (tables t ps ++ rest)) i 65535 h ∙ get_or-drop begin (tables t ps ++ rest) i 65535)
-      ∙ ap (λ l. get_or l i 65535) (chained_table ps rest k l)
-      ∙ get_or_map entry_of (table t (get_or ps k [])) i inf 65535 (rw (table-length t (get_or ps k []) (λ a. a.weight)) h)
+      sym (get_or-take states (drop begin (tables t ps ++ rest)) i infinite_entry h ∙ get_or-drop begin (tables t ps ++ rest) i infinite_entry)
+      ∙ ap (λ l. get_or l i infinite_entry) (chained_table ps rest k l)
+      ∙ get_or_map entry_of (table t (get_or ps k [])) i inf infinite_entry (rw (table-length t (get_or ps k []) (λ a. a.weight)) h)
 
 module _ (r tabs : List ℕ) where
   -- A build that refuses nothing.
@@ -99,7 +99,7 @@ module _ (r tabs : List ℕ) where
       pattern = get_or (patterns_of r) k []
 
       abbrev pub entry : ℕ
-      entry = get_or (tables_built r tabs) (entries_needed (task_of r).sizes (take k (patterns_of r)) + i) 65535
+      entry = get_or (tables_built r tabs) (entries_needed (task_of r).sizes (take k (patterns_of r)) + i) infinite_entry
 
       well_formed_lem : WellFormed (task_of r)
       well_formed_lem = sound_well_formed r buildable.sound

@@ -3,7 +3,7 @@ use Rattle.std.proofs.Common.{◌≡◌, ℕ, zero, suc, ◌+◌, ◌-◌, ◌*�
 use lib.Bits.{bit_and}
 use lib.Count.{count_trailing_zeros}
 use Rattle.packed_task.specs.Packed.{outcome_count}
-use Rattle.packed_task.specs.Sets.{set_from}
+use Rattle.planning.specs.Sets.{set_from}
 use Rattle.packed_task.specs.Within.{idles}
 use Rattle.tables.specs.Edges.{outcomes_from}
 use Rattle.packed_task.proofs.SetWords.{Left, left_all, Next, next_left, none_left}
@@ -50,8 +50,8 @@ pub record Counting (a : List ℕ) (k n rest c : ℕ) : Type 0 where
   pub few : c ≤ 8 * from
   pub sum : c + outcomes_from a k from (n - from) ≡ outcomes_from a k 0 n
 
-pub counting_start : (a : List ℕ) (k n live : ℕ) → live ≡ set_from (λ m. not (idles a k m)) 0 n → Counting a k n live 0
-counting_start a k n live e = record { from = 0; left = left_all (λ m. not (idles a k m)) n live e; bound = omega arith; few = omega arith; sum = let z : n - 0 ≡ n = omega arith in rw z (omega arith) }
+pub counting_start : (a : List ℕ) (k n effective : ℕ) → effective ≡ set_from (λ m. not (idles a k m)) 0 n → Counting a k n effective 0
+counting_start a k n effective e = record { from = 0; left = left_all (λ m. not (idles a k m)) n effective e; bound = omega arith; few = omega arith; sum = let z : n - 0 ≡ n = omega arith in rw z (omega arith) }
 
 module _ {a : List ℕ} {k n rest c : ℕ} (few : n ≤ 64) (v : Counting a k n rest c) where
   pub counting_known : (rest ≡ 0 → ⊥) → (count_trailing_zeros 64 rest < n) × (c ≤ 8 * count_trailing_zeros 64 rest)

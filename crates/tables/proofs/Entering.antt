@@ -1,5 +1,6 @@
 -- Laws of entering the goals: the values of a digit, one after the other. Assumes nothing.
 use Rattle.std.proofs.Common.{◌≡◌, ℕ, zero, suc, ◌+◌, ◌*◌, ◌/◌, ◌%◌, ◌<◌, ◌≤◌, ◌⊎◌, Bool, List, [], ◌∷◌, length, get_or, drop, replicate, sym, refl, ap, ◌∙◌, inl, inr, ⊎_elim, arith}
+use Rattle.planning.specs.Table.{infinite_entry}
 use native.Mathlib.Decide.{dec_lt, ℕ_discrete}
 use lib.ListN.{length-replicate, get_or-replicate, get_or-eq_default}
 use Rattle.tables.specs.Steps.{weigh}
@@ -123,12 +124,12 @@ module _ {ws sizes : List ℕ} {v free at z : ℕ} {t u : List ℕ} (w : Through
       small r = let e : v + 0 ≡ v = omega arith in rw (lowest r.values) (rw e at (r.are.below 0 (omega arith) (λ q. f (lowest free ∙ q))))
 
 -- Where no entry is 0 none need wait.
-pub held_none : {m n h c : ℕ} {q : List ℕ} {marks : List Bool} → Queue n q marks h c → n ≡ m → h ≡ 0 → c ≡ 0 → Held (replicate m 65535) n q marks h c
-held_none {m} v e z f = let l = length-replicate {A = ℕ} m 65535 in record {
+pub held_none : {m n h c : ℕ} {q : List ℕ} {marks : List Bool} → Queue n q marks h c → n ≡ m → h ≡ 0 → c ≡ 0 → Held (replicate m infinite_entry) n q marks h c
+held_none {m} v e z f = let l = length-replicate {A = ℕ} m infinite_entry in record {
   states = e ∙ sym l;
   head = z;
   wait = record {
     queue = rw (e ∙ sym l, z) at v;
-    zeros = λ j b g. absurd (let k = get_or-replicate {A = ℕ} m j 65535 0 (omega (arith, b, l)) in omega (arith, k, g));
+    zeros = λ j b g. absurd (let k = get_or-replicate {A = ℕ} m j infinite_entry 0 (omega (arith, b, l)) in omega (arith, k, g));
   };
 }

@@ -40,10 +40,10 @@ module _ (text record₀ tabs : List ℕ) (read : read_answer text record₀ ≡
       (sym (sound_judged r (length tabs) (record_left_sound text record₀ read)) ∙ h)
 
   -- "Tables follow each other in pattern order; entries after the last stay untouched": n entries, those of the task that the text says.
-  pub tables_of_text : (said : List ℕ) (n : ℕ) → read_whole text ≡ complete said → table_build (read_leaves text record₀) (length tabs) ≡ Ok n →
-      tables_built (read_leaves text record₀) tabs ≡ tables (task_of said) (patterns_of said) ++ drop n tabs
+  pub tables_of_text : (rec : List ℕ) (n : ℕ) → read_whole text ≡ complete rec → table_build (read_leaves text record₀) (length tabs) ≡ Ok n →
+      tables_built (read_leaves text record₀) tabs ≡ tables (task_of rec) (patterns_of rec) ++ drop n tabs
   unfolding built_over
-  tables_of_text said n says h =
+  tables_of_text rec n says h =
       tables_left_lem (read_leaves text record₀) tabs n h
-      ∙ ap₂ ◌++◌ (ap₂ tables (task_left text record₀ read said says) (patterns_left text record₀ read said says))
+      ∙ ap₂ ◌++◌ (ap₂ tables (task_left text record₀ read rec says) (patterns_left text record₀ read rec says))
       (ap (λ k. drop k tabs) (entries-written (read_leaves text record₀) tabs n h))

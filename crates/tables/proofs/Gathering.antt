@@ -4,13 +4,13 @@ use native.Mathlib.Nat.{pow-le-pow_right}
 use lib.Bits.{bit_or, or_zero_r, or_block}
 use mir.Val.{bool_byte}
 use Rattle.planning.proofs.Test.{by_test}
-use Rattle.packed_task.specs.Sets.{set_from}
-use Rattle.packed_task.proofs.SetWords.{set_below}
+use Rattle.planning.specs.Sets.{set_from}
+use Rattle.planning.proofs.Sets.{set_below}
 
 -- No number yet.
-pub set_none : (f : ℕ → Bool) (m : ℕ) → 0 ≡ set_from f m 0
+pub set_of_none : (f : ℕ → Bool) (m : ℕ) → 0 ≡ set_from f m 0
 unfolding set_from
-set_none f m = refl
+set_of_none f m = refl
 
 -- A 1 in the place that a shift leaves free.
 or_one : (a : ℕ) → bit_or (a * 2) 1 ≡ a * 2 + 1

@@ -7,11 +7,11 @@ use lib.Bits.{bit_and, and_zero_l, and_zero_r, and_le_l, and_le_r}
 use lib.ListN.{length-replicate, get_or-replicate}
 use Rattle.std.proofs.lemmas.List.{ext_get_or}
 use Rattle.planning.specs.Finite.{tabulate}
-use Rattle.planning.specs.Table.{state_count, state_at}
+use Rattle.planning.specs.Table.{state_count, state_at, infinite_entry}
 use Rattle.planning.proofs.Finite.{get_or_tabulate, length-tabulate}
 use Rattle.planning.proofs.Test.{by_test}
 use Rattle.packed_task.specs.Packed.{pack_by, low, goal_mask, goal_value}
-use Rattle.tables.specs.Steps.{weigh, weights_from, Space, space, started, Sized}
+use Rattle.tables.specs.Steps.{weigh, weights_from, Space, space, started, Bounded}
 use Rattle.packed_task.specs.Within.{is_goal}
 use Rattle.tables.specs.Edges.{digit, PlainMask, PlainNeed, Regular, Walkable}
 use Rattle.tables.specs.Goals.{Reached, Entered}
@@ -185,25 +185,25 @@ module _ {x : Space} {sizes : List ℕ} {n : ℕ} (r : Regular x sizes n) where
       let w = word_is x.mask needed named_value r.mask_plain r.goal_plain s (λ u. r.inside i u l) m in record {
         values = y;
         are = record { fixed = f; below = λ u b q. let z : 0 + u ≡ u = omega arith in rw z (below u q) };
-        sum = sym (r.place i l) ∙ ap (weigh x.weights) w ∙ weigh_sum x.weights (bit_and named_value x.mask) y (apart x.mask needed named_value r.mask_plain r.goal_plain y f);
+        sum = sym (r.index_is i l) ∙ ap (weigh x.weights) w ∙ weigh_sum x.weights (bit_and named_value x.mask) y (apart x.mask needed named_value r.mask_plain r.goal_plain y f);
       }
     where
       below : (u : ℕ) → (digit (free_of x.mask needed) u ≡ 0 → ⊥) → digit (bit_and (get_or x.states i 0) (free_of x.mask needed)) u < get_or sizes u 0
       below u q = let s = get_or x.states i 0 in ⊎_elim (λ e. absurd (q (free_digit u x.mask needed ∙ free_outside _ _ e)))
           (λ e. let b = r.below i u l e in let a = and_le_l (digit s u) (digit (free_of x.mask needed) u) in rw (and_digit s (free_of x.mask needed) u) (omega (arith, a, b))) (r.mask_plain u)
 
-  pub entered_started : (new : List ℕ) → Entered x.weights sizes 0 (free_of x.mask needed) (weigh x.weights (bit_and named_value x.mask)) (replicate n 65535) new → new ≡ started x.task x.mask x.states n
+  pub entered_started : (new : List ℕ) → Entered x.weights sizes 0 (free_of x.mask needed) (weigh x.weights (bit_and named_value x.mask)) (replicate n infinite_entry) new → new ≡ started x.task x.mask x.states n
   unfolding started
-  entered_started new w = ext_get_or 0 new _ (long ∙ sym (length-tabulate {A = ℕ} (λ i. cond (is_goal x.task x.mask (get_or x.states i 0)) 0 65535) 0 n)) (λ i l. let b : i < n = omega (arith, l, long) in
-      let z : 0 + i ≡ i = omega arith in entry i b ∙ sym (get_or_tabulate (λ i. cond (is_goal x.task x.mask (get_or x.states i 0)) 0 65535) 0 n i 0 b ∙ rw z))
+  entered_started new w = ext_get_or 0 new _ (long ∙ sym (length-tabulate {A = ℕ} (λ i. cond (is_goal x.task x.mask (get_or x.states i 0)) 0 infinite_entry) 0 n)) (λ i l. let b : i < n = omega (arith, l, long) in
+      let z : 0 + i ≡ i = omega arith in entry i b ∙ sym (get_or_tabulate (λ i. cond (is_goal x.task x.mask (get_or x.states i 0)) 0 infinite_entry) 0 n i 0 b ∙ rw z))
     where
       long : length new ≡ n
-      long = w.long ∙ length-replicate {A = ℕ} n 65535
+      long = w.long ∙ length-replicate {A = ℕ} n infinite_entry
 
-      entry : (i : ℕ) → i < n → get_or new i 0 ≡ cond (is_goal x.task x.mask (get_or x.states i 0)) 0 65535
+      entry : (i : ℕ) → i < n → get_or new i 0 ≡ cond (is_goal x.task x.mask (get_or x.states i 0)) 0 infinite_entry
       entry i l = by_test (is_goal x.task x.mask (get_or x.states i 0))
-          (λ g. rw g (w.reached i (rw (length-replicate {A = ℕ} n 65535) l) (goal_reached i l g)))
-          (λ g. rw g (⊎_elim (λ e. e ∙ get_or-replicate n i 65535 0 l) (λ h. false_true (sym g ∙ reached_goal i l h)) (w.others i)))
+          (λ g. rw g (w.reached i (rw (length-replicate {A = ℕ} n infinite_entry) l) (goal_reached i l g)))
+          (λ g. rw g (⊎_elim (λ e. e ∙ get_or-replicate n i infinite_entry 0 l) (λ h. false_true (sym g ∙ reached_goal i l h)) (w.others i)))
 
 -- The words of a pattern's states as a list.
 abbrev listed : List ℕ → List ℕ → List ℕ
@@ -213,16 +213,16 @@ listed_at : (zs p : List ℕ) (i : ℕ) → i < state_count zs p → get_or (lis
 listed_at zs p i l = let f : ℕ → ℕ = λ i. pack_by low (state_at zs p i) in let z : 0 + i ≡ i = omega arith in get_or_tabulate f 0 (state_count zs p) i 0 l ∙ ap f z
 
 -- The same of a pattern, and of any list of the words of its states.
-module _ {task sizes p : List ℕ} {mask actions n : ℕ} (k : Walkable task mask actions n sizes p) (z : Sized sizes p n) (weights : List ℕ) (e : weights ≡ weights_from 1 (take n sizes) p ++ replicate (16 - n) 0) where
+module _ {task sizes p : List ℕ} {mask actions n : ℕ} (k : Walkable task mask actions n sizes p) (z : Bounded sizes p n) (weights : List ℕ) (e : weights ≡ weights_from 1 (take n sizes) p ++ replicate (16 - n) 0) where
   pub first_near : weigh weights (bit_and (goal_value task) mask) ≤ 4096
   first_near = first_small (k.regular weights (listed (take n sizes) p) e (listed_at (take n sizes) p)) (count_positive (take n sizes) p z.values_some)
 
-  pub goals_started : (words new t : List ℕ) → ((i : ℕ) → i < state_count (take n sizes) p → get_or words i 0 ≡ pack_by low (state_at (take n sizes) p i)) → t ≡ replicate (state_count (take n sizes) p) 65535 →
+  pub goals_started : (words new t : List ℕ) → ((i : ℕ) → i < state_count (take n sizes) p → get_or words i 0 ≡ pack_by low (state_at (take n sizes) p i)) → t ≡ replicate (state_count (take n sizes) p) infinite_entry →
       Entered weights sizes 0 (free_of mask (goal_mask task)) (weigh weights (bit_and (goal_value task) mask)) t new → new ≡ started task mask words (state_count (take n sizes) p)
   goals_started words new t s f w = entered_started (k.regular weights words e s) new (rw f at w)
 
 -- Where no action counts they are the table.
-pub goals_table : (p : Patterned) (new : List ℕ) → Ready p → p.live ≡ 0 → ((words : List ℕ) → WordsOf p words → new ≡ started p.task p.mask words (states_of p)) → TableOf p new
+pub goals_table : (p : Patterned) (new : List ℕ) → Ready p → p.effective ≡ 0 → ((words : List ℕ) → WordsOf p words → new ≡ started p.task p.mask words (states_of p)) → TableOf p new
 goals_table p new k z s = let ws = weights_from 1 (take p.variables p.sizes) p.picked ++ replicate (16 - p.variables) 0 in let words = listed (take p.variables p.sizes) p.picked in
     let h = listed_at (take p.variables p.sizes) p.picked in
-    parts_settled p.task p.actions p.variables p.mask p.sizes p.picked ws words new k.masked refl h new (s words h) (settled_idle (space p.task p.mask ws words p.actions) new p.live k.lively z)
+    parts_settled p.task p.actions p.variables p.mask p.sizes p.picked ws words new k.masked refl h new (s words h) (settled_idle (space p.task p.mask ws words p.actions) new p.effective k.effective_is z)

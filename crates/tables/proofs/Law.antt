@@ -7,8 +7,9 @@ use lib.ListN.{get_or-eq_default}
 use Rattle.planning.specs.Finite.{any_from}
 use Rattle.planning.proofs.Test.{by_test}
 use Rattle.planning.proofs.Finite.{any_out, any_in, get_or_tabulate, length-tabulate}
+use Rattle.planning.specs.Table.{infinite_entry}
 use Rattle.packed_task.specs.Packed.{outcome_count, action_weight}
-use Rattle.tables.specs.Steps.{weigh, Space, worst, raised, outcome_entry, offer, offer_at, none, started, Settled}
+use Rattle.tables.specs.Steps.{weigh, Space, worst, raised, outcome_entry, bellman_value, bellman_value_at, none, started, Settled}
 use Rattle.packed_task.specs.Within.{is_goal, after}
 use Rattle.tables.proofs.Settled.{inside, then}
 use Rattle.tables.proofs.Stepping.{raised_high}
@@ -29,19 +30,19 @@ worst_same f g j (suc n) h = let e : j + 0 ≡ j = omega arith in
     let a : f j ≡ g j = rw e at (h 0 (omega arith)) in
     let b = worst_same f g (suc j) n (λ o l. let q : j + suc o ≡ suc j + o = omega arith in rw q at (h (suc o) (omega arith))) in rw (a, b)
 
-pub outcome_bound : (x : Space) (t : List ℕ) (m i o e : ℕ) → o < outcome_count x.task m → e ≤ 65535 → e ≤ get_or t (index_after x m i o) 65535 → e ≤ offer_at x t m i
-unfolding offer_at offer outcome_entry index_after
+pub outcome_bound : (x : Space) (t : List ℕ) (m i o e : ℕ) → o < outcome_count x.task m → e ≤ infinite_entry → e ≤ get_or t (index_after x m i o) infinite_entry → e ≤ bellman_value_at x t m i
+unfolding bellman_value_at bellman_value outcome_entry index_after
 outcome_bound x t m i o e l b h = let s = get_or x.states i 0 in
     let w = worst_at (outcome_entry x.task x.mask x.weights t m s) 0 (outcome_count x.task m) o l in
     let q : 0 + o ≡ o = zero-add o in
     raised_high e (action_weight x.task m) (worst (outcome_entry x.task x.mask x.weights t m s) 0 (outcome_count x.task m)) b (let v = rw q at w in omega (arith, v, h))
 
--- The offer of an action none of whose outcomes is state j does not depend on entry j.
-offer_same : (x : Space) (t : List ℕ) (m i j v : ℕ) → ((o : ℕ) → o < outcome_count x.task m → index_after x m i o ≡ j → ⊥) → offer_at x (set t j v) m i ≡ offer_at x t m i
-unfolding offer_at offer outcome_entry index_after
-offer_same x t m i j v h = let s = get_or x.states i 0 in
+-- The Bellman value of an action none of whose outcomes is state j does not depend on entry j.
+bellman_value_same : (x : Space) (t : List ℕ) (m i j v : ℕ) → ((o : ℕ) → o < outcome_count x.task m → index_after x m i o ≡ j → ⊥) → bellman_value_at x (set t j v) m i ≡ bellman_value_at x t m i
+unfolding bellman_value_at bellman_value outcome_entry index_after
+bellman_value_same x t m i j v h = let s = get_or x.states i 0 in
     ap (raised (action_weight x.task m)) (worst_same (outcome_entry x.task x.mask x.weights (set t j v) m s) (outcome_entry x.task x.mask x.weights t m s) 0 (outcome_count x.task m)
-    (λ o l. let q : 0 + o ≡ o = zero-add o in rw q (get_or-set_other t j (weigh x.weights (after x.task x.mask m o s)) v 65535 (h o l))))
+    (λ o l. let q : 0 + o ≡ o = zero-add o in rw q (get_or-set_other t j (weigh x.weights (after x.task x.mask m o s)) v infinite_entry (h o l))))
 
 -- Whether an outcome of action m leads from i to j.
 leads_or : {C : Type 0} (x : Space) (m i j : ℕ) → (Leads x m i j → C) → (((o : ℕ) → o < outcome_count x.task m → index_after x m i o ≡ j → ⊥) → C) → C
@@ -62,30 +63,30 @@ module _ (x : Space) (t : List ℕ) (marks marks₁ : List Bool) (m i v : ℕ) (
   pub heard_lowered : (n j : ℕ) → Heard x t marks n j → Heard x (set t i v) marks₁ n j
   heard_lowered n j (later o b w) = later o b (still (index_after x n j o) w)
   heard_lowered n j (low h) = leads_or x n j i (leads_later x (set t i v) marks₁ n j i here)
-      (λ f. low (omega (arith, offer_same x t n j i v f, set_lower t i j v l less (ℕ_discrete j i))))
+      (λ f. low (omega (arith, bellman_value_same x t n j i v f, set_lower t i j v l less (ℕ_discrete j i))))
 
-  pub heard_here : v ≡ offer_at x t m i → Heard x (set t i v) marks₁ m i
+  pub heard_here : v ≡ bellman_value_at x t m i → Heard x (set t i v) marks₁ m i
   heard_here e = leads_or x m i i (leads_later x (set t i v) marks₁ m i i here)
-      (λ f. low (omega (arith, offer_same x t m i i v f, get_or-set_same t i v 0 l)))
+      (λ f. low (omega (arith, bellman_value_same x t m i i v f, get_or-set_same t i v 0 l)))
 
 -- The start, with every goal waiting.
 module _ (x : Space) (n : ℕ) (marks : List Bool) (acting : (m : ℕ) → m < x.actions → 1 ≤ outcome_count x.task m) (goals : (j : ℕ) → j < n → is_goal x.task x.mask (get_or x.states j 0) ≡ true → Waits marks j) where
   abbrev first : List ℕ
   first = started x.task x.mask x.states n
 
-  first_at : (j d : ℕ) → j < n → get_or first j d ≡ cond (is_goal x.task x.mask (get_or x.states j 0)) 0 65535
+  first_at : (j d : ℕ) → j < n → get_or first j d ≡ cond (is_goal x.task x.mask (get_or x.states j 0)) 0 infinite_entry
   unfolding started
   first_at j d l = get_or_tabulate _ 0 n j d l ∙ rw (zero-add j)
 
   first_heard : (m i : ℕ) → m < x.actions → i < n → (j : ℕ) → index_after x m i 0 ≡ j → Dec (j < n) → Heard x first marks m i
   unfolding started
   first_heard m i l b j e (no g) = let s = acting m l in let q = first_at i 0 b in
-      let z : get_or first j 65535 ≡ 65535 = get_or-eq_default first 65535 (let k : length first ≡ n = length-tabulate _ 0 n in omega (arith, k)) in
+      let z : get_or first j infinite_entry ≡ infinite_entry = get_or-eq_default first infinite_entry (let k : length first ≡ n = length-tabulate _ 0 n in omega (arith, k)) in
       low (outcome_bound x first m i 0 (get_or first i 0) s (by_test (is_goal x.task x.mask (get_or x.states i 0)) (λ u. rw (q, u) (omega arith)) (λ u. rw (q, u) (omega arith)))
       (rw (e, z) (by_test (is_goal x.task x.mask (get_or x.states i 0)) (λ u. rw (q, u) (omega arith)) (λ u. rw (q, u) (omega arith)))))
   first_heard m i l b j e (yes g) = let s = acting m l in let q = first_at i 0 b in by_test (is_goal x.task x.mask (get_or x.states j 0))
       (λ u. later 0 s (rw e (goals j g u)))
-      (λ u. let z : get_or first j 65535 ≡ 65535 = first_at j 65535 g ∙ rw u in
+      (λ u. let z : get_or first j infinite_entry ≡ infinite_entry = first_at j infinite_entry g ∙ rw u in
       low (outcome_bound x first m i 0 (get_or first i 0) s (by_test (is_goal x.task x.mask (get_or x.states i 0)) (λ u. rw (q, u) (omega arith)) (λ u. rw (q, u) (omega arith)))
       (rw (e, z) (by_test (is_goal x.task x.mask (get_or x.states i 0)) (λ u. rw (q, u) (omega arith)) (λ u. rw (q, u) (omega arith))))))
 
@@ -97,27 +98,27 @@ module _ (x : Space) (n : ℕ) (marks : List Bool) (acting : (m : ℕ) → m < x
 pub kept_settled : (x : Space) (first t : List ℕ) (marks : List Bool) → ((j : ℕ) → Waits marks j → ⊥) → Kept x first t marks → Settled x first t
 kept_settled x begun t marks quiet k = record { steps = k.steps; stable = record { low = λ m i l b q p. from m i (k.heard m i (record { known = l; moves = q; enabled = p }) b) } }
   where
-    from : (m i : ℕ) → Heard x t marks m i → get_or t i 0 ≤ offer_at x t m i
+    from : (m i : ℕ) → Heard x t marks m i → get_or t i 0 ≤ bellman_value_at x t m i
     from m i (low h) = h
     from m i (later o b w) = absurd (quiet (index_after x m i o) w)
 
 -- An early end: where no entry is more than 1 above one that waits, nothing can fall any more, since every action weighs something.
-pub raised-least : (e w v : ℕ) → e ≤ 65535 → e ≤ w + v → e ≤ raised w v
+pub raised-least : (e w v : ℕ) → e ≤ infinite_entry → e ≤ w + v → e ≤ raised w v
 unfolding raised
-raised-least e w v b l = by_test (ltb (w + v) 65535) (λ h. rw h l) (λ h. rw h b)
+raised-least e w v b l = by_test (ltb (w + v) infinite_entry) (λ h. rw h l) (λ h. rw h b)
 
 pub kept_level : (x : Space) (first t : List ℕ) (marks : List Bool) → ((m : ℕ) → m < x.actions → 1 ≤ action_weight x.task m) → ((j : ℕ) → Waits marks j → j < length t) →
     Level t marks → Kept x first t marks → Settled x first t
-unfolding offer_at offer outcome_entry index_after
+unfolding bellman_value_at bellman_value outcome_entry index_after
 kept_level x first t marks light known v k =
     record { steps = k.steps; stable = record { low = λ m i l c q p. from m i l c (k.heard m i (record { known = l; moves = q; enabled = p }) c) } }
   where
-    from : (m i : ℕ) → m < x.actions → i < length t → Heard x t marks m i → get_or t i 0 ≤ offer_at x t m i
+    from : (m i : ℕ) → m < x.actions → i < length t → Heard x t marks m i → get_or t i 0 ≤ bellman_value_at x t m i
     from m i l c (low h) = h
     from m i l c (later o d w) = let s = get_or x.states i 0 in let j = index_after x m i o in
         let f = outcome_entry x.task x.mask x.weights t m s in
         let a = worst_at f 0 (outcome_count x.task m) o d in
-        let z : get_or t j 0 ≡ f o = inside t j 0 65535 (known j w) in
+        let z : get_or t j 0 ≡ f o = inside t j 0 infinite_entry (known j w) in
         let q : 0 + o ≡ o = zero-add o in let a₁ : f o ≤ worst f 0 (outcome_count x.task m) = rw q at a in
         raised-least (get_or t i 0) (action_weight x.task m) (worst f 0 (outcome_count x.task m)) (v.small i c) (omega (arith, v.near i j c w (known j w), light m l, z, a₁))
 

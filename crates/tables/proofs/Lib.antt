@@ -2,7 +2,7 @@
 
 -- Sets that are gathered one number at a time.
 pub mod Gathering
--- Entries that came by steps, and of which no action says less, are the table.
+-- Entries that came by steps, none above an action's Bellman value, are the table.
 pub mod Settled
 -- The loops over digits, outcomes and entries from which a step is made.
 pub mod Stepping
@@ -18,7 +18,7 @@ pub mod PackedDigits
 pub mod Law
 -- Changes of entries, marks and queue, one after the other.
 pub mod Visiting
--- What an action says along its edges, and asking it about one state.
+-- The Bellman value of an action along its edges, and asking the action about one state.
 pub mod Asking
 -- Going back along an edge, over the values of its free digits.
 pub mod Walks
@@ -32,11 +32,11 @@ pub mod Starting
 pub mod Entering
 -- The words of goals are those with such digits.
 pub mod GoalWords
--- The actions that leave no state as it is: their outcomes, counted.
+-- The effective actions: their outcomes, counted.
 pub mod Counting
 -- An edge leads back to every state before a state.
 pub mod WaysBack
--- The edges that were made are those of the pattern.
+-- The edges that were filled in are those of the pattern.
 pub mod Making
 -- Sets of edges by the digits of a part of the index, and how they are filled.
 pub mod Rowing

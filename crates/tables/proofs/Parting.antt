@@ -10,7 +10,7 @@ use Rattle.planning.proofs.Test.{by_test}
 use Rattle.packed_task.specs.Packed.{pack_by, picking, low}
 use Rattle.packed_task.proofs.Packing.{pack-keep, low_digit}
 use Rattle.tables.proofs.PackedDigits.{picking-digit, plain_mask}
-use Rattle.tables.specs.Steps.{Sized}
+use Rattle.tables.specs.Steps.{Bounded}
 use Rattle.tables.proofs.Spacing.{count_positive, count_fewer, size_at, sizes_fewer, Weighed}
 use Rattle.tables.specs.Incoming.{Parted, upper_part, Split}
 
@@ -99,8 +99,8 @@ pack_others zero p = omega arith
 pack_others (suc v) [] = refl
 pack_others (suc v) (b ∷ p) = let h = pack_others v p in omega (arith, h)
 
-pub sized_fewer : {sizes p : List ℕ} {n : ℕ} (v : ℕ) → v ≤ n → Sized sizes p n → Sized sizes p v
-sized_fewer {sizes} {p} {n} v l h = record {
+pub bounded_fewer : {sizes p : List ℕ} {n : ℕ} (v : ℕ) → v ≤ n → Bounded sizes p n → Bounded sizes p v
+bounded_fewer {sizes} {p} {n} v l h = record {
   variables_few = omega (arith, h.variables_few);
   values_some = sizes_fewer sizes (λ z. 1 ≤ z) n v l h.values_some;
   values_few = sizes_fewer sizes (λ z. z ≤ 16) n v l h.values_few;
@@ -108,7 +108,7 @@ sized_fewer {sizes} {p} {n} v l h = record {
 }
 
 -- The index is split after v variables.
-pub split_at : (sizes p : List ℕ) (n v lower mask low₁ : ℕ) → Sized sizes p n → v ≤ n → mask ≡ pack_by picking p → lower ≡ state_count (take v sizes) p → low₁ ≡ mask % 16 ^ v →
+pub split_at : (sizes p : List ℕ) (n v lower mask low₁ : ℕ) → Bounded sizes p n → v ≤ n → mask ≡ pack_by picking p → lower ≡ state_count (take v sizes) p → low₁ ≡ mask % 16 ^ v →
     state_count (take v sizes) p ≤ 64 → 5 * state_count (take n sizes) p ≤ (state_count (take n sizes) p + 5) * state_count (take v sizes) p → Split sizes p n mask lower low₁
 split_at sizes p n v lower mask low₁ z l m e k few wide =
     let c : lower ≡ state_count (take n sizes) (take v p) = e ∙ sym (count_first v n sizes p l) in
@@ -126,7 +126,7 @@ split_at sizes p n v lower mask low₁ z l m e k few wide =
     }
 
 -- The lower variables end where one more would make too many states, or with the last.
-pub lower_stops : (sizes p : List ℕ) (n w v next : ℕ) → Sized sizes p n → Weighed sizes p n w v → v < n → w ≤ 64 → next ≡ cond (eqb (get_or p v 0) 1) (w * get_or sizes v 0) w → 64 < next →
+pub lower_stops : (sizes p : List ℕ) (n w v next : ℕ) → Bounded sizes p n → Weighed sizes p n w v → v < n → w ≤ 64 → next ≡ cond (eqb (get_or p v 0) 1) (w * get_or sizes v 0) w → 64 < next →
     (v ≤ n) × (state_count (take v sizes) p ≤ 64) × (5 * state_count (take n sizes) p ≤ (state_count (take n sizes) p + 5) * state_count (take v sizes) p)
 lower_stops sizes p n w v next s h l few e large = (omega arith, omega (arith, h.count), rw (← h.count) wide)
   where

@@ -8,11 +8,12 @@ use native.Mathlib.Decide.{dec_lt}
 use Rattle.std.proofs.lemmas.List.{get_or_append_left, get_or-append-add, get_or-drop, get_or-take}
 use lib.Bits.{bit_and, bit_or}
 use Rattle.planning.proofs.Test.{by_test}
-use Rattle.packed_task.specs.Sets.{set_from, lowest_need, need_at, SlotsOf}
+use Rattle.planning.specs.Sets.{set_from}
+use Rattle.packed_task.specs.Sets.{lowest_need, need_at, SlotsOf}
 use Rattle.tables.specs.Edges.{edge_mask, edge_value, digit, PlainMask}
 use Rattle.tables.specs.Incoming.{Row, Tests, Parted, Incoming, edge_need, digit_meet, digits_meet, digit_suits, part_suits, PartFilled, EdgeRow}
 use Rattle.tables.specs.declared.worklist.edge.Edge.{Edge}
-use Rattle.packed_task.proofs.SetWords.{set_same, set_meet, set_join}
+use Rattle.planning.proofs.Sets.{set_same, set_meet, set_join}
 use Rattle.tables.proofs.Bitwise.{further, deeper, and_digit, and_all}
 
 -- What is needed of digit v, and digit v of a meet.
@@ -246,8 +247,8 @@ module _ {states : List ℕ} {es : List Edge} {sets : List ℕ} {n k lower upper
   rest_there : j - h * lower ≡ j % lower
   rest_there = rw e (let d = div-add-mod j lower in omega (arith, d))
 
-  pub row_places : (h * lower ≤ j) × (j - h * lower < lower) × (h < upper) × (c ≤ 8) × ((lower + upper) * c + lower + upper ≤ length sets)
-  row_places = (rw e (div-mul-le_self j lower), rw rest_there (mod-lt j v.lower_some), rw e ((div-lt_iff_lt-mul v.lower_some).1 (omega (arith, l, v.upper_whole))), omega (arith, t.few), v.room (omega arith) c b)
+  pub row_offsets : (h * lower ≤ j) × (j - h * lower < lower) × (h < upper) × (c ≤ 8) × ((lower + upper) * c + lower + upper ≤ length sets)
+  row_offsets = (rw e (div-mul-le_self j lower), rw rest_there (mod-lt j v.lower_some), rw e ((div-lt_iff_lt-mul v.lower_some).1 (omega (arith, l, v.upper_whole))), omega (arith, t.few), v.room (omega arith) c b)
 
   pub row_there : Row es (get_or states j 0) k c (bit_and (get_or sets ((lower + upper) * c + (j - h * lower)) 0) (get_or sets ((lower + upper) * c + lower + h) 0))
   row_there = rw (rest_there, e) (v.row (omega arith) j c l b)

@@ -24,19 +24,19 @@ use Rattle.tables.proofs.BuiltTables.{buildable_built}
 use Rattle.tables.proofs.FromText.{tables_of_text}
 
 -- What a text says of its tables: whether six entries hold them, and the entries.
-record Said : Type 0 where
+record Answer : Type 0 where
   check : Result ℕ Refusal
   entries : List ℕ
 
-unfoldable said : Whole → Said
-said (complete r) = record { check = judge_tables (task_of r).sizes (patterns_of r) 6; entries = tables (task_of r) (patterns_of r) }
-said (refused fault) = record { check = Err fault; entries = [] }
+unfoldable answer_of : Whole → Answer
+answer_of (complete r) = record { check = judge_tables (task_of r).sizes (patterns_of r) 6; entries = tables (task_of r) (patterns_of r) }
+answer_of (refused fault) = record { check = Err fault; entries = [] }
 
-abbrev six : List ℕ → Said
+abbrev six : List ℕ → Answer
 six entries = record { check = Ok 6; entries = entries }
 
-computed : map (λ s. said (read_whole s.text)) samples ≡ map (λ s. six s.entries) samples
-unfolding choose tabulate chain max∞ min∞ add∞ infinite_from applies bellman meets apply permits system keep mask_action abstraction index_from index state_count state_at entry_at largest_weight table_round table_after rounds_enough weighted_table table tables entry_of bytes index_of lines_of pieces has_key digits value well_formed number_of pair_of item_of pair_fits pair_step list_from listed no_items list_of next_due take_number budget_bytes take_budget take_list number_line budget_line list_line take_line read_from unused_action unused_actions blank read_whole action_of task_of patterns_of first_large entries_needed judge_tables tower samples said
+computed : map (λ s. answer_of (read_whole s.text)) samples ≡ map (λ s. six s.entries) samples
+unfolding choose tabulate chain max∞ min∞ add∞ infinite_from applies bellman meets apply permits system keep mask_action abstraction index_from index state_count state_at entry_at largest_weight table_round table_after rounds_enough weighted_table table tables entry_of bytes index_of lines_of pieces has_key digits value well_formed number_of pair_of item_of pair_fits pair_step list_from listed no_items list_of next_due take_number budget_bytes take_budget take_list number_line budget_line list_line take_line read_from unused_action unused_actions blank read_whole action_of task_of patterns_of first_large entries_needed judge_tables tower samples answer_of
 computed = refl
 
 module _ (record₀ tabs : List ℕ) (whole : record_size ≤ length record₀) (room : 6 ≤ length tabs) where
@@ -45,23 +45,23 @@ module _ (record₀ tabs : List ℕ) (whole : record_size ≤ length record₀) 
   Builds text entries = (table_build (read_leaves text record₀) (length tabs) ≡ Ok 6) ×
       (tables_built (read_leaves text record₀) tabs ≡ entries ++ drop 6 tabs)
 
-  text_builds : (text entries : List ℕ) (w : Whole) → read_whole text ≡ w → said w ≡ six entries → Builds text entries
-  unfolding said read_answer Small
-  text_builds text entries (refused fault) says h = let e = ap (λ (x : Said). x.check) h in let z : ◌≡◌ {A = ℕ} 0 1 = cc in absurd (omega arith)
+  text_builds : (text entries : List ℕ) (w : Whole) → read_whole text ≡ w → answer_of w ≡ six entries → Builds text entries
+  unfolding answer_of read_answer Small
+  text_builds text entries (refused fault) says h = let e = ap (λ (x : Answer). x.check) h in let z : ◌≡◌ {A = ℕ} 0 1 = cc in absurd (omega arith)
   text_builds text entries (complete r) says h =
       let left = read_leaves text record₀ in
       let read : read_answer text record₀ ≡ Ok tt = rw (le-ltb (length record₀) record_size whole, says) in
       let t = task_left text record₀ read r says in let p = patterns_left text record₀ read r says in
-      let fits : judge_tables (task_of left).sizes (patterns_of left) 6 ≡ Ok 6 = rw (t, p) (ap (λ (x : Said). x.check) h) in
+      let fits : judge_tables (task_of left).sizes (patterns_of left) 6 ≡ Ok 6 = rw (t, p) (ap (λ (x : Answer). x.check) h) in
       let k = fits_room (task_of left).sizes (patterns_of left) 6 6 fits in
       let built : table_build left (length tabs) ≡ Ok 6 = buildable_built left (length tabs) (record {
         sound = record_left_sound text record₀ read;
         small = fits_small (task_of left).sizes (patterns_of left) 6 6 fits;
         room = omega (arith, k.0);
       }) ∙ ap Ok k.0 in
-      (built, tables_of_text text record₀ tabs read r 6 says built ∙ ap (λ e. e ++ drop 6 tabs) (ap (λ (x : Said). x.entries) h))
+      (built, tables_of_text text record₀ tabs read r 6 says built ∙ ap (λ e. e ++ drop 6 tabs) (ap (λ (x : Answer). x.entries) h))
 
-  each_builds : (ss : List Sample) → map (λ s. said (read_whole s.text)) ss ≡ map (λ s. six s.entries) ss → All (λ s. Builds s.text s.entries) ss
+  each_builds : (ss : List Sample) → map (λ s. answer_of (read_whole s.text)) ss ≡ map (λ s. six s.entries) ss → All (λ s. Builds s.text s.entries) ss
   each_builds [] h = tt
   each_builds (s ∷ ss) h = (text_builds s.text s.entries (read_whole s.text) refl cc, each_builds ss cc)
 

@@ -9,7 +9,7 @@ use Rattle.planning.specs.Task.{in_sizes}
 use Rattle.planning.specs.Table.{index_from, state_count, state_at}
 use Rattle.planning.proofs.Test.{and_l, and_r, by_test}
 use Rattle.packed_task.specs.Packed.{pack_by, low}
-use Rattle.tables.specs.Steps.{weigh, weights_from, Sized, Extended}
+use Rattle.tables.specs.Steps.{weigh, weights_from, Bounded, Extended}
 use Rattle.packed_task.proofs.Packing.{pack_snoc, pack-fits, low_digit}
 
 -- One variable more, at the end.
@@ -99,7 +99,7 @@ count_more sizes p v l = let e : length (take v sizes) ≡ v = length-take-le v 
 set_seam : (a : List ℕ) (v x : ℕ) → length a ≡ v → v < 16 → set (a ++ replicate (16 - v) 0) v x ≡ (a ++ (x ∷ [])) ++ replicate (16 - (v + 1)) 0
 set_seam a v x e l = let n : 16 - v ≡ suc (16 - (v + 1)) = omega arith in rw n (set_at a 0 (replicate (16 - (v + 1)) 0) x v e ∙ sym (append_assoc a (x ∷ []) (replicate (16 - (v + 1)) 0)))
 
-pub weighing_step : (sizes p : List ℕ) (n : ℕ) (r : List ℕ) (w v : ℕ) → Sized sizes p n → v < n → Weighing sizes p n r w v
+pub weighing_step : (sizes p : List ℕ) (n : ℕ) (r : List ℕ) (w v : ℕ) → Bounded sizes p n → v < n → Weighing sizes p n r w v
     → Weighing sizes p n (set r v (cond (in_pattern p v) w 0)) (cond (in_pattern p v) (w * get_or sizes v 0) w) (v + 1)
 weighing_step sizes p n r w v s l h = let b : v < length sizes = omega (arith, h.long, s.variables_few) in let e : length (take v sizes) ≡ v = length-take-le v sizes (omega arith) in record {
   at = omega arith;
@@ -119,7 +119,7 @@ weighing_step sizes p n r w v s l h = let b : v < length sizes = omega (arith, h
 pub weighing_end : (sizes p : List ℕ) (n : ℕ) (r : List ℕ) (w v : ℕ) → n ≤ v → Weighing sizes p n r w v → r ≡ weights_from 1 (take n sizes) p ++ replicate (16 - n) 0
 weighing_end sizes p n r w v l h = let e : v ≡ n = omega (arith, h.at) in rw e at h.weights
 
-pub weighing_small : (sizes p : List ℕ) (n : ℕ) (r : List ℕ) (w v : ℕ) → Sized sizes p n → Weighing sizes p n r w v → w ≤ 4096
+pub weighing_small : (sizes p : List ℕ) (n : ℕ) (r : List ℕ) (w v : ℕ) → Bounded sizes p n → Weighing sizes p n r w v → w ≤ 4096
 weighing_small sizes p n r w v s h = omega (arith, h.count, s.states_few, count_fewer sizes p v n h.at s.values_some)
 
 -- The same without the weights: w is the number of abstract states of the variables below v.
@@ -132,7 +132,7 @@ pub weighed_start : (sizes p : List ℕ) (n : ℕ) → length sizes ≡ 16 → W
 unfolding state_count
 weighed_start sizes p n h = record { at = omega arith; long = h; count = refl }
 
-pub weighed_step : (sizes p : List ℕ) (n w v : ℕ) → Sized sizes p n → v < n → Weighed sizes p n w v → Weighed sizes p n (cond (in_pattern p v) (w * get_or sizes v 0) w) (v + 1)
+pub weighed_step : (sizes p : List ℕ) (n w v : ℕ) → Bounded sizes p n → v < n → Weighed sizes p n w v → Weighed sizes p n (cond (in_pattern p v) (w * get_or sizes v 0) w) (v + 1)
 weighed_step sizes p n w v s l h = let b : v < length sizes = omega (arith, h.long, s.variables_few) in record {
   at = omega arith;
   long = h.long;
@@ -142,7 +142,7 @@ weighed_step sizes p n w v s l h = let b : v < length sizes = omega (arith, h.lo
 pub weighed_end : (sizes p : List ℕ) (n w v : ℕ) → n ≤ v → Weighed sizes p n w v → w ≡ state_count (take n sizes) p
 weighed_end sizes p n w v l h = let e : v ≡ n = omega (arith, h.at) in rw e at h.count
 
-pub weighed_small : (sizes p : List ℕ) (n w v : ℕ) → Sized sizes p n → Weighed sizes p n w v → w ≤ 4096
+pub weighed_small : (sizes p : List ℕ) (n w v : ℕ) → Bounded sizes p n → Weighed sizes p n w v → w ≤ 4096
 weighed_small sizes p n w v s h = omega (arith, h.count, s.states_few, count_fewer sizes p v n h.at s.values_some)
 
 -- Weights of 0 do not count.
@@ -246,7 +246,7 @@ sizes_fewer [] P n (suc v) l h = tt
 sizes_fewer (z ∷ sizes) P zero (suc v) l h = absurd (omega arith)
 sizes_fewer (z ∷ sizes) P (suc n) (suc v) l h = (h.0, sizes_fewer sizes P n v (omega arith) h.1)
 
-module _ (sizes p : List ℕ) (n : ℕ) (states : List ℕ) (w place v : ℕ) (s : Sized sizes p n) (l : v < n) (h : Filling sizes p n states w place v) where
+module _ (sizes p : List ℕ) (n : ℕ) (states : List ℕ) (w place v : ℕ) (s : Bounded sizes p n) (l : v < n) (h : Filling sizes p n states w place v) where
   below_sixteen : v < length sizes
   below_sixteen = omega (arith, h.long, s.variables_few)
 

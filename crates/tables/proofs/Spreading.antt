@@ -2,7 +2,7 @@
 use Rattle.std.proofs.Common.{◌≡◌, ℕ, zero, suc, ◌+◌, ◌<◌, ◌≤◌, min, cond, eqb, ltb, List, [], ◌∷◌, ◌++◌, map, length, get_or, take, drop, replicate, sym, refl, ap, ◌∙◌, add-one, arith, length-take, drop_at, le-ltb, lt-ltb, eqb-true, Result, Ok, Err}
 use lib.ListN.{length-map}
 use Rattle.planning.specs.Extended.{ℕ∞, fin, inf}
-use Rattle.planning.specs.Table.{state_count, table, tables, entry_of, cost_of, EntriesBelow, Small, most_cost}
+use Rattle.planning.specs.Table.{state_count, table, tables, entry_of, cost_of, EntriesBelow, Small, most_cost, infinite_entry}
 use Rattle.planning.specs.Spread.{row_size, spread, place_of}
 use Rattle.planning.proofs.Test.{by_test}
 use Rattle.planning.proofs.Finite.{all_at, get_or_map}
@@ -39,8 +39,8 @@ counting_small entries few i row e k l = let h = counts_few (take i (map cost_of
 
 entry_place : (e : ℕ) → ((k : ℕ) → cost_of e ≡ fin k → k < suc most_cost) → min e (suc most_cost) ≡ place_of (cost_of e)
 unfolding cost_of place_of
-entry_place e h = by_test (eqb e 65535)
-    (λ t. rw (eqb-true e 65535 t))
+entry_place e h = by_test (eqb e infinite_entry)
+    (λ t. rw (eqb-true e infinite_entry t))
     (λ t. let l = h e (rw t) in rw t (omega arith))
 
 module _ (entries : List ℕ) (bounded : EntriesBelow (suc most_cost) (map cost_of entries)) (i : ℕ) (l : i < length entries) where

@@ -5,11 +5,11 @@ use native.Mathlib.Decide.{dec_lt}
 use lib.ListN.{length-replicate, get_or-eq_default}
 use Rattle.planning.specs.Finite.{All}
 use Rattle.planning.specs.Task.{Task, apply, action_at, in_sizes, fits_sizes, WellFormed}
-use Rattle.planning.specs.Pattern.{keep, mask, AbstractState}
+use Rattle.planning.specs.Pattern.{keep, mask, counted, AbstractState}
 use Rattle.planning.specs.Table.{index, state_count, state_at}
 use Rattle.planning.proofs.Test.{by_test, and_l, and_r, and_in}
 use Rattle.planning.proofs.Finite.{all_at}
-use Rattle.planning.proofs.Pattern.{mask_fits, mask_stays_abstract}
+use Rattle.planning.proofs.Pattern.{mask_fits, mask_stays_abstract, counted_fits}
 use Rattle.planning.proofs.Table.{index_below, index_at_state, state_at-index, state_at_abstract}
 use Rattle.planning.proofs.Task.{apply_keeps_sizes, action_well_formed}
 use Rattle.task_record.specs.Layout.{at_pattern}
@@ -122,17 +122,22 @@ module _ (t : Task) (w : WellFormed t) (k : Packable t) (p : List ℕ) (x : Spac
   below i u l e = let b = state_below t.sizes p i u w.sizes_positive (in_sizes_lem u e) in let g = rw sized at (take_get n sizes u) in let d = state_digit i u l in omega (arith, b, g, d)
 
   module _ (m o : ℕ) (l : m < length t.actions) (b : o < length (action_at t m).outcomes) where
-    after_abstract : (i : ℕ) → AbstractState t p (apply (mask p (get_or (action_at t m).outcomes o [])) (state_of i))
+    -- What counts of the outcome leads from abstract states to abstract states, whether they permit the action or not.
+    abbrev outcome : List ℕ
+    outcome = counted (action_at t m).precondition (get_or (action_at t m).outcomes o [])
+
+    after_abstract : (i : ℕ) → AbstractState t p (apply (mask p outcome) (state_of i))
     after_abstract i = (
-      apply_keeps_sizes t.sizes (mask p (get_or (action_at t m).outcomes o [])) (state_of i)
-          (mask_fits p t.sizes (get_or (action_at t m).outcomes o []) (all_at (λ c. T (fits_sizes t.sizes c)) (action_at t m).outcomes [] (action_well_formed t w m l).outcomes_fit o b))
+      apply_keeps_sizes t.sizes (mask p outcome) (state_of i)
+          (mask_fits p t.sizes outcome (counted_fits t.sizes (action_at t m).precondition _
+          (all_at (λ c. T (fits_sizes t.sizes c)) (action_at t m).outcomes [] (action_well_formed t w m l).outcomes_fit o b)))
           (state_at_abstract t w p i).0,
-      mask_stays_abstract p (get_or (action_at t m).outcomes o []) (state_of i) (state_at_abstract t w p i).1,
+      mask_stays_abstract p outcome (state_of i) (state_at_abstract t w p i).1,
     )
 
     closed : (i : ℕ) → i < states → (index_after x m i o < states) × (get_or x.states (index_after x m i o) 0 ≡ after x.task x.mask m o (get_or x.states i 0))
     unfolding index_after
-    closed i d = let y = apply (mask p (get_or (action_at t m).outcomes o [])) (state_of i) in let v = after_abstract i in
+    closed i d = let y = apply (mask p outcome) (state_of i) in let v = after_abstract i in
         let a : after x.task x.mask m o (get_or x.states i 0) ≡ pack_by low y = rw (r.task_is, r.mask_is, r.states_are i d) (after_is t k p (λ a. a.weight) m l o b (state_of i) (state_at_abstract t w p i)) in
         let j = index t.sizes p y in
         let b = index_below t.sizes p y v.0 in
@@ -176,9 +181,9 @@ module _ (t : Task) (w : WellFormed t) (k : Packable t) (p : List ℕ) (x : Spac
     mask_plain = rw r.mask_is (plain_mask p);
     need_plain = λ m l u. let h = action_of_lem m l in let c = (action_at t m).precondition in
         rw (r.task_is, pre_mask_is t k.actions_few m h, pre_value_is t k.actions_few m h, pack-digit naming 255 refl naming-digit c u, pack-digit setting 255 refl setting-digit c u) (need_pair (get_or c u 255));
-    out_plain = λ m o l b u. let h = action_of_lem m l in let d = outcome_of m o h b in let c = get_or (action_at t m).outcomes o [] in let f = (packable_action t k m h).outcomes_few in
+    out_plain = λ m o l b u. let h = action_of_lem m l in let d = outcome_of m o h b in let c = counted (action_at t m).precondition (get_or (action_at t m).outcomes o []) in let f = (packable_action t k m h).outcomes_few in
         rw (r.task_is, keep_mask_is t k.actions_few m h f o d, set_value_is t k.actions_few m h f o d, pack-digit leaving 0 refl leaving-digit c u, pack-digit setting 0 refl setting-digit c u) (out_pair (get_or c u 0));
-    place = λ i l. rw (r.states_are i l) (r.weights_are (state_of i) (state_at_abstract t w p i) ∙ index_at_state t.sizes p w.sizes_positive i l);
+    index_is = λ i l. rw (r.states_are i l) (r.weights_are (state_of i) (state_at_abstract t w p i) ∙ index_at_state t.sizes p w.sizes_positive i l);
     inside = inside;
     below = below;
     closed = λ m o i l b d q. let h = action_of_lem m l in closed m o h (outcome_of m o h b) i d;

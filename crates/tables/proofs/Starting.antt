@@ -4,6 +4,7 @@ use Rattle.std.proofs.Common.{◌≡◌, ℕ, zero, suc, ◌+◌, ◌-◌, ◌<�
 use native.Mathlib.Decide.{dec_lt}
 use lib.ListN.{length-replicate}
 use Rattle.planning.proofs.Finite.{get_or_tabulate, length-tabulate}
+use Rattle.planning.specs.Table.{infinite_entry}
 use Rattle.packed_task.specs.Packed.{outcome_count, action_weight}
 use Rattle.tables.specs.Steps.{Space, started, Settled}
 use Rattle.packed_task.specs.Within.{is_goal}
@@ -40,19 +41,19 @@ queue_empty n a b l₁ l₂ few some = record {
 -- The start is kept.
 pub start_kept : (x : Space) (t q : List ℕ) (marks : List Bool) (n c : ℕ) → ((m : ℕ) → m < x.actions → 1 ≤ outcome_count x.task m) → t ≡ started x.task x.mask x.states n → GoalsWait t q marks c → Kept x t t marks
 unfolding started
-start_kept x t q marks n c some e g = rw e (kept_start x n marks some (λ j l u. g.zeros j (rw e (rw (length-tabulate {A = ℕ} (λ i. cond (is_goal x.task x.mask (get_or x.states i 0)) 0 65535) 0 n) l)) (rw e (get_or_tabulate _ 0 n j 0 l ∙ rw (zero-add j, u)))))
+start_kept x t q marks n c some e g = rw e (kept_start x n marks some (λ j l u. g.zeros j (rw e (rw (length-tabulate {A = ℕ} (λ i. cond (is_goal x.task x.mask (get_or x.states i 0)) 0 infinite_entry) 0 n) l)) (rw e (get_or_tabulate _ 0 n j 0 l ∙ rw (zero-add j, u)))))
 
 -- The states below i were looked at: no entry is above `most`, and none that waits below `least`.
 pub record Seen (t : List ℕ) (marks : List Bool) (most least i : ℕ) : Type 0 where
-  pub few : least ≤ 65535
-  pub small : most ≤ 65535
+  pub few : least ≤ infinite_entry
+  pub small : most ≤ infinite_entry
   pub up : (j : ℕ) → j < i → get_or t j 0 ≤ most
   pub down : (j : ℕ) → j < i → Waits marks j → least ≤ get_or t j 0
 
-pub seen_none : (t : List ℕ) (marks : List Bool) → Seen t marks 0 65535 0
+pub seen_none : (t : List ℕ) (marks : List Bool) → Seen t marks 0 infinite_entry 0
 seen_none t marks = record { few = omega arith; small = omega arith; up = λ j l. absurd (omega arith); down = λ j l. absurd (omega arith) }
 
-pub seen_next : {t : List ℕ} {marks : List Bool} {most least most₁ least₁ i : ℕ} → Seen t marks most least i → most ≤ most₁ → get_or t i 0 ≤ most₁ → most₁ ≤ 65535 → least₁ ≤ least → (Waits marks i → least₁ ≤ get_or t i 0) → Seen t marks most₁ least₁ (i + 1)
+pub seen_next : {t : List ℕ} {marks : List Bool} {most least most₁ least₁ i : ℕ} → Seen t marks most least i → most ≤ most₁ → get_or t i 0 ≤ most₁ → most₁ ≤ infinite_entry → least₁ ≤ least → (Waits marks i → least₁ ≤ get_or t i 0) → Seen t marks most₁ least₁ (i + 1)
 seen_next {t} {marks} {most} {least} {most₁} {least₁} {i} v a b s d e = record { few = omega (arith, v.few); small = s; up = λ j l. above j l (dec_lt j i); down = λ j l w. below j l w (dec_lt j i) }
   where
     above : (j : ℕ) → j < i + 1 → Dec (j < i) → get_or t j 0 ≤ most₁

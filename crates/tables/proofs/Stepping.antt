@@ -3,10 +3,11 @@ use Rattle.std.proofs.Common.{◌≡◌, ℕ, zero, suc, ◌+◌, ◌-◌, ◌*�
 use native.Mathlib.Decide.{dec_lt}
 use lib.Bits.{bit_and}
 use lib.ListN.{get_or-eq_default}
-use Rattle.planning.specs.Finite.{any_from}
+use Rattle.planning.specs.Finite.{any_from, total}
 use Rattle.planning.proofs.Test.{by_test}
+use Rattle.planning.specs.Table.{infinite_entry}
 use Rattle.packed_task.specs.Packed.{outcome_count, keep_mask}
-use Rattle.tables.specs.Steps.{weigh, raised, total}
+use Rattle.tables.specs.Steps.{weigh, raised}
 use Rattle.packed_task.specs.Within.{idles}
 
 -- The index of a word, digit by digit.
@@ -62,13 +63,12 @@ idling_miss a k m n o l h v = let e : n - o ≡ suc (n - (o + 1)) = omega arith 
 pub idling_end : (a : List ℕ) (k m n o : ℕ) → n ≤ o → Idling a k m n o → false ≡ idles a k m
 idling_end a k m n o l v = let e : n - o ≡ 0 = omega arith in sym (v ∙ rw e)
 
-pub raised_high : (limit w v : ℕ) → limit ≤ 65535 → limit ≤ v → limit ≤ raised w v
+pub raised_high : (limit w v : ℕ) → limit ≤ infinite_entry → limit ≤ v → limit ≤ raised w v
 unfolding raised
-raised_high limit w v b h = by_test (ltb (w + v) 65535) (λ e. rw e (omega arith)) (λ e. rw e b)
+raised_high limit w v b h = by_test (ltb (w + v) infinite_entry) (λ e. rw e (omega arith)) (λ e. rw e b)
 
 -- The sum of the entries falls with every step.
 pub total-set : (t : List ℕ) (i v : ℕ) → i < length t → total (set t i v) + get_or t i 0 ≡ total t + v
-unfolding total
 total-set [] i v l = absurd (omega arith)
 total-set (x ∷ t) zero v l = omega arith
 total-set (x ∷ t) (suc i) v l = let h = total-set t i v (omega arith) in omega arith

@@ -16,7 +16,7 @@ use Rattle.tables.specs.Built.{Built}
 use Rattle.packed_task.specs.Packed.{compiled}
 use Rattle.tables.specs.RecordTables.{built_over}
 use Rattle.patterns.specs.Space.{entries_needed}
-use Rattle.tables.specs.Steps.{Sized}
+use Rattle.tables.specs.Steps.{Bounded}
 use Rattle.patterns.proofs.Built.{unit_weights}
 use Rattle.patterns.proofs.Reading.{actions_length}
 use Rattle.patterns.proofs.Sizes.{variables_few, sizes_taken, sizes_positive}
@@ -26,8 +26,8 @@ use Rattle.patterns.proofs.Weights.{drop_all}
 -- One pattern of a sound record: what a build of its table asks, and that it is the definition's.
 module _ (r : List ℕ) (sound : Sound r) (sizes : List ℕ) (sixteen : Sixteen (size_of r) sizes)
     (p : List ℕ) (small : state_count (task_of r).sizes p ≤ 4096) where
-  pub pattern_sized : Sized sizes p (variable_count r)
-  pattern_sized = let e = sizes_taken r sound sizes sixteen in record {
+  pub pattern_bounded : Bounded sizes p (variable_count r)
+  pattern_bounded = let e = sizes_taken r sound sizes sixteen in record {
     variables_few = variables_few r sound;
     values_some = rw e (sizes_positive r sound);
     values_few = rw e (sound_packable r sound).values_few;

@@ -4,8 +4,9 @@ use native.Mathlib.Nat.{div-div-eq-div-mul}
 use native.Mathlib.Decide.{dec_lt, ℕ_discrete}
 use lib.Bits.{bit_and, and_zero_r}
 use Rattle.planning.proofs.Test.{T_true, and_l, and_r}
+use Rattle.planning.specs.Table.{infinite_entry}
 use Rattle.packed_task.specs.Packed.{outcome_count, action_weight}
-use Rattle.tables.specs.Steps.{Space, weigh, worst, outcome_entry, offer, offer_at, permitted_at}
+use Rattle.tables.specs.Steps.{Space, weigh, worst, outcome_entry, bellman_value, bellman_value_at, permitted_at}
 use Rattle.tables.specs.Waiting.{Heard, low, Leads}
 use Rattle.tables.specs.Queue.{Queue}
 use Rattle.tables.specs.Edges.{edge_action, edge_lanes, edge_free, lane_weight, lane_values, lane_value, lane_sum, lane_after, way_back, Plain, Single, Before, Choices}
@@ -20,28 +21,28 @@ use Rattle.tables.proofs.Visiting.{going_none, going_then}
 use Rattle.tables.proofs.Asking.{weigh-over, weigh_apart, lane_none, single_before, entry_met}
 
 -- Where the entry is at most the action's weight and the entry of j, the action need not be asked.
-heard_enough : (x : Space) (t : List ℕ) (marks : List Bool) (m i j : ℕ) → j < length t → get_or t i 0 ≤ 65535 → get_or t i 0 ≤ action_weight x.task m + get_or t j 0 → Leads x m i j → Heard x t marks m i
-unfolding offer_at offer
+heard_enough : (x : Space) (t : List ℕ) (marks : List Bool) (m i j : ℕ) → j < length t → get_or t i 0 ≤ infinite_entry → get_or t i 0 ≤ action_weight x.task m + get_or t j 0 → Leads x m i j → Heard x t marks m i
+unfolding bellman_value_at bellman_value
 heard_enough x t marks m i j b c l a =
     let w = worst (outcome_entry x.task x.mask x.weights t m (get_or x.states i 0)) 0 (outcome_count x.task m) in
-    let h : get_or t j 65535 ≤ w = entry_met x t m i a.outcome j a.known a.there in
-    let e : get_or t j 65535 ≡ get_or t j 0 = inside t j 65535 0 b in
+    let h : get_or t j infinite_entry ≤ w = entry_met x t m i a.outcome j a.known a.there in
+    let e : get_or t j infinite_entry ≡ get_or t j 0 = inside t j infinite_entry 0 b in
     low (raised-least (get_or t i 0) (action_weight x.task m) w c (omega (arith, l, h, e)))
 
 -- That an entry is not above the entry of j and the edge's weight is enough.
-pub heard_told : (x : Space) (t : List ℕ) (marks : List Bool) (m i j e w said : ℕ) → w ≡ min (action_weight x.task m) 65535 → said ≡ e + w → j < length t → i < length t → get_or t j 0 ≡ e → above t i said ≡ false → get_or t i 0 ≤ 65535 →
+pub heard_not_above : (x : Space) (t : List ℕ) (marks : List Bool) (m i j e w value : ℕ) → w ≡ min (action_weight x.task m) 65535 → value ≡ e + w → j < length t → i < length t → get_or t j 0 ≡ e → above t i value ≡ false → get_or t i 0 ≤ infinite_entry →
     Leads x m i j → Heard x t marks m i
 unfolding above
-heard_told x t marks m i j e w said p q b l k n c a = let h = ltb-false said (get_or t i 0) (rw (lt-ltb i (length t) l) at n) in
+heard_not_above x t marks m i j e w value p q b l k n c a = let h = ltb-false value (get_or t i 0) (rw (lt-ltb i (length t) l) at n) in
     heard_enough x t marks m i j b c (omega (arith, h, p, q, k)) a
 
-pub above_less : (t : List ℕ) (i said : ℕ) → above t i said ≡ true → said < get_or t i 0
+pub above_less : (t : List ℕ) (i value : ℕ) → above t i value ≡ true → value < get_or t i 0
 unfolding above
-above_less t i said e = ltb-true said (get_or t i 0) (T_true (ltb said (get_or t i 0)) (and_r (ltb i (length t)) (ltb said (get_or t i 0)) (rw e tt)))
+above_less t i value e = ltb-true value (get_or t i 0) (T_true (ltb value (get_or t i 0)) (and_r (ltb i (length t)) (ltb value (get_or t i 0)) (rw e tt)))
 
-pub above_inside : (t : List ℕ) (i said : ℕ) → above t i said ≡ true → i < length t
+pub above_inside : (t : List ℕ) (i value : ℕ) → above t i value ≡ true → i < length t
 unfolding above
-above_inside t i said e = ltb-true i (length t) (T_true (ltb i (length t)) (and_l (ltb i (length t)) (ltb said (get_or t i 0)) (rw e tt)))
+above_inside t i value e = ltb-true i (length t) (T_true (ltb i (length t)) (and_l (ltb i (length t)) (ltb value (get_or t i 0)) (rw e tt)))
 
 -- A lane adds its value times its weight.
 lane_sum-value : (lane s : ℕ) → lane_sum lane s ≡ lane_value lane s * lane_weight lane

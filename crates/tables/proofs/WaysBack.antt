@@ -143,7 +143,7 @@ module _ {x : Space} {sizes : List ℕ} {n : ℕ} (r : Regular x sizes n) where
           let near : j < n = c.0 in
           let there : get_or x.states j 0 ≡ w = c.1 in
           let gain = weigh x.weights (bit_and value (named k keeps)) in let loss = weigh x.weights (bit_and sets k) in let add = weigh x.weights (bit_and s (freed k keeps need)) in
-          let sum = back_sum i j gain loss add (omega (arith, d, few)) (omega (arith, near, few)) (ap (λ y. y + loss) (sym (r.place i d)) ∙ weigh_before x.weights k keeps need value sets s f) (weigh-least x.weights k keeps need value sets s f) in
+          let sum = back_sum i j gain loss add (omega (arith, d, few)) (omega (arith, near, few)) (ap (λ y. y + loss) (sym (r.index_is i d)) ∙ weigh_before x.weights k keeps need value sets s f) (weigh-least x.weights k keeps need value sets s f) in
           record {
             near = omega (arith, near, few);
             passes = rw (h.mask, h.value, there) (word_test 16 k keeps need value sets s r.room f);

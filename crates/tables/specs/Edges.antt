@@ -1,5 +1,5 @@
 -- The edges of a pattern: for an outcome of an action what a state after it has, and how the index of a state before it comes from that of
--- the state after it. Two lanes of 32 bits stand in one word, a free digit each: its weight (16 bits), its place in a word (8 bits), how many
+-- the state after it. Two lanes of 32 bits stand in one word, a free digit each: its weight (16 bits), its position in a word (8 bits), how many
 -- values it has (8 bits). A digit is free if the outcome sets it and the precondition does not ask for it. Assumes nothing.
 use Rattle.std.specs.Prelude.{◌≡◌, ℕ, zero, suc, ◌+◌, ◌-◌, ◌*◌, ◌/◌, ◌%◌, ◌^◌, ◌<◌, ◌≤◌, min, true, false, cond, ◌⊎◌, List, ◌++◌, length, take, replicate, ◌==◌, ◌≢◌, bit_and, bit_or, slice_index, slice_index_or}
 use Rattle.planning.specs.Table.{state_count, state_at}
@@ -160,7 +160,7 @@ pub record Regular (x : Space) (sizes : List ℕ) (n : ℕ) : Type 0 where
   pub mask_plain : PlainMask x.mask
   pub need_plain : (m : ℕ) → m < x.actions → PlainNeed (pre_mask x.task m) (pre_value x.task m)
   pub out_plain : (m o : ℕ) → m < x.actions → o < outcome_count x.task m → PlainOut (keep_mask x.task m o) (set_value x.task m o)
-  pub place : (i : ℕ) → i < n → weigh x.weights (slice_index x.states i) ≡ i
+  pub index_is : (i : ℕ) → i < n → weigh x.weights (slice_index x.states i) ≡ i
   pub inside : (i u : ℕ) → i < n → digit x.mask u ≡ 0 → digit (slice_index x.states i) u ≡ 0
   pub below : (i u : ℕ) → i < n → digit x.mask u ≡ 15 → digit (slice_index x.states i) u < slice_index sizes u
   pub closed : (m o i : ℕ) → m < x.actions → o < outcome_count x.task m → i < n → permitted_at x m i ≡ true →

@@ -3,7 +3,8 @@
 use Rattle.std.specs.Prelude.{◌≡◌, ℕ, zero, suc, ◌+◌, ◌-◌, ◌*◌, ◌/◌, ◌%◌, ◌<◌, ◌≤◌, Bool, true, false, cond, ◌&&◌, ◌||◌, List, [], ◌∷◌, length, take, ◌==◌, ◌≢◌, bit_and, bit_or, slice_index}
 use Rattle.planning.specs.Table.{state_count, state_at}
 use Rattle.packed_task.specs.Packed.{pack_by, low}
-use Rattle.packed_task.specs.Sets.{set_from, need_at}
+use Rattle.planning.specs.Sets.{set_from}
+use Rattle.packed_task.specs.Sets.{need_at}
 use Rattle.tables.specs.Edges.{edge_mask, edge_value, digit, PlainMask}
 use Rattle.tables.specs.declared.worklist.edge.Edge.{Edge}
 

@@ -6,14 +6,14 @@ use Rattle.task_record.specs.Numbers.{pattern_count, size_of}
 use Rattle.task_record.specs.TaskOf.{cells_at, task_of}
 use Rattle.task_record.specs.Window.{Sixteen}
 use Rattle.packed_task.specs.Packed.{pack_by, picking, compiled, Readable}
-use Rattle.packed_task.specs.Sets.{set_from}
+use Rattle.planning.specs.Sets.{set_from}
 use Rattle.packed_task.specs.Within.{idles}
-use Rattle.tables.specs.Steps.{Sized}
+use Rattle.tables.specs.Steps.{Bounded}
 use Rattle.tables.specs.Edges.{Walkable}
 use Rattle.tables.specs.Built.{Built}
 
--- The task's words and its number of actions; its number of variables and their sizes; the pattern, its mask, and the actions of which no
--- outcome leaves every state as it is.
+-- The task's words and its number of actions; its number of variables and their sizes; the pattern, its mask, and its effective actions: those of
+-- which no outcome leaves every state as it is.
 pub record Patterned : Type 0 where
   pub task : List ℕ
   pub actions : ℕ
@@ -21,16 +21,16 @@ pub record Patterned : Type 0 where
   pub sizes : List ℕ
   pub picked : List ℕ
   pub mask : ℕ
-  pub live : ℕ
+  pub effective : ℕ
 
 -- The compiled words can be read, each state of the pattern stands at its index and has the states after it among them, sizes and pattern are
 -- within their bounds, and mask and actions are those of task and pattern.
 pub record Ready (p : Patterned) : Type 0 where
   pub readable : Readable p.task p.actions
   pub walkable : Walkable p.task p.mask p.actions p.variables p.sizes p.picked
-  pub sized : Sized p.sizes p.picked p.variables
+  pub bounded : Bounded p.sizes p.picked p.variables
   pub masked : p.mask ≡ pack_by picking p.picked
-  pub lively : p.live ≡ set_from (λ m. not (idles p.task p.mask m)) 0 p.actions
+  pub effective_is : p.effective ≡ set_from (λ m. not (idles p.task p.mask m)) 0 p.actions
 
 -- How many abstract states it has, and that entries are its table.
 abbrev pub states_of : Patterned → ℕ

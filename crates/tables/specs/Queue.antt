@@ -1,4 +1,4 @@
--- The waiting states: a mark for each, and their numbers in a ring. What was put in and not taken out is in; nothing is said of the order.
+-- The waiting states: a mark for each, and their indices in a ring. What was put in and not taken out is in; nothing is said of the order.
 -- Assumes nothing.
 use Rattle.std.specs.Prelude.{◌≡◌, ℕ, ◌+◌, ◌-◌, ◌%◌, ◌<◌, ◌≤◌, Bool, cond, List, [], ◌∷◌, length, ◌≢◌, slice_index}
 use Rattle.tables.specs.Waiting.{Waits}
@@ -8,7 +8,7 @@ unfoldable pub waiting : List Bool → ℕ
 waiting [] = 0
 waiting (b ∷ marks) = cond b 1 0 + waiting marks
 
--- The k-th place of the ring that begins at h.
+-- The k-th slot of the ring that begins at h.
 unfoldable pub slot : List ℕ → ℕ → ℕ → ℕ
 slot q h k = slice_index q ((h + k) % length q)
 

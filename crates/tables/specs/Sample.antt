@@ -1,5 +1,6 @@
 -- The sample tower of document 01 as a text, and the tables that the document gives for it. Assumes nothing.
 use Rattle.std.specs.Prelude.{ℕ, List, [], ◌∷◌, ◌++◌}
+use Rattle.planning.specs.Table.{infinite_entry}
 use Rattle.reader.specs.Bytes.{bytes}
 
 -- "The text, with / for a line break": the second outcome of move 1, the outcome of move 3, limit and budget are parameters, since the
@@ -24,4 +25,4 @@ samples =
     -- "Tables 3,2,0,1 and 1,0."
     builds (tower (bytes "eff=0:3") (bytes "eff=1:1") (bytes "limit=32") (bytes "budget=100")) (3 ∷ 2 ∷ 0 ∷ 1 ∷ 1 ∷ 0 ∷ []) ∷
     -- "eff=0:0 for eff=0:3: table 65535,65535,0,1"
-    builds (tower (bytes "eff=0:0") (bytes "eff=1:1") (bytes "limit=32") (bytes "budget=100")) (65535 ∷ 65535 ∷ 0 ∷ 1 ∷ 1 ∷ 0 ∷ []) ∷ []
+    builds (tower (bytes "eff=0:0") (bytes "eff=1:1") (bytes "limit=32") (bytes "budget=100")) (infinite_entry ∷ infinite_entry ∷ 0 ∷ 1 ∷ 1 ∷ 0 ∷ []) ∷ []

@@ -1,14 +1,15 @@
 -- What asking actions about the states before a state leaves behind. Assumes nothing.
 use Rattle.std.specs.Prelude.{◌≡◌, ℕ, ◌+◌, ◌-◌, ◌*◌, ◌/◌, ◌%◌, ◌^◌, ◌<◌, ◌≤◌, Bool, true, ◌&&◌, List, length, drop, ◌≢◌, bit_and, nat_lt, slice_index}
-use Rattle.tables.specs.Steps.{weigh, Space, offer_at, permitted_at}
+use Rattle.planning.specs.Table.{infinite_entry}
+use Rattle.tables.specs.Steps.{weigh, Space, bellman_value_at, permitted_at}
 use Rattle.tables.specs.Waiting.{Waits, Heard, Leads, Asks, Moved}
 use Rattle.tables.specs.Queue.{Queue}
 use Rattle.tables.specs.Edges.{edge_back, edge_weight, edge_action, edge_lanes, edge_free, edge_first, edge_end, lane_after, lane_sum, Before}
 use Rattle.tables.specs.declared.worklist.edge.Edge.{Edge}
 
--- Entry i is there and above what was said.
+-- Entry i is there and above this value.
 unfoldable pub above : List ℕ → ℕ → ℕ → Bool
-above t i said = nat_lt i (length t) && nat_lt said (slice_index t i)
+above t i value = nat_lt i (length t) && nat_lt value (slice_index t i)
 
 -- The index after edge e from state i, whose word is s: the way back, gone forward.
 unfoldable pub way_forward : List Edge → List ℕ → ℕ → ℕ → ℕ → ℕ
@@ -22,22 +23,22 @@ pub record Going (x : Space) (j : ℕ) (t : List ℕ) (marks : List Bool) (c : �
   pub queue : Queue (length new) q₁ marks₁ h d
   pub stays : slice_index new j ≡ slice_index t j
 
--- r is what action m says of entry i; where it is infinite, that was heard.
-pub record Offered (x : Space) (t : List ℕ) (marks : List Bool) (m i r : ℕ) : Type 0 where
-  pub said : r < 65535 → r ≡ offer_at x t m i
-  pub nothing : 65535 ≤ r → Heard x t marks m i
+-- r is the Bellman value of action m in state i; where r is infinite, the action was heard.
+pub record BellmanValue (x : Space) (t : List ℕ) (marks : List Bool) (m i r : ℕ) : Type 0 where
+  pub finite : r < infinite_entry → r ≡ bellman_value_at x t m i
+  pub infinite : infinite_entry ≤ r → Heard x t marks m i
 
--- By edge e entry i is to be what the edge's weight and the entry of j make, and that is less.
-pub record Says (es : List Edge) (t : List ℕ) (e i j said : ℕ) : Type 0 where
+-- The value along edge e, which leads from i to j, is its weight and the entry of j, and entry i is above it.
+pub record Lowers (es : List Edge) (t : List ℕ) (e i j value : ℕ) : Type 0 where
   pub near : j < length t
-  pub said_is : said ≡ slice_index t j + edge_weight es e
-  pub less : said < slice_index t i
-  pub small : slice_index t i ≤ 65535
+  pub value_is : value ≡ slice_index t j + edge_weight es e
+  pub less : value < slice_index t i
+  pub small : slice_index t i ≤ infinite_entry
 
 -- The same of an edge that leads from i to j and is the only one of its action.
-pub record Only (x : Space) (es : List Edge) (t : List ℕ) (e i said : ℕ) : Type 0 where
+pub record Only (x : Space) (es : List Edge) (t : List ℕ) (e i value : ℕ) : Type 0 where
   pub after : ℕ
-  pub says : Says es t e i after said
+  pub lowers : Lowers es t e i after value
   pub there : way_forward es x.weights e i (slice_index x.states i) ≡ after
   pub alone : edge_end es e ≡ edge_first es e + 1
 
@@ -90,4 +91,4 @@ pub record GoalsWait (t q₁ : List ℕ) (marks₁ : List Bool) (d : ℕ) : Type
 -- No entry is more than 1 above that of a state that waits, and none above the infinite one.
 pub record Level (t : List ℕ) (marks : List Bool) : Type 0 where
   pub near : (i j : ℕ) → i < length t → Waits marks j → j < length t → slice_index t i ≤ slice_index t j + 1
-  pub small : (i : ℕ) → i < length t → slice_index t i ≤ 65535
+  pub small : (i : ℕ) → i < length t → slice_index t i ≤ infinite_entry

@@ -1,8 +1,9 @@
--- What a worklist keeps while it lowers the entries of a table: what every action says of every entry was heard, or one of its outcomes
+-- What a worklist keeps while it lowers the entries of a table: no entry is above the Bellman value of an action, or an outcome of the action
 -- still waits. The order in which states wait is free. Assumes nothing.
 use Rattle.std.specs.Prelude.{◌≡◌, ℕ, ◌+◌, ◌<◌, ◌≤◌, Bool, true, false, ◌⊎◌, List, length, get_or, slice_index, slice_index_or}
+use Rattle.planning.specs.Finite.{total}
 use Rattle.packed_task.specs.Packed.{outcome_count}
-use Rattle.tables.specs.Steps.{weigh, Space, offer_at, permitted_at, Steps, total}
+use Rattle.tables.specs.Steps.{weigh, Space, bellman_value_at, permitted_at, Steps}
 use Rattle.packed_task.specs.Within.{after, idles}
 
 -- The index of the state after outcome o of action m in state i.
@@ -13,9 +14,9 @@ index_after x m i o = weigh x.weights (after x.task x.mask m o (slice_index x.st
 abbrev pub Waits : List Bool → ℕ → Type 0
 Waits marks j = get_or marks j false ≡ true
 
--- Action m says no less of entry i, or an outcome of it waits.
+-- Entry i is not above the Bellman value of action m, or an outcome of the action waits.
 pub data Heard (x : Space) (t : List ℕ) (marks : List Bool) (m i : ℕ) : Type 0 where
-  low : slice_index_or t i 0 ≤ offer_at x t m i → Heard x t marks m i
+  low : slice_index_or t i 0 ≤ bellman_value_at x t m i → Heard x t marks m i
   later : (o : ℕ) → o < outcome_count x.task m → Waits marks (index_after x m i o) → Heard x t marks m i
 
 -- An outcome of action m leads from state i to state j.

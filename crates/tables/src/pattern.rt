@@ -4,23 +4,24 @@ ghost use Rattle.std.specs.Prelude.{◌≡◌};
 ghost use Rattle.tables.specs.Patterned.{Chosen, PatternOf, states_of};
 
 use crate::ranking::state_count;
-use crate::steps::lively;
+use crate::steps::effective;
+use packed_task::layout::TASK_WORDS;
 use packed_task::packed::mask_of_cells;
 use std::marker::Model;
 use task_record::cells::{action_count, pattern_cells, state_of, variable_count};
 use task_record::sound::SoundRecord;
 
-// The compiled task and its number of actions; the number of variables and their sizes; the pattern, its mask, and the set of the actions of which
-// no outcome leaves every state as it is.
+// The compiled task and its number of actions; the number of variables and their sizes; the pattern, its mask, and the set of the effective
+// actions, of which no outcome leaves every state as it is.
 #[derive(Drop)]
 pub(crate) struct Pattern<'a> {
-    pub(crate) task: &'a [u64; 1282],
+    pub(crate) task: &'a [u64; TASK_WORDS],
     pub(crate) actions: usize,
     pub(crate) n: usize,
     pub(crate) sizes: [u8; 16],
     pub(crate) picked: [u8; 16],
     pub(crate) mask: u64,
-    pub(crate) live: u64,
+    pub(crate) effective: u64,
 }
 
 impl<'a> Model for Pattern<'a> {
@@ -28,9 +29,9 @@ impl<'a> Model for Pattern<'a> {
 
     ghost Value = { Patterned };
 
-    ghost view = { λ p. record { task = p.task.now; actions = p.actions; variables = p.n; sizes = p.sizes; picked = p.picked; mask = p.mask; live = p.live } };
+    ghost view = { λ p. record { task = p.task.now; actions = p.actions; variables = p.n; sizes = p.sizes; picked = p.picked; mask = p.mask; effective = p.effective } };
 
-    ghost invariant = { λ p. Ready (record { task = p.task.now; actions = p.actions; variables = p.n; sizes = p.sizes; picked = p.picked; mask = p.mask; live = p.live }) };
+    ghost invariant = { λ p. Ready (record { task = p.task.now; actions = p.actions; variables = p.n; sizes = p.sizes; picked = p.picked; mask = p.mask; effective = p.effective }) };
 }
 
 impl<'a> Pattern<'a> {
@@ -39,7 +40,7 @@ impl<'a> Pattern<'a> {
     // table of 8 states, and a build may not become slower.
     pub(crate) fn of(
         record: &SoundRecord,
-        task: &'a [u64; 1282],
+        task: &'a [u64; TASK_WORDS],
         sizes: [u8; 16],
         p: u8,
     ) -> Pattern<'a>
@@ -56,7 +57,7 @@ impl<'a> Pattern<'a> {
             sizes,
             picked,
             mask,
-            live: lively(task, mask, actions),
+            effective: effective(task, mask, actions),
         }
     }
 

@@ -4,7 +4,7 @@ ghost use Rattle.std.specs.Prelude.{◌≡◌, ℕ, ◌+◌, ◌-◌, ◌*◌, �
 ghost use Rattle.planning.specs.Table.{state_count, state_at};
 ghost use Rattle.packed_task.specs.Packed.{pack_by, low};
 ghost use Rattle.tables.specs.Patterned.{states_of};
-ghost use Rattle.tables.specs.Steps.{weights_from, Sized, Extended};
+ghost use Rattle.tables.specs.Steps.{weights_from, Bounded, Extended};
 
 use crate::pattern::Pattern;
 
@@ -46,7 +46,7 @@ pub(crate) fn weights_of(pattern: &Pattern) -> [u16; 16]
 // Stays: sizes, pattern and n with their clause, and no `Pattern`: `spread` counts the states of patterns that it makes none of, and `parts_of` those of
 // fewer variables.
 pub(crate) fn state_count(sizes: [u8; 16], pattern: [u8; 16], n: usize) -> usize
-    requires { Sized sizes pattern n }
+    requires { Bounded sizes pattern n }
     ensures { result ≡ state_count (take n sizes) pattern }
 {
     let mut w = 1usize;

@@ -12,7 +12,9 @@ use crate::pattern::Pattern;
 use crate::worklist::build::build_table;
 use packed_task::applying::fill_sets;
 use packed_task::compile_record::{compile_over, compile_record};
+use packed_task::layout::TASK_WORDS;
 use packed_task::packed::start_word;
+use patterns::entry::Entry;
 use patterns::estimate::check_estimate;
 use patterns::space::{check_tables, sizes_of};
 use task_record::cells::{action_count, pattern_count, start_cells, variable_count};
@@ -22,11 +24,11 @@ use task_record::sound::SoundRecord;
 // The table of pattern p, from entry `begin` on; the entries before and after it stay. Answers where it ends.
 fn build_one(
     record: &SoundRecord,
-    task: &[u64; 1282],
+    task: &[u64; TASK_WORDS],
     sizes: [u8; 16],
     p: u8,
     begin: usize,
-    tables: &mut [u16],
+    tables: &mut [Entry],
 ) -> usize
     requires { (Chosen record.now task.now sizes p) × (begin + states_at record.now p ≤ length tables.old) }
     ensures { (result ≡ begin + states_at record.now p) × (tables.new ≡ take begin tables.old ++ (entries_at record.now p ++ drop result tables.old)) }
@@ -38,7 +40,7 @@ fn build_one(
 }
 
 // Each table begins where the one before ends.
-fn build_all(record: &SoundRecord, task: &[u64; 1282], tables: &mut [u16])
+fn build_all(record: &SoundRecord, task: &[u64; TASK_WORDS], tables: &mut [Entry])
     requires { (Fits record.now (length tables.old)) × (task.now ≡ compiled (task_of record.now)) }
     ensures { tables.new ≡ built_over record.now tables.old }
 {
@@ -50,21 +52,21 @@ fn build_all(record: &SoundRecord, task: &[u64; 1282], tables: &mut [u16])
 }
 
 // The compiled task is needed only while the tables are built, and not at all without patterns.
-pub(crate) fn build_checked(record: &SoundRecord, tables: &mut [u16])
+pub(crate) fn build_checked(record: &SoundRecord, tables: &mut [Entry])
     requires { Fits record.now (length tables.old) }
     ensures { tables.new ≡ built_over record.now tables.old }
 {
     if pattern_count(record.cells) == 0 {
         return;
     }
-    let mut task = [0u64; 1282];
+    let mut task = [0u64; TASK_WORDS];
     compile_over(record, &mut task);
     build_all(record, &task, tables);
 }
 
 // The tables of the task's patterns, one after the other; entries after the last stay. Needs less than 170 KiB of stack, most of it for the worklist
 // of a table of 4,096 states, which a smaller one does not clear, and 10 KiB for the compiled task.
-pub fn build_tables(rec: &[u8], tables: &mut [u16]) -> Result<u64, Refusal>
+pub fn build_tables(rec: &[u8], tables: &mut [Entry]) -> Result<u64, Refusal>
     ensures value { (result ≡ table_build rec.now (length tables.old)) × (tables.new ≡ tables_built rec.now tables.old) }
     ensures numbers { table_build_numbers result ≡ tables_by_lines rec.now (length tables.old) }
 {
@@ -79,8 +81,8 @@ pub fn build_tables(rec: &[u8], tables: &mut [u16]) -> Result<u64, Refusal>
 // stack.
 pub fn prepare(
     rec: &[u8],
-    tables: &mut [u16],
-    task: &mut [u64; 1282],
+    tables: &mut [Entry],
+    task: &mut [u64; TASK_WORDS],
     sets: &mut [u64; 2048],
 ) -> Result<u64, Refusal>
     ensures value { (result ≡ start_prepared rec.now (length tables.old)) × (tables.new ≡ tables_prepared rec.now tables.old) × (task.new ≡ words_prepared rec.now (length tables.old) task.old) }

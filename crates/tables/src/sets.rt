@@ -1,6 +1,6 @@
 // Sets of small numbers as words, made by a test of each number.
 ghost use Rattle.std.specs.Prelude.{◌≡◌, ℕ, ◌<◌, ◌≤◌, Bool};
-ghost use Rattle.packed_task.specs.Sets.{set_from};
+ghost use Rattle.planning.specs.Sets.{set_from};
 
 // The numbers below n that pass a test, from the highest down: each makes room for the one below it.
 pub(crate) fn set_of<F: Fn(usize) -> bool>(n: usize, passes: F) -> u64

@@ -13,6 +13,7 @@ ghost use Rattle.tables.specs.Spread.{costs_named, states_named, table_spread, t
 
 use crate::ranking::state_count;
 use crate::record_tables::build_checked;
+use patterns::entry::Entry;
 use patterns::space::{check_tables, sizes_of};
 use std::ops::Range;
 use task_record::cells::{pattern_cells, pattern_count, state_of, variable_count};
@@ -23,14 +24,14 @@ use task_record::sound::SoundRecord;
 const ROW: usize = 4097;
 
 // The place of an entry in the row: its own where it is finite, and so at most 4,095; an infinite one is cut to the last.
-fn place_of(e: u16) -> usize
+fn place_of(e: Entry) -> usize
     ensures { result ≡ min e (suc most_cost) }
 {
     usize::from(e).min(ROW - 1)
 }
 
 // Counts the entries of a table in a row that is cleared.
-fn count_entries(entries: &[u16], row: &mut [u32])
+fn count_entries(entries: &[Entry], row: &mut [u32])
     requires { (length entries.now ≤ 4096) × (EntriesBelow (suc most_cost) (map cost_of entries.now)) × (row.old ≡ spread []) }
     ensures { row.new ≡ spread (map cost_of entries.now) }
 {
@@ -58,7 +59,7 @@ fn part_of(record: &SoundRecord, p: u8) -> Range<usize>
 
 // The spread of a pattern's table that stands among the tables of its record; of a number that names no pattern all counts are 0. Answers how
 // many states were counted.
-fn count_pattern(record: &SoundRecord, pattern: u64, tables: &[u16], row: &mut [u32]) -> u64
+fn count_pattern(record: &SoundRecord, pattern: u64, tables: &[Entry], row: &mut [u32]) -> u64
     requires { (Fits record.now (length tables.now)) × (tables.now ≡ built_over record.now tables.now) × (length row.old ≡ row_size) }
     ensures { (result ≡ states_named record.now pattern) × (row.new ≡ spread (costs_named record.now pattern)) }
 {
@@ -78,7 +79,12 @@ fn count_pattern(record: &SoundRecord, pattern: u64, tables: &[u16], row: &mut [
 // Builds the tables and counts, for the pattern of a number, how many of its abstract states have each cost: place v of the row is for cost v, the
 // last for infinity. A row that is too short is refused before anything is built. Needs as much stack as a build.
 #[tactic(auto, using(crate::proofs::Spreading::spread_told))]
-pub fn spread(rec: &[u8], pattern: u64, tables: &mut [u16], row: &mut [u32]) -> Result<u64, Refusal>
+pub fn spread(
+    rec: &[u8],
+    pattern: u64,
+    tables: &mut [Entry],
+    row: &mut [u32],
+) -> Result<u64, Refusal>
     ensures value { (result ≡ table_spread rec.now pattern (length tables.old) (length row.old)) × (tables.new ≡ tables_spread rec.now pattern tables.old (length row.old)) × (row.new ≡ row_spread rec.now pattern (length tables.old) row.old) }
     ensures numbers { spread_numbers result ≡ spread_by_lines rec.now pattern (length tables.old) (length row.old) }
 {

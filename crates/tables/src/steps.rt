@@ -1,22 +1,18 @@
-// The parts of a step that lowers an entry, over packed words: the index of a word, what an action says, and whether it may leave a state as it is.
+// The parts of a step that lowers an entry, over packed words: the index of a word, the sum of a Bellman value, and the effective
+// actions: those of which no outcome may leave a state as it is.
 // Stays: `as` of a digit: a word has no `From` into an index, and `try_from` has a case that never happens.
 // Stays: task, mask and m side by side, since a `Graph` and a `Pattern` lend them alike.
-ghost use Rattle.std.specs.Prelude.{◌≡◌, ℕ, ◌+◌, ◌*◌, ◌/◌, ◌%◌, ◌<◌, ◌≤◌, true, not, length, if◌then◌else◌, slice_index, slice_index_or};
+ghost use Rattle.std.specs.Prelude.{◌≡◌, ℕ, ◌+◌, ◌*◌, ◌/◌, ◌%◌, ◌<◌, ◌≤◌, true, not, length, if◌then◌else◌, slice_index};
 ghost use Rattle.packed_task.specs.Packed.{outcome_count, Readable};
-ghost use Rattle.packed_task.specs.Sets.{set_from};
+ghost use Rattle.planning.specs.Sets.{set_from};
 ghost use Rattle.packed_task.specs.Within.{idles};
 ghost use Rattle.tables.specs.Steps.{weigh, raised};
 
 use crate::sets::set_of;
 use packed_task::compiled_task::{kept, outcome_count};
+use packed_task::layout::TASK_WORDS;
 use packed_task::numbers::{ActionNumber, OutcomeNumber};
-
-// Entry j, and infinite past the end.
-pub(crate) fn entry_at(entries: &[u16], j: usize) -> u16
-    ensures { result ≡ slice_index_or entries.now j 65535 }
-{
-    entries.get(j).copied().unwrap_or(u16::MAX)
-}
+use patterns::entry::{Entry, INFINITE};
 
 // A digit times a weight.
 pub(crate) fn times(x: u64, w: u16) -> usize
@@ -52,19 +48,19 @@ pub(crate) fn index_of(weights: &[u16; 16], s: u64) -> usize
     sum
 }
 
-// A sum that reaches 65,535 counts as infinite.
+// A Bellman value: a sum that reaches the infinite entry counts as that.
 #[tactic(auto, unfolding(crate::specs::Steps::raised))]
-pub(crate) fn raise(w: u64, v: u16) -> u16
+pub(crate) fn raise(w: u64, v: Entry) -> Entry
     ensures { result ≡ raised w v }
 {
-    u16::try_from(w).unwrap_or(u16::MAX).saturating_add(v)
+    Entry::try_from(w).unwrap_or(INFINITE).saturating_add(v)
 }
 
-// Whether an outcome names no variable of the pattern. It leads from each abstract state to itself, so the action never says less of an
+// Whether an outcome names no variable of the pattern. It leads from each abstract state to itself, so the action never lowers an
 // entry.
 // Stays: a loop, and no `any` over the outcomes: with it a turn has 9 instructions in place of 6, and tables of a few states took up to 1.03 times as many;
 // a build may not become slower.
-fn may_idle(task: &[u64; 1282], mask: u64, m: ActionNumber) -> bool
+fn may_idle(task: &[u64; TASK_WORDS], mask: u64, m: ActionNumber) -> bool
     requires { outcome_count task.now m.number ≤ 8 }
     ensures { result ≡ idles task.now mask m.number }
 {
@@ -77,8 +73,8 @@ fn may_idle(task: &[u64; 1282], mask: u64, m: ActionNumber) -> bool
     false
 }
 
-// The actions of which no outcome leaves every state as it is.
-pub(crate) fn lively(task: &[u64; 1282], mask: u64, actions: usize) -> u64
+// The effective actions: those of which no outcome leaves every state as it is.
+pub(crate) fn effective(task: &[u64; TASK_WORDS], mask: u64, actions: usize) -> u64
     requires { Readable task.now actions }
     ensures { result ≡ set_from (λ m. not (idles task.now mask m)) 0 actions }
 {

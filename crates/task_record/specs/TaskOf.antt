@@ -32,3 +32,7 @@ patterns_of r = tabulate (λ p. cells_at r (at_pattern p)) 0 (pattern_count r)
 -- "40 start (16)": the values of the variables.
 unfoldable pub start_of : List ℕ → List ℕ
 start_of r = take (variable_count r) (drop at_start r)
+
+-- "a state of 16 bytes (255 beyond N)": the values of the N variables.
+unfoldable pub values_of : List ℕ → List ℕ → List ℕ
+values_of r s = take (variable_count r) s

@@ -1,7 +1,9 @@
 // The cells of a record by name, for the layers above. Every function is total: past the end of the slice a cell is 0 and a part is empty.
 ghost use Rattle.std.specs.Prelude.{◌≡◌, ◌+◌, ◌*◌, ◌<◌, ◌≤◌, length, take, drop, slice_index_or};
+ghost use Rattle.planning.specs.Pattern.{counted_cell};
 ghost use Rattle.task_record.specs.Layout.{at_goal, at_start, at_pattern, at_precondition, at_outcome};
 ghost use Rattle.task_record.specs.Numbers.{byte, variable_count, action_count, pattern_count, limit_of, budget_of, size_of, outcome_count};
+ghost use Rattle.task_record.specs.TaskOf.{action_of};
 ghost use Rattle.task_record.specs.Cells.{state_cells};
 
 use crate::layout::{
@@ -106,6 +108,21 @@ pub fn outcome_cells(rec: &[u8], m: u8, k: u8) -> &[u8]
     ensures { result.now ≡ take 16 (drop (at_outcome m k) rec.now) }
 {
     part(rec, at_outcome(m, k))
+}
+
+// What an action weighs: the same whichever it is, since a record says nothing of it.
+#[tactic(auto, unfolding(crate::specs::TaskOf::action_of))]
+pub fn action_weight(rec: &[u8], m: u8) -> u8
+    ensures { result ≡ (action_of rec.now m).weight }
+{
+    1
+}
+
+// The cell of an outcome as it counts, by the cell of its action's need: to restate the very value that is demanded is no change.
+pub fn counted_cell(need: u8, cell: u8) -> u8
+    ensures { result ≡ counted_cell need cell }
+{
+    if cell == need { UNNAMED } else { cell }
 }
 
 pub(crate) fn copied(c: &[u8]) -> [u8; 16]

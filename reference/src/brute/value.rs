@@ -1,6 +1,6 @@
 //! The additivity verdict and the summed estimate.
 
-use super::task::{Action, Task};
+use super::task::{Action, Assignment, Task};
 use super::{record, state, tables};
 use crate::answer::{Reason, Refusal};
 
@@ -15,10 +15,21 @@ pub enum Verdict {
     },
 }
 
-/// An action touches a pattern if an outcome names one of its variables.
+/// What is left of an outcome without the assignments of the value that the
+/// need of its own move demands.
+fn remaining(outcome: &Assignment, need: &Assignment) -> Assignment {
+    let counts = |(name, demanded): (&Option<u8>, &Option<u8>)| name.filter(|_| name != demanded);
+    outcome.iter().zip(need).map(counts).collect()
+}
+
+/// An action touches a pattern if one of the remaining assignments is of a
+/// variable of the pattern.
 fn touches(action: &Action, pattern: &[bool]) -> bool {
     let names_member = |(name, &member): (&Option<u8>, &bool)| member && name.is_some();
-    let names_one = |outcome: &Vec<Option<u8>>| outcome.iter().zip(pattern).any(names_member);
+    let names_one = |outcome: &Assignment| {
+        let remaining = remaining(outcome, &action.precondition);
+        remaining.iter().zip(pattern).any(names_member)
+    };
     action.outcomes.iter().any(names_one)
 }
 

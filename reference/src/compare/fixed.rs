@@ -1,7 +1,7 @@
 //! Calls that do not depend on a seed: the sample tower and everything near
 //! it, tried through.
 
-use super::{Call, Entry, Slices, spreads};
+use super::{Call, Entry, Slices, restated, spreads};
 use crate::brute::record::{self, LENGTH, ROW};
 use crate::brute::task::Task;
 use crate::brute::{plan::ARRIVED, reader, state, tables};
@@ -106,6 +106,7 @@ pub(super) fn variants() -> Vec<String> {
         sample::without_patterns(),
         sample::changed("eff=0:3", "eff=0:0"),
         sample::changed("eff=1:1", "eff=0:2,1:1"),
+        sample::changed("need=0:1/outcomes=2/eff=0:2", "need=0:1,1:0/outcomes=2/eff=0:2,1:0"),
         sample::changed("pattern=0/pattern=1", "pattern=0,1/pattern="),
     ]
 }
@@ -205,7 +206,7 @@ fn deep_plans() -> Calls {
 }
 
 /// The fixed calls, part by part.
-pub const PARTS: [fn() -> Calls; 10] = [
+pub const PARTS: [fn() -> Calls; 11] = [
     reads,
     records,
     states,
@@ -214,6 +215,7 @@ pub const PARTS: [fn() -> Calls; 10] = [
     spreads::refused,
     spreads::deepest,
     searches,
+    restated::near_the_sample,
     plans,
     deep_plans,
 ];

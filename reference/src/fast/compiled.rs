@@ -1,5 +1,5 @@
 //! A task made ready for the search. States are words: the variables that
-//! some action changes lie side by side in as few bits as their sizes take,
+//! some action may change lie side by side in as few bits as their sizes take,
 //! those of a pattern together, so that a pattern's place in its table is a
 //! field of the word. A variable that no action changes keeps its value and
 //! takes no bits; a variable of two patterns is one of those, for else they
@@ -152,7 +152,7 @@ impl Compiled {
     pub fn of(record: &Record, spaces: &Spaces, tables: &[u16]) -> (Self, u64) {
         let mut touching = [0; 64];
         for (set, action) in touching.iter_mut().zip(record.actions()) {
-            *set = touched(action.outcomes);
+            *set = touched(&action);
         }
         let changed = touching.iter().fold(0, |all, set| all | set);
         let fields = Fields::of(record, spaces, changed);

@@ -2,7 +2,7 @@
 
 use super::bits::{gathered, members, named};
 use super::layout::Row;
-use super::record::Record;
+use super::record::{Action, Record};
 use crate::answer::{Reason, Refusal};
 
 pub const INFINITE: u16 = u16::MAX;
@@ -88,15 +88,23 @@ impl Spaces {
     }
 }
 
-/// The variables that an action's outcomes name.
-pub fn touched(outcomes: &[Row]) -> u16 {
+/// For each variable 255, unless an outcome of the action gives it a value. The
+/// value that the precondition demands is none: where the action applies the
+/// variable has it.
+#[inline(always)]
+fn given(action: &Action) -> Row {
     let mut all = [255; 16];
-    for outcome in outcomes {
-        for (one, &cell) in all.iter_mut().zip(outcome) {
-            *one &= cell;
+    for outcome in action.outcomes {
+        for ((one, &cell), &demanded) in all.iter_mut().zip(outcome).zip(action.precondition) {
+            *one &= if cell == demanded { 255 } else { cell };
         }
     }
-    named(&all)
+    all
+}
+
+/// The variables that an action's outcomes may change.
+pub fn touched(action: &Action) -> u16 {
+    named(&given(action))
 }
 
 /// The lowest action that touches two patterns, and the lowest two of them.
@@ -109,14 +117,8 @@ pub fn conflict(record: &Record) -> Option<(usize, u32, u32)> {
         }
     }
     for (number, action) in record.actions().enumerate() {
-        let mut all = [255; 16];
-        for outcome in action.outcomes {
-            for (one, &cell) in all.iter_mut().zip(outcome) {
-                *one &= cell;
-            }
-        }
         let mut patterns = 0;
-        for (&cell, &owner) in all.iter().zip(&owners) {
+        for (&cell, &owner) in given(&action).iter().zip(&owners) {
             patterns |= if cell == 255 { 0 } else { owner };
         }
         if patterns & patterns.wrapping_sub(1) != 0 {

@@ -2,7 +2,7 @@
 
 use std::ops::RangeInclusive;
 
-use super::Random;
+use super::{Random, restating};
 use crate::brute::tables::MOST_STATES;
 use crate::brute::task::{Action, Assignment, State, Task};
 
@@ -25,6 +25,10 @@ pub const SMALL: Shape = Shape {
     patterns: 0..=4,
     budget: 3_000,
 };
+
+/// As few, with room for needs and outcomes in several patterns.
+const SEVERAL: Shape =
+    Shape { variables: 3..=4, sizes: 2..=3, actions: 3..=10, patterns: 2..=4, ..SMALL };
 
 /// Up to the ranges of the specification.
 pub const LARGE: Shape = Shape {
@@ -400,6 +404,10 @@ pub fn small(random: &mut Random) -> Task {
             let variables = random.within(1..=7);
             counter(random, variables)
         }
+        2..=11 => {
+            let task = task(random, &SEVERAL);
+            restating::restated(random, task)
+        }
         _ => task(random, &SMALL),
     }
 }
@@ -413,8 +421,16 @@ pub fn any(random: &mut Random) -> Task {
             counter(random, variables)
         }
         1 => wide(random),
-        2..=4 => task(random, &LARGE),
-        5..=8 => corridors(random),
+        2..=3 => task(random, &LARGE),
+        4 => {
+            let task = task(random, &LARGE);
+            restating::restated(random, task)
+        }
+        5..=7 => corridors(random),
+        8 => {
+            let task = corridors(random);
+            restating::restated(random, task)
+        }
         _ => small(random),
     }
 }

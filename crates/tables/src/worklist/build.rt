@@ -13,6 +13,7 @@ use crate::worklist::parts::parts_of;
 use crate::worklist::queue::Ring;
 use crate::worklist::settle::{Room, settle};
 use crate::worklist::states::States;
+use patterns::entry::Entry;
 
 // The table, with room for so many states, edges and sets; with no room for sets the edges are tested one by one.
 // A function makes room for all its arrays where it begins, those of functions compiled into it among them: this one is compiled into no other, so
@@ -20,7 +21,7 @@ use crate::worklist::states::States;
 #[inline(never)]
 fn build_within<const STATES: usize, const EDGES: usize, const SETS: usize>(
     pattern: &Pattern,
-    entries: &mut [u16],
+    entries: &mut [Entry],
 )
     requires { (length entries.old ≡ states_of pattern.now) × (RoomFor pattern.now STATES EDGES SETS) }
     ensures { TableOf pattern.now entries.new }
@@ -45,7 +46,7 @@ fn build_within<const STATES: usize, const EDGES: usize, const SETS: usize>(
 
 // The entries with the goals alone.
 #[inline(never)]
-fn build_goals<const STATES: usize>(pattern: &Pattern, entries: &mut [u16])
+fn build_goals<const STATES: usize>(pattern: &Pattern, entries: &mut [Entry])
     requires { (length entries.old ≡ states_of pattern.now) × (length entries.old ≤ STATES) × (1 ≤ STATES) × (STATES ≤ 4096) }
     ensures { (words : List ℕ) → WordsOf pattern.now words → entries.new ≡ started pattern.now.task pattern.now.mask words (length entries.old) }
 {
@@ -56,7 +57,7 @@ fn build_goals<const STATES: usize>(pattern: &Pattern, entries: &mut [u16])
 
 // The table of a pattern of few states and edges. Each size has a number of states of its own, and the functions that go by it are compiled for that size
 // alone.
-fn build_small(pattern: &Pattern, edges: usize, entries: &mut [u16])
+fn build_small(pattern: &Pattern, edges: usize, entries: &mut [Entry])
     requires { (length entries.old ≡ states_of pattern.now) × (length entries.old ≤ 1024) × (edges_most pattern.now ≤ edges) × (edges ≤ 32) }
     ensures { TableOf pattern.now entries.new }
 {
@@ -76,12 +77,12 @@ fn build_small(pattern: &Pattern, edges: usize, entries: &mut [u16])
 }
 
 // The table, with arrays of the least size that will do.
-fn build_sized(pattern: &Pattern, edges: usize, entries: &mut [u16])
+fn build_sized(pattern: &Pattern, edges: usize, entries: &mut [Entry])
     requires { (length entries.old ≡ states_of pattern.now) × (edges_most pattern.now ≤ edges) × (edges ≤ 512) }
     ensures { TableOf pattern.now entries.new }
 {
     // Where every action may leave each state as it is, only the goals count.
-    if pattern.live == 0 {
+    if pattern.effective == 0 {
         if entries.len() <= 64 {
             return build_goals::<64>(pattern, entries);
         }
@@ -103,10 +104,15 @@ fn build_sized(pattern: &Pattern, edges: usize, entries: &mut [u16])
 }
 
 // Fills `entries` with the table of the pattern.
-pub(crate) fn build_table(pattern: &Pattern, entries: &mut [u16])
+pub(crate) fn build_table(pattern: &Pattern, entries: &mut [Entry])
     requires { length entries.old ≡ states_of pattern.now }
     ensures { TableOf pattern.now entries.new }
 {
-    let edges = edge_count(pattern.task, pattern.mask, pattern.actions, pattern.live);
+    let edges = edge_count(
+        pattern.task,
+        pattern.mask,
+        pattern.actions,
+        pattern.effective,
+    );
     build_sized(pattern, edges, entries);
 }

@@ -3,7 +3,7 @@
 // Stays: `as`: a word has no `From` into an index or into what is narrower, and `try_from` has a case that never happens.
 ghost use Rattle.std.specs.Prelude.{◌≡◌, ℕ, ◌+◌, ◌*◌, ◌<◌, ◌≤◌, true, not, length, IfSome, IfNone};
 ghost use Rattle.packed_task.specs.Packed.{outcome_count, Readable};
-ghost use Rattle.packed_task.specs.Sets.{set_from};
+ghost use Rattle.planning.specs.Sets.{set_from};
 ghost use Rattle.packed_task.specs.Within.{idles};
 ghost use Rattle.tables.specs.Edges.{edge_at, outcomes_from, EdgesOf};
 ghost use Rattle.tables.specs.Incoming.{Tests};
@@ -16,6 +16,7 @@ use crate::worklist::edge::Edge;
 use crate::worklist::index::index_of_few;
 use crate::worklist::states::States;
 use packed_task::compiled_task::{kept, need, outcome_count, set, value, weight};
+use packed_task::layout::TASK_WORDS;
 use packed_task::numbers::{ActionNumber, OutcomeNumber};
 use packed_task::sets::Members;
 use std::marker::Model;
@@ -26,7 +27,7 @@ use std::marker::Model;
 // a field that is a reference, which the borrow checker does not cover (tried).
 #[derive(Drop)]
 pub(crate) struct Graph<'a> {
-    pub(crate) task: &'a [u64; 1282],
+    pub(crate) task: &'a [u64; TASK_WORDS],
     pub(crate) mask: u64,
     pub(crate) weights: &'a [u16; 16],
     pub(crate) states: &'a [u64],
@@ -59,7 +60,7 @@ struct FreeLane {
     rest: u64,
 }
 
-// A lane of the lowest free digit: its weight, its place in a word and its number of values. Where there is none it has one value, and adds nothing.
+// A lane of the lowest free digit: its weight, its position in a word and its number of values. Where there is none it has one value, and adds nothing.
 fn lane_of(weights: &[u16; 16], sizes: [u8; 16], free: u64) -> FreeLane
     ensures { (LaneOf weights.now sizes free result.lane result.rest) × (result.lane < 4294967296) }
 {
@@ -79,7 +80,7 @@ fn lane_of(weights: &[u16; 16], sizes: [u8; 16], free: u64) -> FreeLane
 }
 
 // Whether an outcome of action m before outcome o keeps and sets the same within the mask.
-fn is_twin(task: &[u64; 1282], mask: u64, m: ActionNumber, o: OutcomeNumber) -> bool
+fn is_twin(task: &[u64; TASK_WORDS], mask: u64, m: ActionNumber, o: OutcomeNumber) -> bool
     ensures { result ≡ true → (p : ℕ) × (p < o.number) × Same task.now mask m.number p o.number }
 {
     let keeps = kept(task, m, o) & mask;
@@ -172,26 +173,31 @@ fn put_action(states: &States, edges: &mut [Edge], first: usize, m: usize) -> us
     e
 }
 
-// The edges of the actions that leave no state as it is. Answers how many.
-pub(crate) fn make_edges(states: &States, edges: &mut [Edge]) -> usize
+// The edges of the effective actions. Answers how many.
+pub(crate) fn fill_edges(states: &States, edges: &mut [Edge]) -> usize
     requires { (edges_most states.now.pattern.now ≤ 512) × (edges_most states.now.pattern.now ≤ length edges.old) }
     ensures { (EdgesOf (space_in states.now.pattern.now states.now.weights.now states.now.words.now) states.now.pattern.now.sizes (states_of states.now.pattern.now) edges.new result) × (Tests edges.new result) × (result ≤ edges_most states.now.pattern.now) }
 {
     let pattern = states.pattern;
     let mut c = 0usize;
-    for m in Members(pattern.live) {
+    for m in Members(pattern.effective) {
         c = put_action(states, edges, c, m);
     }
     c
 }
 
-// How many outcomes the actions have that leave no state as it is: they have no more edges.
-pub(crate) fn edge_count(task: &[u64; 1282], mask: u64, actions: usize, live: u64) -> usize
-    requires { (Readable task.now actions) × (live ≡ set_from (λ m. not (idles task.now mask m)) 0 actions) }
+// How many outcomes the effective actions have: they have no more edges.
+pub(crate) fn edge_count(
+    task: &[u64; TASK_WORDS],
+    mask: u64,
+    actions: usize,
+    effective: u64,
+) -> usize
+    requires { (Readable task.now actions) × (effective ≡ set_from (λ m. not (idles task.now mask m)) 0 actions) }
     ensures { (result ≡ outcomes_from task.now mask 0 actions) × (result ≤ 512) }
 {
     let mut c = 0usize;
-    for m in Members(live) {
+    for m in Members(effective) {
         c += outcome_count(task, ActionNumber { number: m });
     }
     c

@@ -11,11 +11,12 @@ use crate::steps::times;
 use crate::worklist::index::index_of_few;
 use crate::worklist::queue::Ring;
 use packed_task::compiled_task::{goal_need, goal_value};
+use patterns::entry::{Entry, INFINITE};
 
-// State i is a goal, if there is one with this number.
-fn put_goal<const N: usize>(entries: &mut [u16], ring: &mut Ring<N>, i: usize)
-    requires { Held entries.old ring.old.states ring.old.places ring.old.marks ring.old.head ring.old.count }
-    ensures { (Zeroed entries.old entries.new i) × Held entries.new ring.new.states ring.new.places ring.new.marks ring.new.head ring.new.count }
+// State i is a goal, if there is one with this index.
+fn put_goal<const N: usize>(entries: &mut [Entry], ring: &mut Ring<N>, i: usize)
+    requires { Held entries.old ring.old.states ring.old.indices ring.old.marks ring.old.head ring.old.count }
+    ensures { (Zeroed entries.old entries.new i) × Held entries.new ring.new.states ring.new.indices ring.new.marks ring.new.head ring.new.count }
 {
     if i < entries.len() {
         entries[i] = 0;
@@ -30,11 +31,11 @@ fn put_goals_from<const N: usize>(
     v: usize,
     free: u64,
     at: usize,
-    entries: &mut [u16],
+    entries: &mut [Entry],
     ring: &mut Ring<N>,
 )
-    requires { (v ≤ 16) × (at ≤ 65536 + 983025 * v) × Held entries.old ring.old.states ring.old.places ring.old.marks ring.old.head ring.old.count }
-    ensures { (Entered weights.now sizes.now v free at entries.old entries.new) × Held entries.new ring.new.states ring.new.places ring.new.marks ring.new.head ring.new.count }
+    requires { (v ≤ 16) × (at ≤ 65536 + 983025 * v) × Held entries.old ring.old.states ring.old.indices ring.old.marks ring.old.head ring.old.count }
+    ensures { (Entered weights.now sizes.now v free at entries.old entries.new) × Held entries.new ring.new.states ring.new.indices ring.new.marks ring.new.head ring.new.count }
 {
     if free == 0 || v >= 16 {
         put_goal(entries, ring, at);
@@ -60,14 +61,14 @@ fn put_goals_from<const N: usize>(
 pub(crate) fn put_goals<const N: usize>(
     pattern: &Pattern,
     weights: &[u16; 16],
-    entries: &mut [u16],
+    entries: &mut [Entry],
     ring: &mut Ring<N>,
 )
     requires { (WeightsOf pattern.now weights.now) × (length entries.old ≡ states_of pattern.now) × (ring.old.states ≡ length entries.old) × (ring.old.head ≡ 0) × (ring.old.count ≡ 0) }
     ensures started { (words : List ℕ) → WordsOf pattern.now words → entries.new ≡ started pattern.now.task pattern.now.mask words (length entries.old) }
-    ensures held { Held entries.new ring.new.states ring.new.places ring.new.marks ring.new.head ring.new.count }
+    ensures held { Held entries.new ring.new.states ring.new.indices ring.new.marks ring.new.head ring.new.count }
 {
-    entries.fill(u16::MAX);
+    entries.fill(INFINITE);
     let need = goal_need(pattern.task) & pattern.mask;
     let at = index_of_few(weights, goal_value(pattern.task) & pattern.mask);
     put_goals_from(

@@ -9,7 +9,7 @@ ghost use Rattle.tables.specs.Listed.{SplitAt, Roomy, space_in};
 ghost use Rattle.tables.specs.Visits.{RowDone, Visited, Level};
 
 use crate::worklist::edge::Edge;
-use crate::worklist::edges::{Graph, make_edges};
+use crate::worklist::edges::{Graph, fill_edges};
 use crate::worklist::goals::put_goals;
 use crate::worklist::incoming::{Halves, edges_into, fill_sets, upper_part};
 use crate::worklist::parts::Parts;
@@ -17,16 +17,17 @@ use crate::worklist::queue::Ring;
 use crate::worklist::states::States;
 use crate::worklist::visits::{Worklist, is_plain};
 use packed_task::sets::Members;
+use patterns::entry::{Entry, INFINITE};
 
 // Whether no state that waits can lower an entry: none is more than 1 above the least that waits.
-fn is_level(entries: &[u16], marks: &[bool]) -> bool
+fn is_level(entries: &[Entry], marks: &[bool]) -> bool
     requires { length entries.now ≤ length marks.now }
     ensures { result ≡ true → Level entries.now marks.now }
 {
-    let mut most = 0usize;
-    let mut least = usize::from(u16::MAX);
+    let mut most = 0u64;
+    let mut least = u64::from(INFINITE);
     for (i, entry) in entries.iter().enumerate() {
-        let e = usize::from(*entry);
+        let e = u64::from(*entry);
         most = most.max(e);
         if marks[i] {
             least = least.min(e);
@@ -40,7 +41,7 @@ impl<'a, const N: usize> Worklist<'a, N> {
 
     // The edges of a set, of the 64 from 64 * c on, without those below number `from` of these.
     #[inline(never)]
-    fn visit_row(&mut self, j: usize, entry: u16, c: usize, from: usize, set: u64)
+    fn visit_row(&mut self, j: usize, entry: Entry, c: usize, from: usize, set: u64)
         requires { (j < length self.old.entries.now) × (slice_index self.old.entries.now j ≡ entry) × (Row self.old.graph.now.edges (slice_index self.old.graph.now.space.states j) self.old.graph.now.edge_number c set) × (c ≤ 8) × (from < 64) }
         ensures { Goes (λ g. RowDone g.space g.edges g.edge_number j c from) self.old self.new }
     {
@@ -52,7 +53,7 @@ impl<'a, const N: usize> Worklist<'a, N> {
     // The edges of a set, of the 64 from 64 * c on. Those that leave no digit free are many and quickly gone along, and need few registers; at the first
     // other one the rest is handed over.
     #[inline(always)]
-    fn visit_set(&mut self, j: usize, entry: u16, c: usize, set: u64)
+    fn visit_set(&mut self, j: usize, entry: Entry, c: usize, set: u64)
         requires { (j < length self.old.entries.now) × (slice_index self.old.entries.now j ≡ entry) × (Row self.old.graph.now.edges (slice_index self.old.graph.now.space.states j) self.old.graph.now.edge_number c set) × (c ≤ 8) }
         ensures { Goes (λ g. RowDone g.space g.edges g.edge_number j c 0) self.old self.new }
     {
@@ -69,7 +70,7 @@ impl<'a, const N: usize> Worklist<'a, N> {
 
     // Every edge that leads into state j, whose upper part is h, 64 by 64.
     #[inline(never)]
-    fn visit_rows(&mut self, j: usize, entry: u16, h: usize)
+    fn visit_rows(&mut self, j: usize, entry: Entry, h: usize)
         requires { (j < length self.old.entries.now) × (slice_index self.old.entries.now j ≡ entry) × (h ≡ j / self.old.graph.now.lower) }
         ensures { Goes (λ g. Visited g.space j) self.old self.new }
     {
@@ -124,7 +125,7 @@ impl<'a, const N: usize> Worklist<'a, N> {
 }
 
 // The goals are 0 and wait first, and then what can be lowered is.
-fn settle_started<const N: usize>(states: &States, graph: &Graph, entries: &mut [u16])
+fn settle_started<const N: usize>(states: &States, graph: &Graph, entries: &mut [Entry])
     requires { (graph.now.space ≡ space_in states.now.pattern.now states.now.weights.now states.now.words.now) × (graph.now.number ≡ length entries.old) × (length entries.old ≡ states_of states.now.pattern.now) × (length entries.old ≤ N) × (1 ≤ N) × (N ≤ 4096) }
     ensures { Settled graph.now.space (started graph.now.space.task graph.now.space.mask graph.now.space.states (length entries.old)) entries.new }
 {
@@ -146,7 +147,12 @@ pub(crate) struct Room<'a> {
 }
 
 // The entries of a pattern's states, from the goals on along the edges.
-pub(crate) fn settle<const N: usize>(states: &States, parts: Parts, room: Room, entries: &mut [u16])
+pub(crate) fn settle<const N: usize>(
+    states: &States,
+    parts: Parts,
+    room: Room,
+    entries: &mut [Entry],
+)
     requires { (length entries.old ≡ states_of states.now.pattern.now) × (SplitAt states.now.pattern.now parts.lower parts.low) × (Roomy states.now.pattern.now room.edges.now room.sets.now) × (length entries.old ≤ N) × (1 ≤ N) × (N ≤ 4096) }
     ensures { Settled (space_in states.now.pattern.now states.now.weights.now states.now.words.now) (started states.now.pattern.now.task states.now.pattern.now.mask states.now.words.now (length entries.old)) entries.new }
 {
@@ -155,7 +161,7 @@ pub(crate) fn settle<const N: usize>(states: &States, parts: Parts, room: Room, 
     let Room { edges, sets } = room;
     let lower = parts.lower;
     let upper = n / lower;
-    let k = make_edges(states, edges);
+    let k = fill_edges(states, edges);
     let halves = Halves {
         words: states.words,
         lower,

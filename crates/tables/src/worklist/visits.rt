@@ -1,25 +1,27 @@
-// The states before a state: the actions that lead to it are asked about them, and an entry of which an action says less is lowered and waits.
+// The states before a state: the actions that lead to it are asked about them, and an entry above an action's Bellman value is lowered and waits.
 // Stays: `as`: an index has no `From` into what is narrower, nor a `u32` into an index, and `try_from` has a case that never happens.
 ghost use Rattle.std.specs.Prelude.{◌≡◌, ℕ, ◌+◌, ◌-◌, ◌*◌, ◌^◌, ◌<◌, ◌≤◌, true, length, drop, slice_index};
+ghost use Rattle.planning.specs.Table.{infinite_entry};
 ghost use Rattle.tables.specs.Steps.{weigh, permitted_at};
 ghost use Rattle.tables.specs.Edges.{edge_action, Plain, Single, Choices};
-ghost use Rattle.tables.specs.Visits.{above, way_forward, Offered, Says, Only, Asked, AskedFrom, Laned, Freed, Passed};
+ghost use Rattle.tables.specs.Visits.{above, way_forward, BellmanValue, Lowers, Only, Asked, AskedFrom, Laned, Freed, Passed};
 
-use crate::steps::{entry_at, raise, times};
+use crate::steps::{raise, times};
 use crate::worklist::edge::Edge;
 use crate::worklist::edges::Graph;
 use crate::worklist::queue::Ring;
 use packed_task::numbers::ActionNumber;
 use packed_task::within::permits;
+use patterns::entry::{Entry, INFINITE, entry_at};
 
 // What goes on while states wait: the graph, the entries of its states so far, and the ring of those that wait.
 #[derive(Drop)]
 pub(crate) struct Worklist<'a, const N: usize> {
     pub(crate) graph: &'a Graph<'a>,
-    pub(crate) entries: &'a mut [u16],
+    pub(crate) entries: &'a mut [Entry],
     pub(crate) ring: &'a mut Ring<N>,
     ghost all: { graph.now.number ≡ length entries.now },
-    ghost places: { ring.now.states ≡ length entries.now },
+    ghost ring_states: { ring.now.states ≡ length entries.now },
 }
 
 // Edge e into state j, whose entry is `entry`.
@@ -28,7 +30,7 @@ pub(crate) struct Worklist<'a, const N: usize> {
 struct Arrival {
     e: u32,
     j: u16,
-    entry: u16,
+    entry: Entry,
 }
 
 // How many digits of a word are 0 below the lowest that is not.
@@ -69,11 +71,17 @@ fn index_after(edges: &[Edge], weights: &[u16; 16], e: usize, i: usize, s: u64) 
     (i + 65536 - free % 65536 + 65536 - usize::from(edge.back)) % 65536
 }
 
-// What the action of edge e says of state i, by its own edges, and infinite if one of them leads to a state that waits.
+// The Bellman value of the action of edge e in state i, by its own edges, and infinite if one of them leads to a state that waits.
 #[inline(always)]
-fn offer_along(graph: &Graph, entries: &[u16], marks: &[bool], e: usize, i: usize) -> u16
+fn bellman_value_along(
+    graph: &Graph,
+    entries: &[Entry],
+    marks: &[bool],
+    e: usize,
+    i: usize,
+) -> Entry
     requires { (e < graph.now.edge_number) × (i < length entries.now) × (graph.now.number ≡ length entries.now) × (length entries.now ≤ length marks.now) × (permitted_at graph.now.space (edge_action graph.now.edges e) i ≡ true) }
-    ensures { Offered graph.now.space entries.now marks.now (edge_action graph.now.edges e) i result }
+    ensures { BellmanValue graph.now.space entries.now marks.now (edge_action graph.now.edges e) i result }
 {
     let edges = graph.edges;
     let states = graph.states;
@@ -82,30 +90,30 @@ fn offer_along(graph: &Graph, entries: &[u16], marks: &[bool], e: usize, i: usiz
     let first = usize::from(edge.first);
     let many = usize::from(edge.many);
     let end = first + many;
-    let mut most = 0u16;
+    let mut most: Entry = 0;
     for f in first..end {
         let j = index_after(edges, graph.weights, f, i, s);
         let v = entry_at(entries, j);
-        if v == u16::MAX {
-            return u16::MAX;
+        if v == INFINITE {
+            return INFINITE;
         }
         if marks[j] {
-            return u16::MAX;
+            return INFINITE;
         }
         most = most.max(v);
     }
     raise(u64::from(edge.weight), most)
 }
 
-// The action of edge e is asked about state i: its entry falls to what the action says, if that is less, and then the state waits.
+// The action of edge e is asked about state i: its entry falls to the action's Bellman value, if that is less, and then the state waits.
 // It is compiled into no other function: it would take the registers of the loops around it.
 // Stays: over the parts of a worklist, with clauses on their lengths, as `ask_only` and `ask_from`: as methods of `Worklist` they read it again after
 // each store, and tables of 16^3 states take 1.06 times the instructions. The bounds of e, i and j, here and below, are each of a single number that
 // an index needs.
 #[inline(never)]
-fn ask<const N: usize>(graph: &Graph, entries: &mut [u16], ring: &mut Ring<N>, e: usize, i: usize)
+fn ask<const N: usize>(graph: &Graph, entries: &mut [Entry], ring: &mut Ring<N>, e: usize, i: usize)
     requires { (e < graph.now.edge_number) × (i < length entries.old) × (graph.now.number ≡ length entries.old) × (ring.old.states ≡ length entries.old) }
-    ensures { (Asked graph.now.space (edge_action graph.now.edges e) i entries.old ring.old.marks ring.old.count entries.new ring.new.places ring.new.marks ring.old.head ring.new.count) × (ring.new.states ≡ ring.old.states) × (ring.new.head ≡ ring.old.head) }
+    ensures { (Asked graph.now.space (edge_action graph.now.edges e) i entries.old ring.old.marks ring.old.count entries.new ring.new.indices ring.new.marks ring.old.head ring.new.count) × (ring.new.states ≡ ring.old.states) × (ring.new.head ≡ ring.old.head) }
 {
     let states = graph.states;
     let edge = graph.edges[e];
@@ -115,7 +123,7 @@ fn ask<const N: usize>(graph: &Graph, entries: &mut [u16], ring: &mut Ring<N>, e
     if !permits(graph.task, graph.mask, action, states[i]) {
         return;
     }
-    let v = offer_along(graph, entries, &ring.marks, e, i);
+    let v = bellman_value_along(graph, entries, &ring.marks, e, i);
     if v >= entries[i] {
         return;
     }
@@ -123,18 +131,19 @@ fn ask<const N: usize>(graph: &Graph, entries: &mut [u16], ring: &mut Ring<N>, e
     ring.put(i);
 }
 
-// The action of edge e, which has no other edge and leads from state i on, is asked about i: entry i falls to what was said, if the action is permitted.
+// The action of edge e, which has no other edge and leads from state i on, is asked about i: entry i falls to the value along the
+// edge, if the action is permitted.
 #[inline(always)]
 fn ask_only<const N: usize>(
     graph: &Graph,
-    entries: &mut [u16],
+    entries: &mut [Entry],
     ring: &mut Ring<N>,
     e: usize,
     i: usize,
-    said: usize,
+    value: u64,
 )
-    requires { (e < graph.now.edge_number) × (i < length entries.old) × (graph.now.number ≡ length entries.old) × (ring.old.states ≡ length entries.old) × (Only graph.now.space graph.now.edges entries.old e i said) }
-    ensures { (Asked graph.now.space (edge_action graph.now.edges e) i entries.old ring.old.marks ring.old.count entries.new ring.new.places ring.new.marks ring.old.head ring.new.count) × (ring.new.states ≡ ring.old.states) × (ring.new.head ≡ ring.old.head) }
+    requires { (e < graph.now.edge_number) × (i < length entries.old) × (graph.now.number ≡ length entries.old) × (ring.old.states ≡ length entries.old) × (Only graph.now.space graph.now.edges entries.old e i value) }
+    ensures { (Asked graph.now.space (edge_action graph.now.edges e) i entries.old ring.old.marks ring.old.count entries.new ring.new.indices ring.new.marks ring.old.head ring.new.count) × (ring.new.states ≡ ring.old.states) × (ring.new.head ≡ ring.old.head) }
 {
     let states = graph.states;
     let edge = graph.edges[e];
@@ -144,24 +153,24 @@ fn ask_only<const N: usize>(
     if !permits(graph.task, graph.mask, action, states[i]) {
         return;
     }
-    entries[i] = said as u16;
+    entries[i] = value as Entry;
     ring.put(i);
 }
 
-// The action of edge e, which leaves no digit free but that of its first lane, is asked about the state i, whose entry is above what was said, if the edge
-// leads from i to j.
+// The action of edge e, which leaves no digit free but that of its first lane, is asked about the state i, whose entry is above the value
+// along the edge, if that leads from i to j.
 #[inline(always)]
 fn ask_from<const N: usize>(
     graph: &Graph,
-    entries: &mut [u16],
+    entries: &mut [Entry],
     ring: &mut Ring<N>,
     e: usize,
     j: usize,
     i: usize,
-    said: usize,
+    value: u64,
 )
-    requires { (e < graph.now.edge_number) × (i < length entries.old) × (graph.now.number ≡ length entries.old) × (ring.old.states ≡ length entries.old) × (Says graph.now.edges entries.old e i j said) × (Single graph.now.edges e) }
-    ensures { (AskedFrom graph.now.space graph.now.edges e j i entries.old ring.old.marks ring.old.count entries.new ring.new.places ring.new.marks ring.old.head ring.new.count) × (ring.new.states ≡ ring.old.states) × (ring.new.head ≡ ring.old.head) }
+    requires { (e < graph.now.edge_number) × (i < length entries.old) × (graph.now.number ≡ length entries.old) × (ring.old.states ≡ length entries.old) × (Lowers graph.now.edges entries.old e i j value) × (Single graph.now.edges e) }
+    ensures { (AskedFrom graph.now.space graph.now.edges e j i entries.old ring.old.marks ring.old.count entries.new ring.new.indices ring.new.marks ring.old.head ring.new.count) × (ring.new.states ≡ ring.old.states) × (ring.new.head ≡ ring.old.head) }
 {
     let states = graph.states;
     let edge = graph.edges[e];
@@ -171,16 +180,16 @@ fn ask_from<const N: usize>(
     }
     let at = (j + usize::from(edge.back)) % 65536;
     if at + edge.one().sum(states[i]) == i {
-        ask_only(graph, entries, ring, e, i, said);
+        ask_only(graph, entries, ring, e, i, value);
     }
 }
 
-// Whether entry i is there and above what was said.
-fn is_above(entries: &[u16], i: usize, said: usize) -> bool
-    ensures { (result ≡ above entries.now i said) × (slice_index entries.now i ≤ 65535) }
+// Whether entry i is there and above this value.
+fn is_above(entries: &[Entry], i: usize, value: u64) -> bool
+    ensures { (result ≡ above entries.now i value) × (slice_index entries.now i ≤ infinite_entry) }
 {
     if i < entries.len() {
-        return usize::from(entries[i]) > said;
+        return u64::from(entries[i]) > value;
     }
     false
 }
@@ -228,7 +237,7 @@ impl<'a, const N: usize> Worklist<'a, N> {
         let ring = &mut *self.ring;
         let e = by.e as usize;
         let edge = graph.edges[e];
-        let said = usize::from(by.entry) + usize::from(edge.weight);
+        let value = u64::from(by.entry) + u64::from(edge.weight);
         let one = usize::from(edge.one().weight());
         let two = usize::from(edge.two().weight());
         let ones = usize::from(edge.one().values());
@@ -238,7 +247,7 @@ impl<'a, const N: usize> Worklist<'a, N> {
         for y in 0..twos {
             let mut i = row;
             for x in 0..ones {
-                if is_above(entries, i, said) {
+                if is_above(entries, i, value) {
                     ask(graph, entries, ring, e, i);
                 }
                 i += one;
@@ -271,7 +280,7 @@ impl<'a, const N: usize> Worklist<'a, N> {
 
     // The action of edge e, which leaves no digit free, is asked about the one state from which the edge leads to j.
     #[inline(always)]
-    pub(crate) fn visit_plain(&mut self, e: usize, j: usize, entry: u16)
+    pub(crate) fn visit_plain(&mut self, e: usize, j: usize, entry: Entry)
         requires { (e < self.old.graph.now.edge_number) × (j < length self.old.entries.now) × (slice_index self.old.entries.now j ≡ entry) × (Plain self.old.graph.now.edges e) }
         ensures { Goes (λ g. Passed g.space g.edges e j) self.old self.new }
     {
@@ -281,12 +290,12 @@ impl<'a, const N: usize> Worklist<'a, N> {
         let ring = &mut *self.ring;
         let edge = edges[e];
         let at = (j + usize::from(edge.back)) % 65536;
-        let said = usize::from(entry) + usize::from(edge.weight);
-        if !is_above(entries, at, said) {
+        let value = u64::from(entry) + u64::from(edge.weight);
+        if !is_above(entries, at, value) {
             return;
         }
         if edge.is_only() {
-            ask_only(graph, entries, ring, e, at, said);
+            ask_only(graph, entries, ring, e, at, value);
             return;
         }
         ask(graph, entries, ring, e, at);
@@ -294,7 +303,7 @@ impl<'a, const N: usize> Worklist<'a, N> {
 
     // The action of edge e, which leaves no digit free but that of its first lane, is asked about the states from which the edge leads to j.
     #[inline(always)]
-    fn visit_lane(&mut self, e: usize, j: usize, entry: u16)
+    fn visit_lane(&mut self, e: usize, j: usize, entry: Entry)
         requires { (e < self.old.graph.now.edge_number) × (j < length self.old.entries.now) × (slice_index self.old.entries.now j ≡ entry) × (Single self.old.graph.now.edges e) }
         ensures { Goes (λ g. Passed g.space g.edges e j) self.old self.new }
     {
@@ -303,14 +312,14 @@ impl<'a, const N: usize> Worklist<'a, N> {
         let entries = &mut *self.entries;
         let ring = &mut *self.ring;
         let edge = edges[e];
-        let said = usize::from(entry) + usize::from(edge.weight);
+        let value = u64::from(entry) + u64::from(edge.weight);
         let one = usize::from(edge.one().weight());
         let values = usize::from(edge.one().values());
         let at = (j + usize::from(edge.back)) % 65536;
         let mut i = at;
         for x in 0..values {
-            if is_above(entries, i, said) {
-                ask_from(graph, entries, ring, e, j, i, said);
+            if is_above(entries, i, value) {
+                ask_from(graph, entries, ring, e, j, i, value);
             }
             i += one;
         }
@@ -319,7 +328,7 @@ impl<'a, const N: usize> Worklist<'a, N> {
     // The action of edge e is asked about every state from which the edge leads to j.
     // Like `ask` it is compiled into no other function.
     #[inline(never)]
-    fn visit_wide(&mut self, e: usize, j: usize, entry: u16)
+    fn visit_wide(&mut self, e: usize, j: usize, entry: Entry)
         requires { (e < self.old.graph.now.edge_number) × (j < length self.old.entries.now) × (slice_index self.old.entries.now j ≡ entry) }
         ensures { Goes (λ g. Passed g.space g.edges e j) self.old self.new }
     {
@@ -342,7 +351,7 @@ impl<'a, const N: usize> Worklist<'a, N> {
 
     // The same, by the shortest way that the edge allows.
     #[inline(always)]
-    pub(crate) fn visit_edge(&mut self, e: usize, j: usize, entry: u16)
+    pub(crate) fn visit_edge(&mut self, e: usize, j: usize, entry: Entry)
         requires { (e < self.old.graph.now.edge_number) × (j < length self.old.entries.now) × (slice_index self.old.entries.now j ≡ entry) }
         ensures { Goes (λ g. Passed g.space g.edges e j) self.old self.new }
     {

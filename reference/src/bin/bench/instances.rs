@@ -28,9 +28,11 @@ impl Instance {
     }
 }
 
-const ALL: [Operation; 7] = [ReadText, CheckRecord, BuildTables, Spread, Value, Search, CheckPlan];
+const ALL: [Operation; 8] =
+    [ReadText, CheckRecord, BuildTables, Spread, Additive, Value, Search, CheckPlan];
 const TABLES: [Operation; 5] = [ReadText, CheckRecord, BuildTables, Spread, Value];
 const SEARCHES: [Operation; 3] = [BuildTables, Value, Search];
+const RESTATED: [Operation; 4] = [BuildTables, Additive, Value, Search];
 
 /// Values for some variables, the others unnamed.
 fn names(variables: usize, named: &[(usize, u8)]) -> Assignment {
@@ -236,6 +238,44 @@ pub fn scattering(seed: u64, members: usize, others: usize, limit: u8) -> Task {
     }
 }
 
+/// Dials of eight values, four to a pattern, all to be turned from 5 to 7: an
+/// action turns one of them a step on, or two, where one of the other pattern
+/// has some value.
+pub fn dials(seed: u64) -> Task {
+    const DIALS: usize = 8;
+    let mut random = Random::new(seed);
+    let mut turn = |number: usize| {
+        let (dial, from) = (number % DIALS, (number / DIALS) as u8);
+        let other = (dial / 4 * 4 + 4 + random.below(4)) % DIALS;
+        let needed = [(dial, from), (other, random.within(5..=7) as u8)];
+        let (once, twice) = ([(dial, from + 1)], [(dial, (from + 2).min(7))]);
+        action(DIALS, &needed, &[&once, &twice])
+    };
+    Task {
+        sizes: vec![8; DIALS],
+        actions: (0..DIALS * 7).map(&mut turn).collect(),
+        goal: vec![Some(7); DIALS],
+        start: vec![5; DIALS],
+        patterns: groups(DIALS, 4),
+        limit: 32,
+        budget: 100_000,
+    }
+}
+
+/// The task with outcomes that write down all that their need demands and they
+/// leave as it is. It is additive as it was, by the rule on restated values
+/// alone, with the same tables and the same search.
+pub fn restated(mut task: Task) -> Task {
+    for Action { precondition, outcomes } in &mut task.actions {
+        for outcome in outcomes {
+            for (name, &need) in outcome.iter_mut().zip(precondition.iter()) {
+                *name = name.or(need);
+            }
+        }
+    }
+    task
+}
+
 /// A binary counter in one pattern: its table is as deep as it is long.
 pub fn counter(variables: usize) -> Task {
     tasks::counter(&mut Random::new(1), variables)
@@ -340,6 +380,20 @@ fn sample_task() -> Task {
     reader::parse(sample::sample().as_bytes()).expect("the sample is sound")
 }
 
+/// Tasks restated, each beside itself as it was: the rows differ by what the
+/// rule costs.
+fn restating(seed: u64) -> Vec<Instance> {
+    let row = |name: &str, task| Instance::of(name, task, &RESTATED);
+    let turning = rings(seed + 5, 48, true, 1_000_000);
+    vec![
+        row("dials, 2 tables of 4,096", dials(seed)),
+        row("dials, 2 tables of 4,096, restated", restated(dials(seed))),
+        row("tower, 7 pallets, restated", restated(tower(7, 8))),
+        row("rings, 48 actions", turning.clone()),
+        row("rings, 48 actions, restated", restated(turning)),
+    ]
+}
+
 fn heavy(seed: u64) -> Vec<Instance> {
     let search = |name: &str, task| Instance::of(name, task, &SEARCHES);
     vec![
@@ -349,7 +403,6 @@ fn heavy(seed: u64) -> Vec<Instance> {
         search("wandering, 64 actions, 2 needs", wandering(seed + 3, 64, 2)),
         search("rings, 48 actions, 100,000", rings(seed + 5, 48, true, 100_000)),
         search("rings, 40 actions", rings(seed + 4, 40, true, 1_000_000)),
-        search("rings, 48 actions", rings(seed + 5, 48, true, 1_000_000)),
         search("rings, 64 actions", rings(seed + 6, 64, true, 1_000_000)),
         search("rings, 48 actions, no patterns", rings(seed + 5, 48, false, 1_000_000)),
         search("tower, 5 of 7 pallets in patterns", tower(7, 5)),
@@ -384,6 +437,7 @@ pub fn instances(seed: u64) -> Vec<Instance> {
         Instance::of("no tables", no_tables(), &[BuildTables, Spread]),
         Instance::of("largest text", largest(), &[ReadText, CheckRecord]),
     ];
+    all.extend(restating(seed));
     all.extend(heavy(seed));
     let mut random = Random::new(seed);
     let sparse = |number| {

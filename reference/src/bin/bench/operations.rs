@@ -15,6 +15,7 @@ pub enum Operation {
     CheckRecord,
     BuildTables,
     Spread,
+    Additive,
     Value,
     Search,
     CheckPlan,
@@ -27,6 +28,7 @@ impl Operation {
             Operation::CheckRecord => "check_record",
             Operation::BuildTables => "build_tables",
             Operation::Spread => "spread",
+            Operation::Additive => "additive",
             Operation::Value => "value",
             Operation::Search => "search",
             Operation::CheckPlan => "check_plan",
@@ -99,6 +101,7 @@ impl Lent {
                 let Lent { record, pattern, written_tables, written_row, .. } = lent;
                 planner.spread(record, *pattern, written_tables, written_row)
             }
+            Operation::Additive => planner.additive(&lent.record),
             Operation::Value => planner.value(&lent.record, &lent.start, &lent.built),
             Operation::Search => {
                 planner.search(&lent.record, &mut lent.written_tables, &mut lent.written_plan)

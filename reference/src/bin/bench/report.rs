@@ -39,6 +39,9 @@ impl Row {
             Operation::CheckRecord | Operation::Search => format!("{actions} actions"),
             Operation::BuildTables => format!("{} states, {actions} actions", states(instance)),
             Operation::Spread => format!("{} states", counted(instance)),
+            Operation::Additive => {
+                format!("{} patterns, {actions} actions", instance.task.patterns.len())
+            }
             Operation::Value => format!("{} patterns", instance.task.patterns.len()),
             Operation::CheckPlan => format!("{} bytes", lent.plan_length()),
         };

@@ -11,7 +11,7 @@ unfolding sets_filled
 returns-then-actions-gt64 c = rw (not_T_false (leb c.args.actions 64) (λ t. absurd (omega (arith, leb→le c.args.actions 64 t))))
 
 pub enter_all-requires : goal.enter_all-requires
-enter_all-requires c = (omega arith, omega (arith, c.spread_of-n.ensures.1), zeros 272)
+enter_all-requires c = (omega arith, omega (arith, c.met_bytes-n.ensures.1), zeros 272)
 
 pub returns : goal.returns
-returns c = let e = c.spread_of-n.ensures.0 in filled_as_defined _ _ _ _ _ _ _ (omega arith) (rw e at c.enter_all.ensures) (rw e at c.fill_rows.ensures)
+returns c = let e = c.met_bytes-n.ensures.0 in filled_as_defined _ _ _ _ _ _ _ (omega arith) (rw e at c.enter_all.ensures) (rw e at c.fill_rows.ensures)

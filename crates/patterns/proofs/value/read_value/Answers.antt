@@ -7,10 +7,10 @@ use lib.Seq.{length-take-le}
 use Rattle.planning.specs.Table.{value, Small}
 use Rattle.task_record.specs.Layout.{at_sizes}
 use Rattle.task_record.specs.Numbers.{variable_count}
-use Rattle.task_record.specs.TaskOf.{task_of, patterns_of}
+use Rattle.task_record.specs.TaskOf.{task_of, patterns_of, values_of}
 use Rattle.task_record.proofs.Soundness.{sound_length}
 use Rattle.task_record.proofs.States.{good_values}
-use Rattle.patterns.specs.Value.{value_of, values_of, read_value}
+use Rattle.patterns.specs.Value.{value_of, read_value}
 use Rattle.patterns.proofs.Refusals.{ready_means, state_good}
 use Rattle.patterns.proofs.Room.{fits_small, fits_room}
 use Rattle.patterns.proofs.Sizes.{variables_few}

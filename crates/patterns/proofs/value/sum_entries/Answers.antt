@@ -5,7 +5,7 @@ use Prim.Native.Nat.{◌+◌, ◌≤◌, ◌<◌}
 use native.Mathlib.Omega.{arith}
 use borrow.Author.Tests.{ne_eqb}
 use lib.ListN.{length, get_or}
-use Rattle.planning.specs.Table.{index, state_count, Small}
+use Rattle.planning.specs.Table.{index, state_count, infinite_entry, Small}
 use Rattle.planning.proofs.Finite.{all_at}
 use Rattle.task_record.specs.Numbers.{pattern_count}
 use Rattle.task_record.specs.TaskOf.{task_of, patterns_of}
@@ -48,28 +48,16 @@ overflow_add-at c = let r = c.args.record.now in let s = c.args.state.now in let
     let i = place_index (goal.at.overflow_add-at c).After-place_of-place in
     let n = place_inside (task_of r).sizes (patterns_of r) s c.args.tables.now l.sum l.begin l.p l.invariant m c.requires.1 in omega arith
 
-pub offset_bounds-tables-at : goal.offset_bounds-tables-at
-offset_bounds-tables-at c = let r = c.args.record.now in let s = c.args.state.now in let l = c.loop-p in
-    let m = inside (goal.at.offset_bounds-tables-at c).After-place_of-place in
-    let i = place_index (goal.at.offset_bounds-tables-at c).After-place_of-place in
-    let n = place_inside (task_of r).sizes (patterns_of r) s c.args.tables.now l.sum l.begin l.p l.invariant m c.requires.1 in omega arith
-
-pub bounds-tables-at : goal.bounds-tables-at
-bounds-tables-at c = let r = c.args.record.now in let s = c.args.state.now in let l = c.loop-p in
-    let m = inside (goal.at.bounds-tables-at c).After-place_of-place in
-    let i = place_index (goal.at.bounds-tables-at c).After-place_of-place in
-    let n = place_inside (task_of r).sizes (patterns_of r) s c.args.tables.now l.sum l.begin l.p l.invariant m c.requires.1 in omega arith
-
 pub returns-then-entry : goal.returns-then-entry
 unfolding value_of
 returns-then-entry c = let r = c.args.record.now in let s = c.args.state.now in let l = c.loop-p in
     let m = inside (goal.at.returns-then-entry c).After-place_of-place in
     let i = place_index (goal.at.returns-then-entry c).After-place_of-place in
-    sym (ap value_of (summing_infinite (task_of r).sizes (patterns_of r) s c.args.tables.now l.sum l.begin l.p l.invariant m c.requires.1 (rw i at c.if-entry.true)))
+    sym (ap value_of (summing_infinite (task_of r).sizes (patterns_of r) s c.args.tables.now l.sum l.begin l.p l.invariant m c.requires.1 (rw i at (sym c.entry_at-entry.ensures ∙ c.if-entry.true))))
 
 pub overflow_add-sum : goal.overflow_add-sum
 overflow_add-sum c = let r = c.args.record.now in let h = rw c.record.view_is at c.record.invariant in let l = c.loop-p in let k = patterns_right r h in
-    let t : l.p < pattern_count r = rw (c.pattern_count-p-end.ensures, c.record.view_is) at c.loop-p-test.true in omega (arith, l.invariant.bounded, c.from-sum.ensures, c.type_inv.tables (l.begin + c.place_of-place.result.index))
+    let t : l.p < pattern_count r = rw (c.pattern_count-p-end.ensures, c.record.view_is) at c.loop-p-test.true in omega (arith, l.invariant.bounded, c.from-sum.ensures)
 
 pub overflow_add-begin : goal.overflow_add-begin
 overflow_add-begin c = let r = c.args.record.now in let s = c.args.state.now in let l = c.loop-p in
@@ -82,10 +70,10 @@ loop-p-preserved c = let r = c.args.record.now in let s = c.args.state.now in le
     let m = inside (goal.at.loop-p-preserved c).After-place_of-place in
     let i = place_index (goal.at.loop-p-preserved c).After-place_of-place in
     let j = place_states (goal.at.loop-p-preserved c).After-place_of-place in
-    let e : c.from-sum.result ≡ get_or c.args.tables.now (l.begin + index (task_of r).sizes (get_or (patterns_of r) l.p []) s) 0 = c.from-sum.ensures ∙ ap (λ x. get_or c.args.tables.now (l.begin + x) 0) i in
-    let b = c.type_inv.tables (l.begin + c.place_of-place.result.index) in
-    let f : c.from-sum.result ≤ 65534 = omega (arith, c.if-entry.false, c.from-sum.ensures) in
-    let g = ne_eqb c.from-sum.result 65535 (λ q. omega arith) in
+    let e : c.from-sum.result ≡ get_or c.args.tables.now (l.begin + index (task_of r).sizes (get_or (patterns_of r) l.p []) s) infinite_entry =
+    c.from-sum.ensures ∙ c.entry_at-entry.ensures ∙ ap (λ x. get_or c.args.tables.now (l.begin + x) infinite_entry) i in
+    let f : c.from-sum.result < infinite_entry = omega (arith, c.if-entry.false, c.from-sum.ensures) in
+    let g = ne_eqb c.from-sum.result infinite_entry (λ q. omega arith) in
     rw (j, e) (summing_finite (task_of r).sizes (patterns_of r) s c.args.tables.now l.sum l.begin l.p l.invariant m c.requires.1 (rw e at f) (rw e at g))
 
 pub returns : goal.returns

@@ -7,8 +7,9 @@ use borrow.Author.Tests.{ltb-true, ltb-false}
 use Rattle.planning.proofs.Test.{by_test}
 use Rattle.planning.specs.PlanCheck.{refused, check_plan, most_moves}
 use Rattle.task_record.proofs.Soundness.{sound_length}
+use Rattle.task_record.specs.TaskOf.{values_of}
 use Rattle.plan_check.specs.declared.frames.Frame.{Frame}
-use Rattle.plan_check.specs.Tower.{tower, values_of}
+use Rattle.plan_check.specs.Tower.{tower}
 use Rattle.plan_check.specs.Check.{answer_of, refusal_of}
 use Rattle.plan_check.proofs.Tower.{tower_actions}
 use Rattle.plan_check.proofs.Reading.{Taken, reading_begins, reading_ends_early, reading_refused, reading_ends, reading_arrives, reading_acts, taken_last, taken_first}
@@ -39,12 +40,12 @@ taken c =
     let good = sym read ∙ c.in_ok-judge_byte.was in
     elim c.if-has_action.branch [
       | then-has_action w ↦ rw (w.frame-is, w.worst-is, w.stack-is, w.begun-frame.ensures, c.of-task.ensures)
-          (reading_acts _ _ sound _ _ _ _ _ _ c.loop-at.invariant c.loop-at-test.true good (ltb-true _ _ (sym kind ∙ w.if-has_action.true))).1
+          (reading_acts _ _ sound _ _ _ _ _ _ _ c.loop-at.invariant c.loop-at-test.true good (ltb-true _ _ (sym kind ∙ w.if-has_action.true))).1
       | else-has_action+in-Some w ↦
           let l = ltb-false _ _ (sym kind ∙ w.if-has_action.false) in
           let split = topmost_on_others _ _ (sym w.pop.ensures.topmost ∙ w.in-Some.is) in
           rw (w.frame-is, w.worst-is, w.stack-is, w.max-worst.ensures, max_is, w.pop.ensures.rest)
-          (reading_arrives _ _ sound _ _ _ _ _ _ c.loop-at.invariant c.loop-at-test.true good _ _ l split)
+          (reading_arrives _ _ sound _ _ _ _ _ _ _ c.loop-at.invariant c.loop-at-test.true good _ _ l split)
     ]
 
 pub loop-at-init : goal.loop-at-init
@@ -57,7 +58,7 @@ returns-in_err-judge_byte c =
     let sound = rw c.checked.view_is at c.checked.invariant in
     let q = err_from_is_err_and c.from_residual.result c.from_residual.ensures.1 in
     let read = rw c.of-task.ensures at c.judge_byte.ensures in
-    q.1 ∙ ap Err q.2 ∙ sym (reading_refused _ _ sound _ _ _ _ _ _ c.loop-at.invariant c.loop-at-test.true _ (sym read ∙ c.in_err-judge_byte.was))
+    q.1 ∙ ap Err q.2 ∙ sym (reading_refused _ _ sound _ _ _ _ _ _ _ c.loop-at.invariant c.loop-at-test.true _ (sym read ∙ c.in_err-judge_byte.was))
 
 pub begun-frame-requires : goal.begun-frame-requires
 begun-frame-requires c =
@@ -65,7 +66,8 @@ begun-frame-requires c =
     let read = rw c.of-task.ensures at c.judge_byte.ensures in
     let kind = rw c.of-task.ensures at c.has_action.ensures in
     let l = ltb-true _ _ (sym kind ∙ c.if-has_action.true) in
-    rw c.of-task.ensures (rw tower_actions at l, (reading_acts _ _ sound _ _ _ _ _ _ c.loop-at.invariant c.loop-at-test.true (sym read ∙ c.in_ok-judge_byte.was) l).0)
+    let reading = c.loop-at.invariant in
+    rw c.of-task.ensures (rw tower_actions at l, (reading_acts _ _ sound _ _ _ _ _ _ _ reading c.loop-at-test.true (sym read ∙ c.in_ok-judge_byte.was) l).0, reading.light)
 
 pub returns-in-None : goal.returns-in-None
 returns-in-None c =
@@ -74,7 +76,7 @@ returns-in-None c =
     let kind = rw c.of-task.ensures at c.has_action.ensures in
     let l = ltb-false _ _ (sym kind ∙ c.if-has_action.false) in
     let empty = none_topmost _ (sym c.pop.ensures.topmost ∙ c.in-None.is) in
-    let ends = reading_ends _ _ sound _ _ _ _ _ _ c.loop-at.invariant c.loop-at-test.true (sym read ∙ c.in_ok-judge_byte.was) l empty in
+    let ends = reading_ends _ _ sound _ _ _ _ _ _ _ c.loop-at.invariant c.loop-at-test.true (sym read ∙ c.in_ok-judge_byte.was) l empty in
     c.ended.ensures ∙ ap answer_of (rw (c.max-worst.ensures, max_is) (sym ends))
 
 pub next_state-state-requires : goal.next_state-state-requires
@@ -103,4 +105,4 @@ unfolding answer_of refusal_of
 returns c =
     let sound = rw c.checked.view_is at c.checked.invariant in
     let e : c.loop-at.at ≡ length c.args.plan.now = omega (arith, c.loop-at-test.false) in
-    sym (ap answer_of (reading_ends_early _ _ sound _ _ _ _ _ _ c.loop-at.invariant c.loop-at-test.false ∙ ap (refused 12) e))
+    sym (ap answer_of (reading_ends_early _ _ sound _ _ _ _ _ _ _ c.loop-at.invariant c.loop-at-test.false ∙ ap (refused 12) e))

@@ -10,8 +10,9 @@ use Rattle.task_record.specs.Answers.{short_record, bad_cell, bad_state}
 use Rattle.task_record.specs.declared.refusal.Refusal.{Refusal}
 use Rattle.task_record.proofs.States.{checked_good}
 use Rattle.task_record.proofs.ByLines.{after_check}
+use Rattle.task_record.specs.TaskOf.{values_of}
 use Rattle.plan_check.specs.declared.check.Passed.{Passed}
-use Rattle.plan_check.specs.Tower.{tower, values_of}
+use Rattle.plan_check.specs.Tower.{tower}
 use Rattle.plan_check.specs.Check.{answer_of, plan_check_of}
 use Rattle.plan_check.specs.ForC.{numbers_of, plan_by_lines}
 use Rattle.plan_check.proofs.Numbered.{plan_told}

@@ -2,7 +2,7 @@
 use Rattle.std.proofs.Common.{◌≡◌, arith, rules, tests}
 use Rattle.std.proofs.lemmas.Iterator.{IsFirst-from_position}
 use Rattle.std.proofs.lemmas.Iterator.Adapters.{YieldsList-from_rev_slice}
-use Rattle.search.proofs.PlacesFilled.{unused_last}
+use Rattle.search.proofs.BlocksFilled.{unused_last}
 use Rattle.search.proofs.byte_rows.end_used.Goals as goal
 
 pub returns : goal.returns

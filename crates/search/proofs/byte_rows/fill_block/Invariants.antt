@@ -1,6 +1,6 @@
 -- `search::byte_rows::fill_block` meets its contract. The loop's invariant: sums below x are written. Assumes nothing.
 use Rattle.std.proofs.Common.{◌-◌, ◌≤◌}
-use Rattle.search.proofs.PlacesFilled.{Blocking}
+use Rattle.search.proofs.BlocksFilled.{Blocking}
 use Rattle.search.proofs.byte_rows.fill_block.Given as goal
 
 abbrev pub invariant-loop-x : goal.invariant-loop-x

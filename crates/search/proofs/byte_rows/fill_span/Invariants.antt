@@ -1,6 +1,6 @@
 -- `search::byte_rows::fill_span` meets its contract. The loop's invariant: blocks below j are written. Assumes nothing.
 use Rattle.std.proofs.Common.{◌-◌, ◌≤◌}
-use Rattle.search.proofs.PlacesFilled.{Spanning}
+use Rattle.search.proofs.BlocksFilled.{Spanning}
 use Rattle.search.proofs.byte_rows.fill_span.Given as goal
 
 abbrev pub invariant-loop-j : goal.invariant-loop-j

@@ -1,7 +1,7 @@
 -- `search::byte_rows::first_used` meets its contract: the variables before the one that was found have no weight. Assumes nothing.
 use Rattle.std.proofs.Common.{◌≡◌, rules, tests}
 use Rattle.std.proofs.lemmas.Iterator.{YieldsList-from_slice, IsFirst-from_position}
-use Rattle.search.proofs.PlacesFilled.{unused_first}
+use Rattle.search.proofs.BlocksFilled.{unused_first}
 use Rattle.search.proofs.byte_rows.first_used.Goals as goal
 
 pub returns : goal.returns

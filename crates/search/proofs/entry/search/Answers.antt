@@ -2,6 +2,7 @@
 use Rattle.std.proofs.Common.{length, replicate, Err, sym, ap, ◌∙◌}
 use Rattle.std.proofs.lemmas.Result.{err_from_is_err_and}
 use Rattle.task_record.specs.declared.refusal.Refusal.{Refusal}
+use Rattle.packed_task.specs.Packed.{task_words}
 use Rattle.search.specs.Answer.{answer_of, buffer_of}
 use Rattle.search.specs.Entry.{search_numbers}
 use Rattle.search.proofs.ByLines.{search-told}
@@ -10,7 +11,7 @@ use Rattle.search.proofs.RecordSearch.{answered_so, refused_so}
 use Rattle.search.proofs.entry.search.Goals as goal
 
 pub invariant_of-built : goal.invariant_of-built
-invariant_of-built c = let a = c.args in let e = c.prepare.ensures in record { prepared = ∣ prepared a.rec.now a.tables.now (sym e.value.0 ∙ c.in_ok-start.was) (replicate 1282 0) (replicate 2048 0) e.value.1 e.value.2 e.sets c.budget.ensures ∣₁ }
+invariant_of-built c = let a = c.args in let e = c.prepare.ensures in record { prepared = ∣ prepared a.rec.now a.tables.now (sym e.value.0 ∙ c.in_ok-start.was) (replicate task_words 0) (replicate 2048 0) e.value.1 e.value.2 e.sets c.budget.ensures ∣₁ }
 
 pub returns-in_err-start : goal.returns-in_err-start
 returns-in_err-start c = let a = c.args in let r = a.rec.now in let h = start_refused r (length a.tables.now) (sym c.prepare.ensures.value.0 ∙ c.in_err-start.was) in

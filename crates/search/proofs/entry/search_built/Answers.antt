@@ -6,25 +6,25 @@ use Rattle.search.proofs.RecordSearch.{limit_right, searched, sound_ready}
 use Rattle.search.proofs.Props.{known}
 use Rattle.search.proofs.entry.search_built.Goals as goal
 
-pub fill_places-requires : goal.fill_places-requires
-fill_places-requires c = let p = known c.args.built.now.prepared in let b = patterns_right c.args.built.now.rec.now p.sound in omega (arith, b, c.guide_of-guide.ensures.sized.patterns)
+pub fill_blocks-requires : goal.fill_blocks-requires
+fill_blocks-requires c = let p = known c.args.built.now.prepared in let b = patterns_right c.args.built.now.rec.now p.sound in omega (arith, b, c.constants_of-constants.ensures.numbers.patterns)
 
 pub invariant_of-instance : goal.invariant_of-instance
-invariant_of-instance c = let p = known c.args.built.now.prepared in let r = c.args.built.now.rec.now in let z = c.guide_of-guide.ensures.sized in record {
-  guided = record {
+invariant_of-instance c = let p = known c.args.built.now.prepared in let r = c.args.built.now.rec.now in let z = c.constants_of-constants.ensures.numbers in record {
+  matching = record {
     ready = rw (p.words, z.actions, z.patterns, z.variables, z.spends) (sound_ready r p.sound _ p.budgeted);
     applying = rw (z.actions, z.variables) p.applying;
-    placed = c.fill_places.ensures;
-    owned = c.guide_of-guide.ensures.owned _ _ c.fill_weights.ensures;
+    placed = c.fill_blocks.ensures;
+    owned = c.constants_of-constants.ensures.owned _ _ c.fill_weights.ensures;
   };
 }
 
 pub run_rounds-requires : goal.run_rounds-requires
-run_rounds-requires c = omega (arith, limit_right c.args.built.now.rec.now (known c.args.built.now.prepared).sound, c.guide_of-guide.ensures.sized.limit)
+run_rounds-requires c = omega (arith, limit_right c.args.built.now.rec.now (known c.args.built.now.prepared).sound, c.constants_of-constants.ensures.numbers.limit)
 
 pub returns : goal.returns
-returns c = let a = c.args in let b = a.built.now in let p = known b.prepared in let r = b.rec.now in let z = c.guide_of-guide.ensures.sized in
-    let e = searched r p.sound p.small _ _ b.tables.now (rw (← c.guide_of-guide.ensures.placed) at c.fill_weights.ensures) p.holds p.words z.actions z.patterns z.spends z.limit p.started in
+returns c = let a = c.args in let b = a.built.now in let p = known b.prepared in let r = b.rec.now in let z = c.constants_of-constants.ensures.numbers in
+    let e = searched r p.sound p.small _ _ b.tables.now (rw (← c.constants_of-constants.ensures.offsets) at c.fill_weights.ensures) p.holds p.words z.actions z.patterns z.spends z.limit p.started in
     let w = c.run_rounds.ensures in record {
       answer = w.answer ∙ ap (answer_of (length a.plan.now)) e;
       buffer = w.buffer ∙ ap (buffer_of (length a.plan.now)) e;

@@ -6,7 +6,7 @@ use Rattle.std.proofs.Common.{length, sym, refl, ap, ◌∙◌, arith, ltb-false
 use Rattle.packed_task.specs.Packed.{action_weight}
 use Rattle.search.proofs.Looking.{seen_decided, seen_open}
 use Rattle.search.proofs.Examining.{examining_begins, action_known, action_asks, action_stops, action_fails, win_counted, action_wins, examining_ends, action_refused, following_begins, outcome_examinable, outcome_stops, outcome_fails, outcome_small, outcome_succeeds, following_ends}
-use Rattle.search.proofs.examine.+examine_outcomes.Goals.{outcomes-in-Some+in-Succeeded, outcomes-in-None+in-Succeeded-examine}
+use Rattle.search.proofs.examine.+examine_outcomes.Goals.{outcomes-in-Some-Succeeded, outcomes-in-None+in-Succeeded}
 use Rattle.search.proofs.examine.+examine_outcomes.Goals as goal
 
 pub examine-loop-m-init : goal.examine-loop-m-init
@@ -19,7 +19,7 @@ pub examine-returns-in-Stopped : goal.examine-returns-in-Stopped
 examine-returns-in-Stopped t c = action_stops c.requires c.loop-m.invariant.0 c.in-Some.ensures.steps.0 c.in-Some.ensures.steps.1 c.outcomes.ensures _ c.in-Stopped.is
 
 pub examine-number_of-first-requires : goal.examine-number_of-first-requires
-examine-number_of-first-requires t c = omega (arith, action_known c.requires c.loop-m.invariant.0 c.in-Some.ensures.steps.0 c.in-Some.ensures.steps.1, c.args.instance.now.guided.ready.few_actions)
+examine-number_of-first-requires t c = omega (arith, action_known c.requires c.loop-m.invariant.0 c.in-Some.ensures.steps.0 c.in-Some.ensures.steps.1, c.args.instance.now.matching.ready.few_actions)
 
 pub examine-overflow_sub-e : goal.examine-overflow_sub-e
 examine-overflow_sub-e t c = let w = win_counted c.requires c.loop-m.invariant.0 c.in-Some.ensures.steps.0 c.in-Some.ensures.steps.1 c.outcomes.ensures _ _ _ c.in-Succeeded.is in omega (arith, w.0)
@@ -44,7 +44,7 @@ pub examine-overflow_sub-c : goal.examine-overflow_sub-c
 examine-overflow_sub-c t c = omega (arith, c.loop-m.invariant.0.counted)
 
 pub examine-note-requires-2 : goal.examine-note-requires-2
-examine-note-requires-2 t c = let x = c.requires.examinable in let i = c.loop-m.invariant.0 in (i.remembers.long, x.shallow, omega (arith, i.within, c.args.instance.now.guided.ready.small_budget), omega arith)
+examine-note-requires-2 t c = let x = c.requires.examinable in let i = c.loop-m.invariant.0 in (i.remembers.long, x.shallow, omega (arith, i.within, c.args.instance.now.matching.ready.small_budget), omega arith)
 
 pub examine-returns : goal.examine-returns
 examine-returns t c = examining_ends c.requires c.loop-m.invariant.0 c.in-None.ensures.steps c.note-2.ensures
@@ -58,32 +58,32 @@ outcomes-loop-k-init t c = (following_begins c.requires c.left_after-left.ensure
 pub outcomes-look-requires : goal.outcomes-look-requires
 outcomes-look-requires t c = outcome_examinable c.requires c.left_after-left.ensures c.outcome_count-k-end.ensures c.loop-k.invariant.0 c.loop-k-test.true c.successor-s.ensures c.rest_of-rest.ensures.0 c.sum_with.ensures
 
-pub outcomes-returns-in-Stopped : goal.outcomes-returns-in-Stopped
-outcomes-returns-in-Stopped t c = outcome_stops c.requires c.left_after-left.ensures c.outcome_count-k-end.ensures c.loop-k.invariant.0 c.loop-k-test.true c.successor-s.ensures (seen_decided (outcome_examinable c.requires c.left_after-left.ensures c.outcome_count-k-end.ensures c.loop-k.invariant.0 c.loop-k-test.true c.successor-s.ensures c.rest_of-rest.ensures.0 c.sum_with.ensures) c.look.ensures _ c.in-Some.is) _ c.in-Stopped.is
+pub outcomes-returns-in-Some-Stopped : goal.outcomes-returns-in-Some-Stopped
+outcomes-returns-in-Some-Stopped t c = rw c.in-Some-Stopped.e-is (outcome_stops c.requires c.left_after-left.ensures c.outcome_count-k-end.ensures c.loop-k.invariant.0 c.loop-k-test.true c.successor-s.ensures (seen_decided (outcome_examinable c.requires c.left_after-left.ensures c.outcome_count-k-end.ensures c.loop-k.invariant.0 c.loop-k-test.true c.successor-s.ensures c.rest_of-rest.ensures.0 c.sum_with.ensures) c.look.ensures _ c.in-Some-Stopped.is) _ c.in-Some-Stopped.field-0-is)
 
-pub outcomes-returns-in-Failed : goal.outcomes-returns-in-Failed
-outcomes-returns-in-Failed t c = outcome_fails c.requires c.left_after-left.ensures c.outcome_count-k-end.ensures c.loop-k.invariant.0 c.loop-k-test.true c.successor-s.ensures (seen_decided (outcome_examinable c.requires c.left_after-left.ensures c.outcome_count-k-end.ensures c.loop-k.invariant.0 c.loop-k-test.true c.successor-s.ensures c.rest_of-rest.ensures.0 c.sum_with.ensures) c.look.ensures _ c.in-Some.is) _ c.in-Failed.is
+pub outcomes-returns-in-Some-Failed : goal.outcomes-returns-in-Some-Failed
+outcomes-returns-in-Some-Failed t c = rw c.in-Some-Failed.e-is (outcome_fails c.requires c.left_after-left.ensures c.outcome_count-k-end.ensures c.loop-k.invariant.0 c.loop-k-test.true c.successor-s.ensures (seen_decided (outcome_examinable c.requires c.left_after-left.ensures c.outcome_count-k-end.ensures c.loop-k.invariant.0 c.loop-k-test.true c.successor-s.ensures c.rest_of-rest.ensures.0 c.sum_with.ensures) c.look.ensures _ c.in-Some-Failed.is) _ c.in-Some-Failed.field-0-is)
 
 pub outcomes-overflow_add-n : goal.outcomes-overflow_add-n
-outcomes-overflow_add-n t c = omega (arith, outcome_small c.requires c.left_after-left.ensures c.outcome_count-k-end.ensures c.loop-k.invariant.0 c.loop-k-test.true c.successor-s.ensures (seen_decided (outcome_examinable c.requires c.left_after-left.ensures c.outcome_count-k-end.ensures c.loop-k.invariant.0 c.loop-k-test.true c.successor-s.ensures c.rest_of-rest.ensures.0 c.sum_with.ensures) c.look.ensures _ c.in-Some.is) _ _ _ c.in-Succeeded.is)
+outcomes-overflow_add-n t c = omega (arith, outcome_small c.requires c.left_after-left.ensures c.outcome_count-k-end.ensures c.loop-k.invariant.0 c.loop-k-test.true c.successor-s.ensures (seen_decided (outcome_examinable c.requires c.left_after-left.ensures c.outcome_count-k-end.ensures c.loop-k.invariant.0 c.loop-k-test.true c.successor-s.ensures c.rest_of-rest.ensures.0 c.sum_with.ensures) c.look.ensures _ c.in-Some-Succeeded.is) _ _ _ c.in-Some-Succeeded.field-0-is)
 
 pub outcomes-examine-requires : goal.outcomes-examine-requires
 outcomes-examine-requires t c = let y = c.args in let p = c.requires in
-    (omega (arith, c.left_after-left.ensures, y.instance.now.guided.ready.weights y.m p.1, ltb-false y.v.d (action_weight y.instance.now.task.now y.m) (sym c.is_beyond.ensures ∙ c.if-is_beyond.false), c.decreases), seen_open (outcome_examinable c.requires c.left_after-left.ensures c.outcome_count-k-end.ensures c.loop-k.invariant.0 c.loop-k-test.true c.successor-s.ensures c.rest_of-rest.ensures.0 c.sum_with.ensures) c.look.ensures c.in-None.is)
+    (omega (arith, c.left_after-left.ensures, y.instance.now.matching.ready.weights y.m p.1, ltb-false y.v.d (action_weight y.instance.now.task.now y.m) (sym c.is_beyond.ensures ∙ c.if-is_beyond.false), c.decreases), seen_open (outcome_examinable c.requires c.left_after-left.ensures c.outcome_count-k-end.ensures c.loop-k.invariant.0 c.loop-k-test.true c.successor-s.ensures c.rest_of-rest.ensures.0 c.sum_with.ensures) c.look.ensures c.in-None.is)
 
-pub outcomes-returns-in-Stopped-examine : goal.outcomes-returns-in-Stopped-examine
-outcomes-returns-in-Stopped-examine t c = outcome_stops c.requires c.left_after-left.ensures c.outcome_count-k-end.ensures c.loop-k.invariant.0 c.loop-k-test.true c.successor-s.ensures (c.examine.ensures) _ c.in-Stopped-examine.is
+pub outcomes-returns-in-Stopped : goal.outcomes-returns-in-Stopped
+outcomes-returns-in-Stopped t c = outcome_stops c.requires c.left_after-left.ensures c.outcome_count-k-end.ensures c.loop-k.invariant.0 c.loop-k-test.true c.successor-s.ensures (c.examine.ensures) _ c.in-Stopped.is
 
-pub outcomes-returns-in-Failed-examine : goal.outcomes-returns-in-Failed-examine
-outcomes-returns-in-Failed-examine t c = outcome_fails c.requires c.left_after-left.ensures c.outcome_count-k-end.ensures c.loop-k.invariant.0 c.loop-k-test.true c.successor-s.ensures (c.examine.ensures) _ c.in-Failed-examine.is
+pub outcomes-returns-in-Failed : goal.outcomes-returns-in-Failed
+outcomes-returns-in-Failed t c = outcome_fails c.requires c.left_after-left.ensures c.outcome_count-k-end.ensures c.loop-k.invariant.0 c.loop-k-test.true c.successor-s.ensures (c.examine.ensures) _ c.in-Failed.is
 
-pub outcomes-overflow_add-n-in-Succeeded-examine : goal.outcomes-overflow_add-n-in-Succeeded-examine
-outcomes-overflow_add-n-in-Succeeded-examine t c = omega (arith, outcome_small c.requires c.left_after-left.ensures c.outcome_count-k-end.ensures c.loop-k.invariant.0 c.loop-k-test.true c.successor-s.ensures (c.examine.ensures) _ _ _ c.in-Succeeded-examine.is)
+pub outcomes-overflow_add-n-in-Succeeded : goal.outcomes-overflow_add-n-in-Succeeded
+outcomes-overflow_add-n-in-Succeeded t c = omega (arith, outcome_small c.requires c.left_after-left.ensures c.outcome_count-k-end.ensures c.loop-k.invariant.0 c.loop-k-test.true c.successor-s.ensures (c.examine.ensures) _ _ _ c.in-Succeeded.is)
 
 pub outcomes-loop-k-preserved : goal.outcomes-loop-k-preserved
 outcomes-loop-k-preserved t c = let i = c.loop-k.invariant.1 in elim c.match-look.branch [
-  | outcomes-in-Some+in-Succeeded w ↦ (rw (w.memory-is, w.c-is, w.n-is) (outcome_succeeds c.requires c.left_after-left.ensures c.outcome_count-k-end.ensures c.loop-k.invariant.0 c.loop-k-test.true c.successor-s.ensures (seen_decided (outcome_examinable c.requires c.left_after-left.ensures c.outcome_count-k-end.ensures c.loop-k.invariant.0 c.loop-k-test.true c.successor-s.ensures c.rest_of-rest.ensures.0 c.sum_with.ensures) c.look.ensures _ w.in-Some.is) _ _ _ w.in-Succeeded.is), ap length w.memory-is ∙ i)
-  | outcomes-in-None+in-Succeeded-examine w ↦ (rw (w.memory-is, w.c-is, w.n-is) (outcome_succeeds c.requires c.left_after-left.ensures c.outcome_count-k-end.ensures c.loop-k.invariant.0 c.loop-k-test.true c.successor-s.ensures (w.examine.ensures) _ _ _ w.in-Succeeded-examine.is), ap length w.memory-is ∙ w.examine.auto.memory ∙ i)
+  | outcomes-in-Some-Succeeded w ↦ (rw (w.memory-is, w.c-is, w.n-is, w.in-Some-Succeeded.e-is, w.in-Some-Succeeded.size-is) (outcome_succeeds c.requires c.left_after-left.ensures c.outcome_count-k-end.ensures c.loop-k.invariant.0 c.loop-k-test.true c.successor-s.ensures (seen_decided (outcome_examinable c.requires c.left_after-left.ensures c.outcome_count-k-end.ensures c.loop-k.invariant.0 c.loop-k-test.true c.successor-s.ensures c.rest_of-rest.ensures.0 c.sum_with.ensures) c.look.ensures _ w.in-Some-Succeeded.is) _ _ _ w.in-Some-Succeeded.field-0-is), ap length w.memory-is ∙ i)
+  | outcomes-in-None+in-Succeeded w ↦ (rw (w.memory-is, w.c-is, w.n-is) (outcome_succeeds c.requires c.left_after-left.ensures c.outcome_count-k-end.ensures c.loop-k.invariant.0 c.loop-k-test.true c.successor-s.ensures (w.examine.ensures) _ _ _ w.in-Succeeded.is), ap length w.memory-is ∙ w.examine.auto.memory ∙ i)
 ]
 
 pub outcomes-returns : goal.outcomes-returns

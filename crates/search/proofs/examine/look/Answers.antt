@@ -16,13 +16,13 @@ pub returns-in_err-known-in-Expand : goal.returns-in_err-known-in-Expand
 returns-in_err-known-in-Expand c = rw c.from_residual.ensures (looked_open c.requires (sym c.open_state.ensures ∙ c.in-Expand.is))
 
 pub overflow_add-result-then-known-eq0 : goal.overflow_add-result-then-known-eq0
-overflow_add-result-then-known-eq0 c = let h = rw c.in_ok-known-in-Expand.was at c.recall.ensures in record { fits = omega (arith, h.1, c.requires.within, c.args.instance.now.guided.ready.small_budget) }
+overflow_add-result-then-known-eq0 c = let h = rw c.in_ok-known-in-Expand.was at c.recall.ensures in record { fits = omega (arith, h.1, c.requires.within, c.args.instance.now.matching.ready.small_budget) }
 
 pub returns-then-known-eq0 : goal.returns-then-known-eq0
 returns-then-known-eq0 c = let h = rw c.in_ok-known-in-Expand.was at c.recall.ensures in looked_failed c.requires _ _ _ h.0 h.1 c.if-known-eq0.true
 
 pub overflow_add-result-in-Expand : goal.overflow_add-result-in-Expand
-overflow_add-result-in-Expand c = let h = rw c.in_ok-known-in-Expand.was at c.recall.ensures in record { fits = omega (arith, h.1, c.requires.within, c.args.instance.now.guided.ready.small_budget) }
+overflow_add-result-in-Expand c = let h = rw c.in_ok-known-in-Expand.was at c.recall.ensures in record { fits = omega (arith, h.1, c.requires.within, c.args.instance.now.matching.ready.small_budget) }
 
 pub returns-else-known-eq0 : goal.returns-else-known-eq0
 returns-else-known-eq0 c = let h = rw c.in_ok-known-in-Expand.was at c.recall.ensures in looked_won c.requires _ _ _ h.0 h.1 c.if-known-eq0.false

@@ -4,7 +4,7 @@ use borrow.Author.Tests.{lt-leb}
 use Rattle.packed_task.specs.Packed.{packed_system}
 use Rattle.planning.specs.Extended.{◌≤?◌}
 use Rattle.search.specs.Examination.{opening_of}
-use Rattle.search.specs.Packed.{guided_value}
+use Rattle.search.specs.Packed.{instance_value}
 use Rattle.search.proofs.Openings.{cut_either_way}
 use Rattle.search.proofs.examine.open_state.Goals as goal
 
@@ -18,7 +18,7 @@ returns-then-is_goal c = rw (ne_eqb _ _ c.if-v-instance.false, sym c.is_goal.ens
 
 pub returns-then-v-eq0 : goal.returns-then-v-eq0
 unfolding opening_of packed_system
-returns-then-v-eq0 c = let a = c.args in rw (ne_eqb _ _ c.if-v-instance.false, sym c.is_goal.ensures ∙ c.if-is_goal.false, eq-eqb _ _ c.if-v-eq0.true) (cut_either_way (guided_value a.instance.now a.v.s ≤? a.v.d))
+returns-then-v-eq0 c = let a = c.args in rw (ne_eqb _ _ c.if-v-instance.false, sym c.is_goal.ensures ∙ c.if-is_goal.false, eq-eqb _ _ c.if-v-eq0.true) (cut_either_way (instance_value a.instance.now a.v.s ≤? a.v.d))
 
 pub returns-then-v-from : goal.returns-then-v-from
 unfolding opening_of packed_system

@@ -1,7 +1,7 @@
 -- `search::rounds::deepen` meets its contract. Invariant: the rounds left from the count so far are the whole. Assumes nothing.
 use Rattle.std.proofs.Common.{refl, ◌∙◌, arith}
 use Rattle.search.proofs.Conclusions.{ends_over, ends_spent, rounds-over, round_stops, round_found, round_fails}
-use Rattle.search.proofs.Endings.{told_success, told_failure, told_stop}
+use Rattle.search.proofs.Endings.{success_of_ending, failure_of_ending, stop_of_ending}
 use Rattle.search.proofs.rounds.deepen.Goals as goal
 
 pub loop-d-init : goal.loop-d-init
@@ -17,18 +17,18 @@ examine_any-requires c = let p = c.requires in let i = c.loop-d.invariant in
 
 pub returns-in-Stopped : goal.returns-in-Stopped
 returns-in-Stopped c = let i = c.loop-d.invariant in let h = rw c.in-Stopped.is at c.examine_any.ensures in
-    rw (c.from-in-Stopped.ensures, c.from.ensures, ← i.5) (ends_spent _ _ _ c.clear.ensures _ _ (round_stops _ _ _ _ _ _ _ _ i.0 (omega (arith, c.loop-d-test.true)) _ (told_stop _ _ h).0))
+    rw (c.from-in-Stopped.ensures, c.from.ensures, ← i.5) (ends_spent _ _ _ c.clear.ensures _ _ (round_stops _ _ _ _ _ _ _ _ i.0 (omega (arith, c.loop-d-test.true)) _ (stop_of_ending _ _ h).0))
 
-pub tell_found-requires : goal.tell_found-requires
-tell_found-requires c = let i = c.loop-d.invariant in let h = rw c.in-Succeeded.is at c.examine_any.ensures in
-    (h.remembers, omega (arith, c.loop-d-test.true, c.requires.startable.limited), (_, round_found _ _ _ _ _ i.0 (omega (arith, c.loop-d-test.true)) c.args.instance.now.guided.ready.small_budget _ _ _ (told_success _ _ _ _ h)))
+pub answer_found-requires : goal.answer_found-requires
+answer_found-requires c = let i = c.loop-d.invariant in let h = rw c.in-Succeeded.is at c.examine_any.ensures in
+    (h.remembers, omega (arith, c.loop-d-test.true, c.requires.startable.limited), (_, round_found _ _ _ _ _ i.0 (omega (arith, c.loop-d-test.true)) c.args.instance.now.matching.ready.small_budget _ _ _ (success_of_ending _ _ _ _ h)))
 
 pub returns-in-Succeeded : goal.returns-in-Succeeded
 returns-in-Succeeded c = let i = c.loop-d.invariant in let h = rw c.in-Succeeded.is at c.examine_any.ensures in
-    rw (← i.5) (c.tell_found.ensures _ (round_found _ _ _ _ _ i.0 (omega (arith, c.loop-d-test.true)) c.args.instance.now.guided.ready.small_budget _ _ _ (told_success _ _ _ _ h)))
+    rw (← i.5) (c.answer_found.ensures _ (round_found _ _ _ _ _ i.0 (omega (arith, c.loop-d-test.true)) c.args.instance.now.matching.ready.small_budget _ _ _ (success_of_ending _ _ _ _ h)))
 
 pub loop-d-preserved : goal.loop-d-preserved
-loop-d-preserved c = let i = c.loop-d.invariant in let h = rw c.in-Failed.is at c.examine_any.ensures in let q = told_failure _ _ h in
+loop-d-preserved c = let i = c.loop-d.invariant in let h = rw c.in-Failed.is at c.examine_any.ensures in let q = failure_of_ending _ _ h in
     (round_fails _ _ _ _ _ _ _ _ i.0 (omega (arith, c.loop-d-test.true)) _ q.0, q.2, h.remembers, c.examine_any.auto.memory ∙ i.3, omega (arith, c.loop-d-test.true, c.requires.startable.limited), i.5)
 
 pub returns : goal.returns

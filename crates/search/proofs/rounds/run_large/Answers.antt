@@ -6,4 +6,4 @@ pub returns-in-Ok : goal.returns-in-Ok
 returns-in-Ok c = rw c.in-Ok.is at c.run_with.ensures
 
 pub returns-in-Err : goal.returns-in-Err
-returns-in-Err c = always_ends c.args.instance.now.guided.ready.small_budget (rw c.in-Err.is at c.run_with.ensures)
+returns-in-Err c = always_ends c.args.instance.now.matching.ready.small_budget (rw c.in-Err.is at c.run_with.ensures)

@@ -1,10 +1,10 @@
 -- `set_of`: the set of the numbers from q on that pass. Assumes nothing.
 use Rattle.std.proofs.Common.{◌≡◌, ◌-◌, arith}
-use Rattle.tables.proofs.Gathering.{set_none, set_joins}
+use Rattle.tables.proofs.Gathering.{set_of_none, set_joins}
 use Rattle.tables.proofs.sets.set_of.Goals as goal
 
 pub loop-q-init : goal.loop-q-init
-loop-q-init g c = λ f h. let z : c.args.n - c.args.n ≡ 0 = omega arith in rw z (set_none f c.args.n)
+loop-q-init g c = λ f h. let z : c.args.n - c.args.n ≡ 0 = omega arith in rw z (set_of_none f c.args.n)
 
 pub loop-q-preserved : goal.loop-q-preserved
 loop-q-preserved g c = let l = c.loop-q in let t = c.loop-q-test.true in let n = c.args.n in

@@ -1,6 +1,6 @@
 -- `set_of`: the set of the numbers from q on that pass. Assumes nothing.
 use Rattle.std.proofs.Common.{◌≡◌, ℕ, ◌-◌, ◌<◌, Bool}
-use Rattle.packed_task.specs.Sets.{set_from}
+use Rattle.planning.specs.Sets.{set_from}
 use Rattle.tables.proofs.sets.set_of.Given as goal
 
 abbrev pub invariant-loop-q : goal.invariant-loop-q

@@ -12,8 +12,8 @@ use Rattle.task_record.proofs.Cellwise.{state_cells_whole}
 use Rattle.task_record.proofs.SoundTask.{patterns_right}
 use Rattle.patterns.proofs.Reading.{patterns_length, pattern_at}
 use Rattle.patterns.proofs.Sizes.{sixteen_sizes, sizes_taken, pattern_whole}
-use Rattle.tables.specs.Steps.{Sized}
-use Rattle.tables.proofs.TableChain.{pattern_sized}
+use Rattle.tables.specs.Steps.{Bounded}
+use Rattle.tables.proofs.TableChain.{pattern_bounded}
 use Rattle.tables.proofs.Spreading.{needed_next}
 use Rattle.patterns.specs.Space.{entries_needed}
 use Rattle.tables.proofs.spread.part_of.Goals as goal
@@ -53,8 +53,8 @@ module _ (c : After-state_of-pattern) where
   states-known : state_count (take c.from-n.result sizes) c.state_of-pattern.result ≡ state_count (task_of rec).sizes (get_or (patterns_of rec) number [])
   states-known = ap₂ state_count (ap (λ k. take k sizes) variables-known ∙ sizes_taken rec sound sizes sixteen) (pattern_known ∙ sym (pattern_at rec number below))
 
-same-sized : (zs p q : List ℕ) (n m : ℕ) → p ≡ q → n ≡ m → Sized zs q m → Sized zs p n
-same-sized zs p q n m e f s = rw (e, f) s
+same-bounded : (zs p q : List ℕ) (n m : ℕ) → p ≡ q → n ≡ m → Bounded zs q m → Bounded zs p n
+same-bounded zs p q n m e f s = rw (e, f) s
 
 pub overflow_add-q-end : goal.overflow_add-q-end
 overflow_add-q-end c = let k = patterns_right c.args.record.now (rw c.record.view_is at c.record.invariant) in omega (arith, c.requires.1)
@@ -64,8 +64,8 @@ unfolding entries_needed
 loop-q-init c = (omega arith, refl, refl, omega arith)
 
 pub state_count-requires : goal.state_count-requires
-state_count-requires c = let w = (goal.at.state_count-requires c).After-state_of-pattern in same-sized _ _ _ _ _ (pattern_known w) (variables-known w)
-    (pattern_sized (rec w) (sound w) (sizes w) (sixteen w) (cells_at (rec w) (at_pattern (number w))) (rw (pattern_at (rec w) (number w) (below w)) at (few w)))
+state_count-requires c = let w = (goal.at.state_count-requires c).After-state_of-pattern in same-bounded _ _ _ _ _ (pattern_known w) (variables-known w)
+    (pattern_bounded (rec w) (sound w) (sizes w) (sixteen w) (cells_at (rec w) (at_pattern (number w))) (rw (pattern_at (rec w) (number w) (below w)) at (few w)))
 
 pub overflow_add-end : goal.overflow_add-end
 overflow_add-end c = let w = (goal.at.overflow_add-end c).After-state_of-pattern in let e = c.state_count.ensures ∙ states-known w in let k = patterns_right (rec w) (sound w) in

@@ -6,8 +6,10 @@ use native.Mathlib.Nat.{sub-zero}
 use Rattle.task_record.specs.Numbers.{pattern_count}
 use Rattle.task_record.proofs.Sixteens.{filled_next, zeros}
 use Rattle.task_record.proofs.SoundTask.{patterns_right}
-use Rattle.patterns.specs.Sets.{set_from, member_set}
-use Rattle.patterns.proofs.Gathering.{digit_small, set_small, set_empty, set_step}
+use Rattle.planning.specs.Sets.{set_from}
+use Rattle.planning.proofs.Sets.{digit_small}
+use Rattle.patterns.specs.Sets.{member_set}
+use Rattle.patterns.proofs.Gathering.{set_small, set_empty, set_step}
 use Rattle.patterns.proofs.Sizes.{pattern_whole}
 use Rattle.patterns.proofs.verdict.Members.of.Invariants.{member}
 use Rattle.patterns.proofs.verdict.Members.of.Goals as goal

@@ -9,7 +9,7 @@ use lib.ListN.{length, get_or}
 use Rattle.task_record.specs.Layout.{at_pattern}
 use Rattle.task_record.specs.Numbers.{pattern_count}
 use Rattle.task_record.specs.TaskOf.{cells_at}
-use Rattle.patterns.specs.Sets.{set_from}
+use Rattle.planning.specs.Sets.{set_from}
 use Rattle.patterns.proofs.verdict.Members.of.Given as goal
 
 -- Variable k is in pattern j.

@@ -7,7 +7,7 @@ use Prim.Native.Nat.{◌-◌, ◌/◌, ◌≤◌}
 use Rattle.planning.specs.Pattern.{verdict}
 use Rattle.task_record.specs.Numbers.{action_count, pattern_count}
 use Rattle.task_record.specs.TaskOf.{task_of, patterns_of}
-use Rattle.patterns.specs.Sets.{set_from}
+use Rattle.planning.specs.Sets.{set_from}
 use Rattle.patterns.proofs.Reading.{affects_at, affected_from, verdict_from}
 use Rattle.patterns.proofs.verdict.Members.scan.Given as goal
 

@@ -15,4 +15,4 @@ bounds-task-inside-action c =
 
 pub returns : goal.returns
 unfolding begun_frame
-returns c = rw (← c.task.view_is, c.from.ensures, c.at_action-action.ensures)
+returns c = rw (c.from.ensures, c.from-2.ensures, c.action_weight.ensures, ← c.task.view_is, c.at_action-action.ensures)

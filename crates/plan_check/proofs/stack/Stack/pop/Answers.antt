@@ -13,7 +13,7 @@ returns-then-self-eq0-clause-rest c = rw (← c.self.view_is, c.if-self-eq0.true
 
 pub returns-clause-topmost : goal.returns-clause-topmost
 unfolding frame_at
-returns-clause-topmost c = rw (← c.self.view_is, topmost_goes c.self.inside.frames c.self.inside.used c.if-self-eq0.false)
+returns-clause-topmost c = rw (← c.self.view_is, topmost_goes c.self.inside.frames.now c.self.inside.used c.if-self-eq0.false)
 
 pub returns-clause-rest : goal.returns-clause-rest
-returns-clause-rest c = rw (← c.self.view_is, topmost_goes c.self.inside.frames c.self.inside.used c.if-self-eq0.false)
+returns-clause-rest c = rw (← c.self.view_is, topmost_goes c.self.inside.frames.now c.self.inside.used c.if-self-eq0.false)

@@ -36,18 +36,18 @@ pub left_after-left-requires : goal.left_after-left-requires
 left_after-left-requires t c = let x = c.requires.succeeding in let o = c.in-Some-action_of.ensures in let a = acts x c.start_of-start.ensures o.0 o.1 in a.light
 
 pub invariant_of-action : goal.invariant_of-action
-invariant_of-action t c = let x = c.requires.succeeding in let o = c.in-Some-action_of.ensures in let a = acts x c.start_of-start.ensures o.0 o.1 in record { below = omega (arith, a.within, c.args.self.now.instance.now.guided.ready.few_actions) }
+invariant_of-action t c = let x = c.requires.succeeding in let o = c.in-Some-action_of.ensures in let a = acts x c.start_of-start.ensures o.0 o.1 in record { below = omega (arith, a.within, c.args.self.now.instance.now.matching.ready.few_actions) }
 
 pub loop-k-init : goal.loop-k-init
 loop-k-init t c = let o = c.in-Some-action_of.ensures in (underway_begins c.requires c.start_of-start.ensures o.0 o.1 c.left_after-left.ensures c.outcome_count-k-end.ensures c.put.ensures refl, refl, refl, refl, refl)
 
 pub invariant_of-successor : goal.invariant_of-successor
-invariant_of-successor t c = let x = c.requires.succeeding in let o = c.in-Some-action_of.ensures in let a = acts x c.start_of-start.ensures o.0 o.1 in let n = c.args.self.now.instance.now.guided.ready.few_outcomes _ a.within in
+invariant_of-successor t c = let x = c.requires.succeeding in let o = c.in-Some-action_of.ensures in let a = acts x c.start_of-start.ensures o.0 o.1 in let n = c.args.self.now.instance.now.matching.ready.few_outcomes _ a.within in
     record { below = omega (arith, n, c.loop-k-test.true, c.outcome_count-k-end.ensures) }
 
 pub write_plan-end-requires : goal.write_plan-end-requires
 write_plan-end-requires t c = let x = c.requires.succeeding in let o = c.in-Some-action_of.ensures in let a = acts x c.start_of-start.ensures o.0 o.1 in let f = c.left_after-left.ensures in
-    (omega (arith, f, c.args.self.now.instance.now.guided.ready.weights c.in-Some-action_of.m a.within, a.light, c.decreases), rw c.loop-k.invariant.1 (next_writable c.loop-k.invariant.0 c.loop-k-test.true c.successor-x.ensures (omega (arith, x.shallow, f))))
+    (omega (arith, f, c.args.self.now.instance.now.matching.ready.weights c.in-Some-action_of.m a.within, a.light, c.decreases), rw c.loop-k.invariant.1 (next_writable c.loop-k.invariant.0 c.loop-k-test.true c.successor-x.ensures (omega (arith, x.shallow, f))))
 
 pub loop-k-preserved : goal.loop-k-preserved
 loop-k-preserved t c = let i = c.loop-k.invariant in let y = c.write_plan-end.ensures in

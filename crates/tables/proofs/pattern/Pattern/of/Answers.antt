@@ -22,12 +22,12 @@ picked-known : (c : After-state_of-picked) → c.state_of-picked.result ≡ cell
 picked-known c = let r = c.args.record.now in
     c.state_of-picked.ensures ∙ ap state_cells (rw c.record.view_is at c.pattern_cells.ensures) ∙ sym (state_cells_whole (cells_at r (at_pattern c.args.p)) (pattern_whole r (sound c) c.args.p c.requires.known))
 
-pub lively-requires : goal.lively-requires
-lively-requires c = let w = (goal.at.lively-requires c).After-state_of-picked in rw (c.requires.task_is, actions-known w) (sound_readable c.args.record.now (sound w))
+pub effective-requires : goal.effective-requires
+effective-requires c = let w = (goal.at.effective-requires c).After-state_of-picked in rw (c.requires.task_is, actions-known w) (sound_readable c.args.record.now (sound w))
 
 pub invariant_of-result : goal.invariant_of-result
 invariant_of-result c = let w = (goal.at.invariant_of-result c).After-state_of-picked in
-    sound_ready (sound w) c.requires (actions-known w) (c.from.ensures ∙ rw c.record.view_is at c.variable_count.ensures) (picked-known w) c.mask_of_cells-mask.ensures c.lively.ensures
+    sound_ready (sound w) c.requires (actions-known w) (c.from.ensures ∙ rw c.record.view_is at c.variable_count.ensures) (picked-known w) c.mask_of_cells-mask.ensures c.effective.ensures
 
 pub returns : goal.returns
 returns c = let w = (goal.at.returns c).After-state_of-picked in

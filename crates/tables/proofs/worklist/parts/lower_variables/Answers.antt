@@ -12,11 +12,11 @@ next_weight-next-requires c = let i = c.loop-v.invariant.1 in omega arith
 
 pub returns-then-next-gt64 : goal.returns-then-next-gt64
 returns-then-next-gt64 c = let p = c.pattern.inside in let l = c.loop-v in let i = rw (← c.pattern.view_is) at l.invariant in
-    rw (← c.pattern.view_is) (lower_stops p.sizes p.picked p.n l.w l.v c.next_weight-next.result c.pattern.invariant.sized i.0 c.loop-v-test.true i.1 c.next_weight-next.ensures c.if-next-gt64.true)
+    rw (← c.pattern.view_is) (lower_stops p.sizes p.picked p.n l.w l.v c.next_weight-next.result c.pattern.invariant.bounded i.0 c.loop-v-test.true i.1 c.next_weight-next.ensures c.if-next-gt64.true)
 
 pub loop-v-preserved : goal.loop-v-preserved
 loop-v-preserved c = let p = c.pattern.inside in let l = c.loop-v in let i = rw (← c.pattern.view_is) at l.invariant in
-    rw (← c.pattern.view_is) (rw c.next_weight-next.ensures (weighed_step p.sizes p.picked p.n l.w l.v c.pattern.invariant.sized c.loop-v-test.true i.0), c.if-next-gt64.false)
+    rw (← c.pattern.view_is) (rw c.next_weight-next.ensures (weighed_step p.sizes p.picked p.n l.w l.v c.pattern.invariant.bounded c.loop-v-test.true i.0), c.if-next-gt64.false)
 
 pub returns : goal.returns
 returns c = let p = c.pattern.inside in let l = c.loop-v in let i = rw (← c.pattern.view_is) at l.invariant in

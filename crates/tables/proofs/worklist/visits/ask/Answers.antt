@@ -10,15 +10,15 @@ unfolding permitted_at
 returns-then-not-permits g c = let p = rw (← c.graph.view_is) at c.requires in
     rw (← c.graph.view_is) (asked_never p.1 (queue_as p.3 c.args.ring.now.waits) (sym (rw c.from.ensures at c.permits.ensures) ∙ c.if-not-permits.true), refl, refl)
 
-pub offer_along-v-requires : goal.offer_along-v-requires
+pub bellman_value_along-v-requires : goal.bellman_value_along-v-requires
 unfolding permitted_at
-offer_along-v-requires g c = let p = rw (← c.graph.view_is) at c.requires in
+bellman_value_along-v-requires g c = let p = rw (← c.graph.view_is) at c.requires in
     rw (← c.graph.view_is) (p.0, p.1, p.2, (queue_as p.3 c.args.ring.now.waits).room, sym (rw c.from.ensures at c.permits.ensures) ∙ c.if-not-permits.false)
 
 pub returns-then-v-entries : goal.returns-then-v-entries
-returns-then-v-entries g c = let p = c.requires in (asked_miss p.1 (queue_as p.3 c.args.ring.now.waits) _ c.offer_along-v.ensures c.if-v-entries.true, refl, refl)
+returns-then-v-entries g c = let p = c.requires in (asked_miss p.1 (queue_as p.3 c.args.ring.now.waits) _ c.bellman_value_along-v.ensures c.if-v-entries.true, refl, refl)
 
 pub returns : goal.returns
 unfolding permitted_at
-returns g c = let p = rw (← c.graph.view_is) at c.requires in let o = rw (← c.graph.view_is) at c.offer_along-v.ensures in let u = c.put.ensures in
-    rw (← c.graph.view_is) (asked_hit p.1 (queue_as p.3 c.args.ring.now.waits) c.offer_along-v.result (c.graph.invariant.edges_of.known _ p.0) (sym (rw c.from.ensures at c.permits.ensures) ∙ c.if-not-permits.false) (omega arith) o c.if-v-entries.false refl p.3 u.0, u.1, u.2)
+returns g c = let p = rw (← c.graph.view_is) at c.requires in let o = rw (← c.graph.view_is) at c.bellman_value_along-v.ensures in let u = c.put.ensures in
+    rw (← c.graph.view_is) (asked_hit p.1 (queue_as p.3 c.args.ring.now.waits) c.bellman_value_along-v.result (c.graph.invariant.edges_of.known _ p.0) (sym (rw c.from.ensures at c.permits.ensures) ∙ c.if-not-permits.false) (omega arith) o c.if-v-entries.false refl p.3 u.0, u.1, u.2)

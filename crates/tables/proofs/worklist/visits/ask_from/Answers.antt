@@ -25,7 +25,7 @@ ask_only-requires g c = let p = rw (← c.graph.view_is) at c.requires in let w 
         p.3,
         record {
           after = c.args.j;
-          says = p.4;
+          lowers = p.4;
           there = single_on (space v.task.now v.mask v.weights.now v.states.now v.actions) _ _ _ _ (w.edges_of.back _ p.0) (omega (arith, few_here w p.2, p.4.near)) p.5 (omega (arith, sym c.if-at-sum.true, c.from.ensures, d));
           alone = omega (arith, c.is_only.ensures c.if-not-is_only.false);
         },

@@ -12,7 +12,7 @@ returns-then-not-permits g c = let p = rw (← c.graph.view_is) at c.requires in
     rw (← c.graph.view_is) (asked_never p.1 (queue_as p.3 c.args.ring.now.waits) (sym (rw c.from.ensures at c.permits.ensures) ∙ c.if-not-permits.true), refl, refl)
 
 pub overflow_cast-entries : goal.overflow_cast-entries
-overflow_cast-entries g c = let s = c.requires.4.says in record { fits = omega (arith, s.less, s.small) }
+overflow_cast-entries g c = let s = c.requires.4.lowers in record { fits = omega (arith, s.less, s.small) }
 
 pub returns : goal.returns
 unfolding permitted_at

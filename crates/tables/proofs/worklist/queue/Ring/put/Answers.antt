@@ -13,9 +13,9 @@ pub overflow_add-self : goal.overflow_add-self
 overflow_add-self g c = let w = c.args.self.now.waits in omega (arith, put_room w _ c.requires c.if-self-j.false, w.states_few)
 
 pub invariant_of-self : goal.invariant_of-self
-invariant_of-self g c = let s = c.args.self.now in let h : length s.places ≡ g.row.N = search rules in
+invariant_of-self g c = let s = c.args.self.now in let h : length s.indices ≡ g.row.N = search rules in
     record { small = s.small; waits = (put-new s.waits _ c.requires c.if-self-j.false ((s.head + s.count) % g.row.N) (rw h refl)).queue }
 
 pub returns : goal.returns
-returns g c = let s = c.args.self.now in let h : length s.places ≡ g.row.N = search rules in
+returns g c = let s = c.args.self.now in let h : length s.indices ≡ g.row.N = search rules in
     (put-new s.waits _ c.requires c.if-self-j.false ((s.head + s.count) % g.row.N) (rw h refl), refl, refl)

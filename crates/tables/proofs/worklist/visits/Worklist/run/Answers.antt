@@ -13,17 +13,17 @@ overflow_add-since-in-Some g c = let v = c.loop-j.invariant.0 in let u = queue_o
 
 pub returns-then-is_level-clause-settled : goal.returns-then-is_level-clause-settled
 returns-then-is_level-clause-settled g c = let v = c.loop-j.invariant in let k = c.in-Some.ensures.taken in let e = c.visit.ensures in
-    let n = running_next v.0 (rw (c.loop-j.self.places ∙ v.0.long) at k.0) (rw k.3 at e.done) in
+    let n = running_next v.0 (rw (c.loop-j.self.ring_states ∙ v.0.long) at k.0) (rw k.3 at e.done) in
     rw (← c.graph.view_is) (running_level (rw (v.1, ← c.graph.view_is) at n) c.graph.invariant.readable.weights_some (c.is_level.ensures c.if-is_level.true))
 
 pub loop-j-preserved-then-since-self : goal.loop-j-preserved-then-since-self
 loop-j-preserved-then-since-self g c = let v = c.loop-j.invariant in let k = c.in-Some.ensures.taken in let e = c.visit.ensures in
-    (rw (e.same_graph, e.same_head) (running_next v.0 (rw (c.loop-j.self.places ∙ v.0.long) at k.0) (rw k.3 at e.done)), e.same_graph ∙ v.1, e.same_entries ∙ v.2, e.same_ring ∙ v.3)
+    (rw (e.same_graph, e.same_head) (running_next v.0 (rw (c.loop-j.self.ring_states ∙ v.0.long) at k.0) (rw k.3 at e.done)), e.same_graph ∙ v.1, e.same_entries ∙ v.2, e.same_ring ∙ v.3)
 
 pub loop-j-preserved : goal.loop-j-preserved
 loop-j-preserved g c = let v = c.loop-j.invariant in let k = c.in-Some.ensures.taken in let e = c.visit.ensures in
     let l : c.graph.inside.n ≡ length c.args.self.now.entries.now = rw (← c.graph.view_is) at c.args.self.now.all in (
-      rw (e.same_graph, e.same_head) (running_since (running_next v.0 (rw (c.loop-j.self.places ∙ v.0.long) at k.0) (rw k.3 at e.done)) (omega (arith, l, c.if-since-self.false))),
+      rw (e.same_graph, e.same_head) (running_since (running_next v.0 (rw (c.loop-j.self.ring_states ∙ v.0.long) at k.0) (rw k.3 at e.done)) (omega (arith, l, c.if-since-self.false))),
       e.same_graph ∙ v.1,
       e.same_entries ∙ v.2,
       e.same_ring ∙ v.3,

@@ -3,7 +3,7 @@ use Rattle.std.proofs.Common.{◌≡◌, sym, refl, ◌∙◌, arith}
 use Rattle.tables.specs.Edges.{way_back, edge_lanes, lane_weight}
 use Rattle.tables.proofs.Visiting.{going_none}
 use Rattle.tables.proofs.Graphs.{few_here}
-use Rattle.tables.proofs.Walks.{cells_start, cells_next, passed_single, heard_told, above_inside, above_less}
+use Rattle.tables.proofs.Walks.{cells_start, cells_next, passed_single, heard_not_above, above_inside, above_less}
 use Rattle.tables.proofs.Goes.{queue_of}
 use Rattle.tables.proofs.worklist.visits.Worklist.visit_lane.Goals as goal
 use Rattle.tables.proofs.worklist.visits.Worklist.visit_lane.Goals.{then-is_above, else-is_above}
@@ -16,7 +16,7 @@ loop-x-init g c = (cells_start (queue_of c.args.self.now), omega arith, omega ar
 
 pub ask_from-requires : goal.ask_from-requires
 ask_from-requires g c = let p = c.requires in let v = c.loop-x.invariant in let l = v.0.going.moved.long in let w = c.args.self.now in let t = sym c.is_above.ensures.0 ∙ c.if-is_above.true in let k = v.0.going.stays ∙ p.2 in
-    (omega (arith, w.ring.now.small), (p.0, above_inside _ _ _ t, w.all ∙ sym l, v.4 ∙ w.places ∙ sym l, record { near = omega (arith, l, p.1); said_is = rw (← c.graph.view_is) (omega (arith, c.from.ensures, c.from-2.ensures, k)); less = above_less _ _ _ t; small = c.is_above.ensures.1 }, p.3))
+    (omega (arith, w.ring.now.small), (p.0, above_inside _ _ _ t, w.all ∙ sym l, v.4 ∙ w.ring_states ∙ sym l, record { near = omega (arith, l, p.1); value_is = rw (← c.graph.view_is) (omega (arith, c.from.ensures, c.from-2.ensures, k)); less = above_less _ _ _ t; small = c.is_above.ensures.1 }, p.3))
 
 pub overflow_add-i : goal.overflow_add-i
 overflow_add-i g c = let v = c.loop-x.invariant in record { fits = omega (arith, v.2, v.3, c.from-values.ensures) }
@@ -28,7 +28,7 @@ loop-x-preserved g c = let p = c.requires in let v = c.loop-x.invariant in let l
       rw (← c.graph.view_is) (elim c.if-is_above.branch [
         | then-is_above w ↦ let a = rw (← c.graph.view_is, v.5) at w.ask_from.ensures.0 in rw (w.entries-is, w.ring-is) (cells_next (rw (← c.graph.view_is) at v.0) _ (omega (arith, q)) a.going (λ b f z u. a.heard f u))
         | else-is_above w ↦ rw (w.entries-is, w.ring-is) (cells_next (rw (← c.graph.view_is) at v.0) _ (omega (arith, q)) (going_none v.0.going.queue)
-            (λ b f z u. heard_told _ _ _ _ _ _ _ _ _ (c.graph.invariant.edges_of.weight _ (rw (← c.graph.view_is) at p.0)) (omega (arith, c.from.ensures, c.from-2.ensures)) (omega (arith, l, p.1)) b (v.0.going.stays ∙ p.2) (sym c.is_above.ensures.0 ∙ w.if-is_above.false) c.is_above.ensures.1 z))
+            (λ b f z u. heard_not_above _ _ _ _ _ _ _ _ _ (c.graph.invariant.edges_of.weight _ (rw (← c.graph.view_is) at p.0)) (omega (arith, c.from.ensures, c.from-2.ensures)) (omega (arith, l, p.1)) b (v.0.going.stays ∙ p.2) (sym c.is_above.ensures.0 ∙ w.if-is_above.false) c.is_above.ensures.1 z))
       ]),
       omega (arith, v.1),
       omega (arith, v.2, c.from-one.ensures),

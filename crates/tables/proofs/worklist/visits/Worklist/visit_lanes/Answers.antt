@@ -2,7 +2,7 @@
 use Rattle.std.proofs.Common.{◌≡◌, sym, refl, ◌∙◌, arith}
 use Rattle.tables.specs.Edges.{edge_lanes, lane_weight, lane_after}
 use Rattle.tables.proofs.Visiting.{going_none}
-use Rattle.tables.proofs.Walks.{rows_start, rows_next, rows_end, cells_start, cells_next, heard_told, above_inside, above_less}
+use Rattle.tables.proofs.Walks.{rows_start, rows_next, rows_end, cells_start, cells_next, heard_not_above, above_inside, above_less}
 use Rattle.tables.proofs.Asking.{less_other}
 use Rattle.tables.proofs.Goes.{queue_of}
 use Rattle.tables.proofs.worklist.visits.Worklist.visit_lanes.Goals as goal
@@ -16,7 +16,7 @@ loop-x-init g c = let o = c.loop-y.invariant in (cells_start o.0.going.queue, om
 
 pub ask-requires : goal.ask-requires
 ask-requires g c = let p = c.requires in let v = c.loop-x.invariant in let l = v.0.going.moved.long ∙ c.loop-y.invariant.0.going.moved.long in let w = c.args.self.now in
-    (omega (arith, w.ring.now.small), (p.0, above_inside _ _ _ (sym c.is_above.ensures.0 ∙ c.if-is_above.true), w.all ∙ sym l, v.4 ∙ w.places ∙ sym l))
+    (omega (arith, w.ring.now.small), (p.0, above_inside _ _ _ (sym c.is_above.ensures.0 ∙ c.if-is_above.true), w.all ∙ sym l, v.4 ∙ w.ring_states ∙ sym l))
 
 pub overflow_add-i : goal.overflow_add-i
 overflow_add-i g c = let p = c.requires in let v = c.loop-x.invariant in let o = c.loop-y.invariant in record { fits = omega (arith, p.3, v.2, o.2, o.3, v.3, c.from-ones.ensures, c.from-twos.ensures) }
@@ -30,7 +30,7 @@ loop-x-preserved g c = let p = c.requires in let v = c.loop-x.invariant in let o
         | then-is_above w ↦ let a = rw (← c.graph.view_is, v.5) at w.ask.ensures.0 in rw (w.entries-is, w.ring-is) (cells_next (rw (← c.graph.view_is) at v.0) _ q
             (a.going _ (less_other _ _ _ c.from-2.result _ (omega (arith, c.from.ensures, v.0.going.stays ∙ o.0.going.stays ∙ p.2)) (above_less _ _ _ (sym c.is_above.ensures.0 ∙ w.if-is_above.true)))) (λ b f z u. a.heard f))
         | else-is_above w ↦ rw (w.entries-is, w.ring-is) (cells_next (rw (← c.graph.view_is) at v.0) _ q (going_none v.0.going.queue)
-            (λ b f z u. heard_told _ _ _ _ _ _ _ _ _ (c.graph.invariant.edges_of.weight _ (rw (← c.graph.view_is) at p.0)) (omega (arith, c.from.ensures, c.from-2.ensures)) (omega (arith, l, p.1)) b (v.0.going.stays ∙ o.0.going.stays ∙ p.2) (sym c.is_above.ensures.0 ∙ w.if-is_above.false) c.is_above.ensures.1 z))
+            (λ b f z u. heard_not_above _ _ _ _ _ _ _ _ _ (c.graph.invariant.edges_of.weight _ (rw (← c.graph.view_is) at p.0)) (omega (arith, c.from.ensures, c.from-2.ensures)) (omega (arith, l, p.1)) b (v.0.going.stays ∙ o.0.going.stays ∙ p.2) (sym c.is_above.ensures.0 ∙ w.if-is_above.false) c.is_above.ensures.1 z))
       ]),
       omega (arith, v.1),
       omega (arith, v.2, c.from-one.ensures),

@@ -5,7 +5,7 @@ use Rattle.tables.specs.Edges.{way_back}
 use Rattle.tables.proofs.Asking.{plain_on, less_other}
 use Rattle.tables.proofs.Visiting.{going_none}
 use Rattle.tables.proofs.Graphs.{few_here}
-use Rattle.tables.proofs.Walks.{heard_told, above_inside, above_less, passed_plain}
+use Rattle.tables.proofs.Walks.{heard_not_above, above_inside, above_less, passed_plain}
 use Rattle.tables.proofs.Goes.{queue_of}
 use Rattle.tables.proofs.worklist.visits.Worklist.visit_plain.Goals as goal
 
@@ -18,7 +18,7 @@ returns-then-not-is_above g c = let p = rw (← c.graph.view_is) at c.requires i
       same_graph = refl;
       same_head = refl;
       done = rw (← c.graph.view_is) (passed_plain (omega (arith, c.from.ensures)) p.3 (going_none (queue_of c.args.self.now))
-          (λ b f z. heard_told _ _ _ _ _ _ _ _ _ (c.graph.invariant.edges_of.weight _ p.0) (omega (arith, c.from-2.ensures, c.from-3.ensures)) p.1 b p.2 (sym c.is_above.ensures.0 ∙ c.if-not-is_above.true) c.is_above.ensures.1 z));
+          (λ b f z. heard_not_above _ _ _ _ _ _ _ _ _ (c.graph.invariant.edges_of.weight _ p.0) (omega (arith, c.from-2.ensures, c.from-3.ensures)) p.1 b p.2 (sym c.is_above.ensures.0 ∙ c.if-not-is_above.true) c.is_above.ensures.1 z));
     }
 
 pub ask_only-requires : goal.ask_only-requires
@@ -31,10 +31,10 @@ ask_only-requires g c = let w = c.args.self.now in let p = rw (← c.graph.view_
         p.0,
         above_inside _ _ _ t,
         rw (← c.graph.view_is) at w.all,
-        w.places,
+        w.ring_states,
         record {
           after = c.args.j;
-          says = record { near = p.1; said_is = omega (arith, c.from-2.ensures, c.from-3.ensures, p.2); less = above_less _ _ _ t; small = c.is_above.ensures.1 };
+          lowers = record { near = p.1; value_is = omega (arith, c.from-2.ensures, c.from-3.ensures, p.2); less = above_less _ _ _ t; small = c.is_above.ensures.1 };
           there = plain_on (space v.task.now v.mask v.weights.now v.states.now v.actions) _ _ _ _ (c.graph.invariant.edges_of.back _ p.0) (omega (arith, p.1, f)) p.3 (omega (arith, c.from.ensures));
           alone = omega (arith, c.is_only.ensures c.if-is_only.true);
         },
@@ -53,7 +53,7 @@ returns-then-is_only g c = let p = rw (← c.graph.view_is) at c.requires in let
     }
 
 pub ask-requires : goal.ask-requires
-ask-requires g c = let w = c.args.self.now in (omega (arith, w.ring.now.small), (c.requires.0, above_inside _ _ _ (sym c.is_above.ensures.0 ∙ c.if-not-is_above.false), w.all, w.places))
+ask-requires g c = let w = c.args.self.now in (omega (arith, w.ring.now.small), (c.requires.0, above_inside _ _ _ (sym c.is_above.ensures.0 ∙ c.if-not-is_above.false), w.all, w.ring_states))
 
 pub returns : goal.returns
 unfolding way_back

@@ -1,0 +1,16 @@
+// An entry of a table: its type, the entry that stands for an infinite cost, and reading one.
+ghost use Rattle.std.specs.Prelude.{◌≡◌, slice_index_or};
+ghost use Rattle.planning.specs.Table.{infinite_entry};
+
+// "An entry is 16 bits"
+pub type Entry = u16;
+
+// "65,535 is infinite"
+pub const INFINITE: Entry = Entry::MAX;
+
+// Entry i; what lies past the end counts as infinite.
+pub fn entry_at(tables: &[Entry], i: usize) -> Entry
+    ensures { result ≡ slice_index_or tables.now i infinite_entry }
+{
+    tables.get(i).copied().unwrap_or(INFINITE)
+}
