@@ -10,7 +10,7 @@
 #include <string.h>
 
 #define MOVE_SIZE 145
-#define MAX_DEPTH 32
+#define MAX_DEPTH 255
 #define NONE 255
 
 /* -- Records, by the layout of the document ------------------------------------------------------------------------------------------- */
@@ -21,14 +21,15 @@ static uint8_t *pattern_of(uint8_t *record, int p) { return record + 56 + 16 * p
 static uint8_t *move_of(uint8_t *record, int m) { return record + 184 + MOVE_SIZE * m; }
 static uint8_t *need_of(uint8_t *record, int m) { return move_of(record, m) + 1; }
 static uint8_t *outcome_of(uint8_t *record, int m, int k) { return move_of(record, m) + 17 + 16 * k; }
+static uint8_t *cost_of(uint8_t *record, int m) { return record + 184 + MOVE_SIZE * 64 + m; }
 
 /* A record without variables and moves: every cell unused. */
 static void clear_record(uint8_t *record) {
     memset(record, NONE, PLANNER_RECORD_SIZE);
     memset(record, 0, 24);
     memset(pattern_of(record, 0), 0, 8 * 16);
-    for (int m = 0; m < 64; m++) *move_of(record, m) = 0;
-    record[3] = 32;
+    for (int m = 0; m < 64; m++) *move_of(record, m) = *cost_of(record, m) = 0;
+    record[3] = 255;
     record[4] = 100;
 }
 
@@ -37,8 +38,10 @@ static void add_variable(uint8_t *record, uint8_t size) {
     record[8 + record[0]++] = size;
 }
 
+/* A move with cost 1. */
 static int add_move(uint8_t *record, int variable, uint8_t value) {
     need_of(record, record[1])[variable] = value;
+    *cost_of(record, record[1]) = 1;
     return record[1]++;
 }
 
@@ -83,14 +86,39 @@ static void level_record(uint8_t *record, int levels) {
     if (levels > 15) goal_of(record)[1] = (uint8_t)(levels - 15);
 }
 
+/* A tower of 256 levels. Variable 0 goes up to 15, then variable 1 goes up by one and variable 0 starts again; on the highest level a
+ * move sets variable 2, the goal. The moves of variable 0 come in three forms: alone, and with an outcome that arrives before or after. */
+static void deep_record(uint8_t *record) {
+    clear_record(record);
+    add_variable(record, 16);
+    add_variable(record, 16);
+    add_variable(record, 2);
+    for (uint8_t from = 0; from < 15; from++) {
+        for (int form = 0; form < 3; form++) {
+            int m = add_move(record, 0, from);
+            if (form == 1) add_outcome(record, m, 2, 1);
+            add_outcome(record, m, 0, (uint8_t)(from + 1));
+            if (form == 2) add_outcome(record, m, 2, 1);
+        }
+        int m = add_move(record, 1, from);
+        need_of(record, m)[0] = 15;
+        add_outcome(record, m, 1, (uint8_t)(from + 1))[0] = 0;
+    }
+    int last = add_move(record, 0, 15);
+    need_of(record, last)[1] = 15;
+    add_outcome(record, last, 2, 1);
+    goal_of(record)[2] = 1;
+}
+
 /* -- The check once more, with a list of pending states ------------------------------------------------------------------------------ */
 
+/* A state, how many moves led to it, and what they cost. */
 struct pending {
     uint8_t state[16];
-    int moves;
+    int moves, paid;
 };
 
-/* Every pending state has at most 32 moves behind it, and each of them left at most 7 others pending. */
+/* Every pending state has at most 255 moves behind it, and each of them left at most 7 others pending. */
 static struct pending stack[MAX_DEPTH * 8 + 8];
 
 static int meets(const uint8_t *cells, const uint8_t *state) {
@@ -111,10 +139,17 @@ static int push_outcomes(uint8_t *record, int m, int top) {
         struct pending *to = &stack[top - 1 + count - 1 - k];
         *to = from;
         to->moves++;
+        to->paid += *cost_of(record, m);
         for (int v = 0; v < 16; v++)
             if (outcome_of(record, m, k)[v] != NONE) to->state[v] = outcome_of(record, m, k)[v];
     }
     return top - 1 + count;
+}
+
+/* Pending is a state, with no move behind it. */
+static void begin(const uint8_t *state) {
+    memcpy(stack[0].state, state, 16);
+    stack[0].moves = stack[0].paid = 0;
 }
 
 static struct planner_answer answer(uint64_t number, uint64_t first, uint64_t second) {
@@ -126,14 +161,13 @@ static struct planner_answer answer(uint64_t number, uint64_t first, uint64_t se
 static struct planner_answer plain_check(uint8_t *record, const uint8_t *state, const uint8_t *plan, size_t length) {
     int top = 1, cost = 0;
     size_t at = 0;
-    memcpy(stack[0].state, state, 16);
-    stack[0].moves = 0;
+    begin(state);
     for (; top > 0; at++) {
         const struct pending *now = &stack[top - 1];
         if (at == length) return answer(12, at, 0);
         if (plan[at] == PLANNER_ARRIVED) {
             if (!meets(goal_of(record), now->state)) return answer(15, at, 0);
-            if (now->moves > cost) cost = now->moves;
+            if (now->paid > cost) cost = now->paid;
             top--;
             continue;
         }
@@ -207,25 +241,89 @@ static void test_sample(void) {
 #undef CHECK
 }
 
-/* Move 0 leaves the door shut, move 1 opens it. */
-static void test_depth(void) {
+/* The sample's plan with costs: its dearest path goes over the edge, through all four moves. */
+static void test_costs(void) {
+    static const uint8_t costs[][5] = {{1, 3, 1, 1, 6}, {2, 1, 1, 1, 5}, {1, 1, 9, 1, 12}, {1, 1, 1, 50, 53}, {10, 20, 30, 40, 100}};
+    static uint8_t record[PLANNER_RECORD_SIZE];
+    for (size_t i = 0; i < sizeof costs / sizeof costs[0]; i++) {
+        sample_record(record);
+        memcpy(cost_of(record, 0), costs[i], 4);
+        expect("the sample's plan with costs", record, sizeof record, start_of(record), 16, sample_plan, 7, answer(0, costs[i][4], 7));
+    }
+    memset(cost_of(record, 0), 255, 4);
+    expect("the sample's plan at its dearest", record, sizeof record, start_of(record), 16, sample_plan, 7, answer(0, 1020, 7));
+}
+
+/* Move 0 may lead to 1 or to 2. From 1 a dear move arrives, from 2 two cheap ones: the longest path is not the dearest. */
+static void test_dearest_path(void) {
+    static const uint8_t dear_first[] = {0, 1, 254, 2, 3, 254}, dear_last[] = {0, 2, 3, 254, 1, 254};
+    static uint8_t record[PLANNER_RECORD_SIZE];
+    clear_record(record);
+    add_variable(record, 5);
+    int first = add_move(record, 0, 0);
+    add_outcome(record, first, 0, 1);
+    add_outcome(record, first, 0, 2);
+    add_outcome(record, add_move(record, 0, 1), 0, 4);
+    add_outcome(record, add_move(record, 0, 2), 0, 3);
+    add_outcome(record, add_move(record, 0, 3), 0, 4);
+    goal_of(record)[0] = 4;
+    memcpy(cost_of(record, 0), (uint8_t[]){10, 200, 3, 4}, 4);
+    expect("the dearest path first", record, sizeof record, start_of(record), 16, dear_first, 6, answer(0, 210, 6));
+    outcome_of(record, 0, 0)[0] = 2;
+    outcome_of(record, 0, 1)[0] = 1;
+    expect("the dearest path last", record, sizeof record, start_of(record), 16, dear_last, 6, answer(0, 210, 6));
+    *cost_of(record, 1) = 6;
+    expect("the longest path is the dearest", record, sizeof record, start_of(record), 16, dear_last, 6, answer(0, 17, 6));
+}
+
+/* Move 0 leaves the door shut, move 1 opens it. 17 counts moves, whatever they cost. */
+static void test_depth(uint8_t cost) {
     static uint8_t record[PLANNER_RECORD_SIZE];
     uint8_t plan[MAX_DEPTH + 2];
     clear_record(record);
     add_variable(record, 2);
     add_outcome(record, add_move(record, 0, 0), 0, 0);
     add_outcome(record, add_move(record, 0, 0), 0, 1);
+    memset(cost_of(record, 0), cost, 2);
     goal_of(record)[0] = 1;
     memset(plan, 0, sizeof plan);
-    expect("a 33rd move", record, sizeof record, start_of(record), 16, plan, MAX_DEPTH + 1, answer(17, MAX_DEPTH, 0));
+    expect("a 256th move", record, sizeof record, start_of(record), 16, plan, MAX_DEPTH + 1, answer(17, MAX_DEPTH, 0));
+    expect("the plan ends before it", record, sizeof record, start_of(record), 16, plan, MAX_DEPTH, answer(12, MAX_DEPTH, 0));
     plan[MAX_DEPTH] = 9;
-    expect("no move at depth 33", record, sizeof record, start_of(record), 16, plan, MAX_DEPTH + 1, answer(13, MAX_DEPTH, 0));
+    expect("no move at depth 256", record, sizeof record, start_of(record), 16, plan, MAX_DEPTH + 1, answer(13, MAX_DEPTH, 0));
     plan[MAX_DEPTH] = 254;
-    expect("254 at no goal at depth 33", record, sizeof record, start_of(record), 16, plan, MAX_DEPTH + 1, answer(15, MAX_DEPTH, 0));
+    expect("254 at no goal at depth 256", record, sizeof record, start_of(record), 16, plan, MAX_DEPTH + 1, answer(15, MAX_DEPTH, 0));
     plan[MAX_DEPTH - 1] = 1;
-    expect("32 moves", record, sizeof record, start_of(record), 16, plan, MAX_DEPTH + 1, answer(0, MAX_DEPTH, MAX_DEPTH + 1));
+    expect("255 moves", record, sizeof record, start_of(record), 16, plan, MAX_DEPTH + 1, answer(0, MAX_DEPTH * cost, MAX_DEPTH + 1));
     plan[MAX_DEPTH] = 1;
     expect("17 before 14", record, sizeof record, start_of(record), 16, plan, MAX_DEPTH + 1, answer(17, MAX_DEPTH, 0));
+    plan[32] = 1;
+    plan[33] = 254;
+    expect("33 moves", record, sizeof record, start_of(record), 16, plan, 34, answer(0, 33 * cost, 34));
+}
+
+/* Move 0 arrives or leads back, so a plan is the bytes 0, 254 over and over. Moves of paths that ended do not count. */
+static void test_depth_of_branches(void) {
+    static uint8_t record[PLANNER_RECORD_SIZE], plan[2 * MAX_DEPTH + 3];
+    clear_record(record);
+    add_variable(record, 2);
+    int turn = add_move(record, 0, 0), last = add_move(record, 0, 0);
+    add_outcome(record, turn, 0, 1);
+    add_outcome(record, turn, 0, 0);
+    add_outcome(record, last, 0, 1);
+    *cost_of(record, turn) = 2;
+    *cost_of(record, last) = 255;
+    goal_of(record)[0] = 1;
+    for (int i = 0; i <= MAX_DEPTH; i++) {
+        plan[2 * i] = 0;
+        plan[2 * i + 1] = 254;
+    }
+    expect("a 256th move aside", record, sizeof record, start_of(record), 16, plan, 2 * MAX_DEPTH + 2, answer(17, 2 * MAX_DEPTH, 0));
+    plan[2 * MAX_DEPTH - 2] = 1;
+    uint64_t cost = 2 * (MAX_DEPTH - 1) + 255, length = 2 * MAX_DEPTH;
+    expect("255 moves aside", record, sizeof record, start_of(record), 16, plan, length, answer(0, cost, length));
+    expect("a byte after them", record, sizeof record, start_of(record), 16, plan, length + 1, answer(16, length, 0));
+    expect("and before their end", record, sizeof record, start_of(record), 16, plan, length - 1, answer(12, length - 1, 0));
 }
 
 static void test_slices(void) {
@@ -237,7 +335,7 @@ static void test_slices(void) {
 #define CHECK(what, length, state_length, number, second) \
     expect(what, record, length, state, state_length, sample_plan, 7, answer(number, second, 0))
     CHECK("an empty record", 0, 16, 5, 0);
-    CHECK("a short record", PLANNER_RECORD_SIZE - 1, 16, 5, PLANNER_RECORD_SIZE - 1);
+    for (size_t length = 9464; length < 9528; length++) CHECK("a record without its costs", length, 16, 5, length);
     CHECK("a short record goes before a short state", 100, 15, 5, 100);
     CHECK("an empty state", PLANNER_RECORD_SIZE, 0, 10, 16);
     CHECK("a short state", PLANNER_RECORD_SIZE, 15, 10, 16);
@@ -259,9 +357,10 @@ static void test_record_cells(void) {
         int offset;
         uint8_t value;
         int told;
-    } bad[] = {{0, 0, 0},   {0, 17, 0},  {1, 65, 1},  {2, 9, 2},     {3, 33, 3},    {6, 255, 4},   {7, 1, 4},       {8, 1, 8},
-               {9, 17, 9},  {10, 2, 10}, {24, 4, 24}, {26, 0, 26},   {40, 4, 40},   {40, 255, 40}, {55, 0, 55},     {56, 2, 56},
-               {58, 1, 58}, {88, 1, 88}, {184, 0, 184}, {184, 9, 184}, {185, 4, 185}, {217, 0, 217}, {764, 1, 764}, {9463, 0, 9463}};
+    } bad[] = {{0, 0, 0},   {0, 17, 0},  {1, 65, 1},  {2, 9, 2},     {6, 255, 4},   {7, 1, 4},     {8, 1, 8},     {9, 17, 9},
+               {10, 2, 10}, {24, 4, 24}, {26, 0, 26}, {40, 4, 40},   {40, 255, 40}, {55, 0, 55},   {56, 2, 56},   {58, 1, 58},
+               {88, 1, 88}, {184, 0, 184}, {184, 9, 184}, {185, 4, 185}, {217, 0, 217}, {764, 1, 764}, {9463, 0, 9463}, {9464, 0, 9464},
+               {9467, 0, 9467}, {9468, 1, 9468}, {9468, 255, 9468}, {9527, 1, 9527}, {9527, 255, 9527}};
     static uint8_t record[PLANNER_RECORD_SIZE];
     uint8_t state[16];
     char what[64];
@@ -273,6 +372,13 @@ static void test_record_cells(void) {
         snprintf(what, sizeof what, "record cell %d holds %d", bad[i].offset, bad[i].value);
         expect(what, record, sizeof record, state, 16, sample_plan, 7, answer(6, (uint64_t)bad[i].told, 0));
         expect("6 goes before 10", record, sizeof record, state, 3, sample_plan, 7, answer(6, (uint64_t)bad[i].told, 0));
+        if (bad[i].offset < 9527) record[9527] = 7;
+        expect("the lowest of two", record, sizeof record, state, 16, sample_plan, 7, answer(6, (uint64_t)bad[i].told, 0));
+    }
+    for (int limit = 0; limit < 256; limit++) {
+        sample_record(record);
+        record[3] = (uint8_t)limit;
+        expect("any limit", record, sizeof record, state, 16, sample_plan, 7, answer(0, 4, 7));
     }
 }
 
@@ -288,6 +394,14 @@ static uint32_t draw(uint32_t below) {
     return (uint32_t)((seed * 2685821657736338717u) >> 33) % below;
 }
 
+/* A cost for each move: all 1, all the same, small, large, or any. */
+static void random_costs(uint8_t *record) {
+    uint32_t kind = draw(5), same = 1 + draw(255);
+    for (int m = 0; m < record[1]; m++)
+        *cost_of(record, m) =
+            (uint8_t)(kind == 0 ? 1 : kind == 1 ? same : kind == 2 ? 1 + draw(4) : kind == 3 ? 200 + draw(56) : 1 + draw(255));
+}
+
 /* A random sound record. Most values are 0 or 1, needs name little, and outcomes and goals name 1, so that many plans arrive. */
 static void random_record(uint8_t *record) {
     clear_record(record);
@@ -301,6 +415,7 @@ static void random_record(uint8_t *record) {
         }
     }
     for (uint32_t g = draw(9) ? 1 + draw(2) : draw(9); g > 0; g--) goal_of(record)[draw(variables)] = draw(9) != 0;
+    random_costs(record);
 }
 
 /* A move that applies, each as likely as the others; the number of moves if there is none. */
@@ -312,18 +427,17 @@ static int random_move(uint8_t *record, const uint8_t *state) {
 }
 
 /* Bytes for the pending states one after the other: 254 at a goal, elsewhere a move that applies; one in `odd` is any byte. It ends with a
- * byte that is wrong where no move applies, or where the path is too long. */
-static size_t random_plan(uint8_t *record, const uint8_t *state, uint8_t *plan, size_t room, uint32_t odd) {
+ * byte that is wrong where no move applies, or with a move after `most` moves on the path, which from 255 on is wrong too. */
+static size_t random_plan(uint8_t *record, const uint8_t *state, uint8_t *plan, size_t room, uint32_t odd, int most) {
     int top = 1;
     size_t length = 0;
-    memcpy(stack[0].state, state, 16);
-    stack[0].moves = 0;
+    begin(state);
     while (top > 0 && length < room) {
         const struct pending *now = &stack[top - 1];
         int arrived = meets(goal_of(record), now->state);
         int byte = arrived ? PLANNER_ARRIVED : random_move(record, now->state);
         plan[length++] = odd && !draw(odd) ? (uint8_t)draw(256) : (uint8_t)byte;
-        if (!arrived && (byte == record[1] || now->moves >= MAX_DEPTH)) break;
+        if (!arrived && (byte == record[1] || now->moves >= most)) break;
         top = arrived ? top - 1 : push_outcomes(record, byte, top);
     }
     return length;
@@ -336,9 +450,28 @@ static void test_random_tasks(int tasks) {
         random_record(record);
         memset(state, NONE, sizeof state);
         for (int v = 0; v < record[0]; v++) state[v] = (uint8_t)draw(draw(3) ? 2 : record[8 + v]);
-        size_t length = random_plan(record, state, plan, draw(8) ? sizeof plan : draw(64), draw(2) ? 0 : 1 + draw(200));
+        size_t length = random_plan(record, state, plan, draw(8) ? sizeof plan : draw(64), draw(2) ? 0 : 1 + draw(200),
+                                    draw(16) ? 32 : MAX_DEPTH);
         if (!draw(10) && length < sizeof plan) plan[length++] = (uint8_t)draw(256);
         compare("a random plan of a random task", record, state, plan, length);
+    }
+}
+
+/* Plans of up to 256 moves depth: valid ones, but for those from the lowest level, some with a byte changed, and some cut short. */
+static void test_deep_plans(int plans) {
+    static uint8_t record[PLANNER_RECORD_SIZE], plan[4096];
+    uint8_t state[16];
+    deep_record(record);
+    for (int i = 0; i < plans; i++) {
+        random_costs(record);
+        memcpy(state, start_of(record), 16);
+        state[0] = (uint8_t)(draw(3) ? draw(2) : draw(16));
+        state[1] = (uint8_t)(draw(3) ? 0 : draw(16));
+        size_t length = random_plan(record, state, plan, sizeof plan, 0, MAX_DEPTH);
+        compare("a deep plan", record, state, plan, length);
+        compare("a deep plan cut short", record, state, plan, draw((uint32_t)length));
+        plan[draw((uint32_t)length)] = (uint8_t)(draw(4) ? draw(record[1]) : draw(256));
+        compare("a deep plan with a byte changed", record, state, plan, length);
     }
 }
 
@@ -350,7 +483,8 @@ static void test_long_plans(int levels) {
     if (!plan) exit(2);
     level_record(record, levels);
     for (int i = 0; i < 4; i++) {
-        size_t length = random_plan(record, start_of(record), plan, room, 0);
+        random_costs(record);
+        size_t length = random_plan(record, start_of(record), plan, room, 0, MAX_DEPTH);
         compare("a long random plan", record, start_of(record), plan, length);
         plan[draw((uint32_t)length)] = (uint8_t)draw(256);
         compare("a long random plan with a byte changed", record, start_of(record), plan, length);
@@ -373,10 +507,15 @@ int main(int argc, char **argv) {
         return 2;
     }
     test_sample();
-    test_depth();
+    test_costs();
+    test_dearest_path();
+    test_depth(1);
+    test_depth(255);
+    test_depth_of_branches();
     test_slices();
     test_record_cells();
     test_random_tasks(levels > 15 ? 20000 : 500);
+    test_deep_plans(levels > 15 ? 1000 : 50);
     test_long_plans(levels);
     printf("check_plan_test: %d comparisons, %d failures\n", comparisons, failures);
     return failures != 0;

@@ -5,7 +5,7 @@ use std::fs;
 use std::path::{Path, PathBuf};
 
 const ARCHIVE: &str = "libplanner.a";
-const ENTRIES: [&str; 9] = [
+const ENTRIES: [&str; 10] = [
     "planner_read_text",
     "planner_check_record",
     "planner_check_state",
@@ -15,6 +15,7 @@ const ENTRIES: [&str; 9] = [
     "planner_value",
     "planner_search",
     "planner_check_plan",
+    "planner_upgrade_record",
 ];
 
 /// PLANNER_LIB names the archive or its directory; without it the archive of

@@ -54,7 +54,7 @@ pub unsafe extern "C" fn planner_check_state(
 pub unsafe extern "C" fn planner_build_tables(
     record: *const u8,
     r: usize,
-    tables: *mut u16,
+    tables: *mut u32,
     t: usize,
 ) -> Answer {
     unsafe { Brute.build_tables(lent(record, r), lent_mut(tables, t)) }
@@ -67,7 +67,7 @@ pub unsafe extern "C" fn planner_spread(
     record: *const u8,
     r: usize,
     pattern: u64,
-    tables: *mut u16,
+    tables: *mut u32,
     t: usize,
     row: *mut u32,
     c: usize,
@@ -93,7 +93,7 @@ pub unsafe extern "C" fn planner_value(
     r: usize,
     state: *const u8,
     s: usize,
-    tables: *const u16,
+    tables: *const u32,
     t: usize,
 ) -> Answer {
     unsafe {
@@ -108,7 +108,7 @@ pub unsafe extern "C" fn planner_value(
 pub unsafe extern "C" fn planner_search(
     record: *const u8,
     r: usize,
-    tables: *mut u16,
+    tables: *mut u32,
     t: usize,
     plan: *mut u8,
     p: usize,
@@ -134,4 +134,16 @@ pub unsafe extern "C" fn planner_check_plan(
         let (record, state) = (lent(record, r), lent(state, s));
         Brute.check_plan(record, state, lent(plan, p))
     }
+}
+
+/// # Safety
+/// As above.
+#[unsafe(no_mangle)]
+pub unsafe extern "C" fn planner_upgrade_record(
+    old: *const u8,
+    o: usize,
+    record: *mut u8,
+    r: usize,
+) -> Answer {
+    unsafe { Brute.upgrade_record(lent(old, o), lent_mut(record, r)) }
 }

@@ -1,4 +1,4 @@
-//! Answers as numbers: what the nine entries return.
+//! Answers as numbers: what the ten entries return.
 
 /// Why a call says no; the discriminant is the number of the table.
 #[derive(Clone, Copy, Debug, PartialEq, Eq)]

@@ -11,6 +11,7 @@ pub mod spread;
 pub mod state;
 pub mod tables;
 pub mod task;
+pub mod upgrade;
 pub mod value;
 
 use crate::answer::{Answer, Refusal};
@@ -18,7 +19,7 @@ use crate::planner::Planner;
 use search::Ending;
 use value::Verdict;
 
-/// The reference as a planner with the nine entries.
+/// The reference as a planner with the ten entries.
 pub struct Brute;
 
 /// Refusals and answers in one form.
@@ -43,13 +44,13 @@ impl Planner for Brute {
         answer(state::check_state(record, state), done)
     }
 
-    fn build_tables(&self, record: &[u8], tables: &mut [u16]) -> Answer {
+    fn build_tables(&self, record: &[u8], tables: &mut [u32]) -> Answer {
         answer(tables::build_tables(record, tables), |written| {
             Answer::kind(0, written as u64, 0, 0)
         })
     }
 
-    fn spread(&self, record: &[u8], pattern: u64, tables: &mut [u16], row: &mut [u32]) -> Answer {
+    fn spread(&self, record: &[u8], pattern: u64, tables: &mut [u32], row: &mut [u32]) -> Answer {
         answer(spread::spread(record, pattern, tables, row), |states| {
             Answer::kind(0, states as u64, 0, 0)
         })
@@ -64,20 +65,20 @@ impl Planner for Brute {
         })
     }
 
-    fn value(&self, record: &[u8], state: &[u8], tables: &[u16]) -> Answer {
+    fn value(&self, record: &[u8], state: &[u8], tables: &[u32]) -> Answer {
         answer(value::value(record, state, tables), |value| match value {
-            Some(value) => Answer::kind(0, value.into(), 0, 0),
+            Some(value) => Answer::kind(0, value, 0, 0),
             None => Answer::kind(1, 0, 0, 0),
         })
     }
 
-    fn search(&self, record: &[u8], tables: &mut [u16], plan: &mut [u8]) -> Answer {
+    fn search(&self, record: &[u8], tables: &mut [u32], plan: &mut [u8]) -> Answer {
         answer(search::search(record, tables, plan), |report| {
             let count = report.count.into();
             match report.ending {
-                Ending::Found(plan) => {
+                Ending::Found { plan, cost } => {
                     let length = plan.bytes().len() as u64;
-                    Answer::kind(0, plan.cost().into(), count, length)
+                    Answer::kind(0, cost.into(), count, length)
                 }
                 Ending::Over => Answer::kind(1, 0, count, 0),
                 Ending::Spent { round } => Answer::kind(2, round.into(), count, 0),
@@ -90,5 +91,9 @@ impl Planner for Brute {
         answer(plan::check_plan(record, state, plan), |passed| {
             Answer::kind(0, passed.cost as u64, passed.length as u64, 0)
         })
+    }
+
+    fn upgrade_record(&self, old: &[u8], record: &mut [u8]) -> Answer {
+        answer(upgrade::upgrade_record(old, record), done)
     }
 }

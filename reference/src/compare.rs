@@ -2,10 +2,13 @@
 //! with everything the lent slices hold afterwards.
 
 pub mod cases;
+pub mod costs;
+pub mod counts;
 pub mod fixed;
 pub mod restated;
 pub mod spreads;
 pub mod sums;
+pub mod upgrades;
 pub mod verdicts;
 
 use std::collections::BTreeMap;
@@ -16,9 +19,10 @@ use crate::brute::Brute;
 use crate::brute::task::Task;
 use crate::demand;
 use crate::planner::Planner;
+use counts::Counts;
 use verdicts::Verdicts;
 
-/// The nine entries.
+/// The ten entries.
 #[derive(Clone, Copy, Debug, PartialEq, Eq, PartialOrd, Ord)]
 pub enum Entry {
     ReadText,
@@ -30,6 +34,7 @@ pub enum Entry {
     Value,
     Search,
     CheckPlan,
+    UpgradeRecord,
 }
 
 /// Cells before and after each lent slice that no call may touch.
@@ -39,10 +44,12 @@ pub const GUARD: usize = 32;
 #[derive(Clone, Debug, Default, PartialEq, Eq)]
 pub struct Slices {
     pub text: Vec<u8>,
+    /// A stored record, of the first form.
+    pub old: Vec<u8>,
     pub record: Vec<u8>,
     pub state: Vec<u8>,
-    pub tables: Vec<u16>,
-    pub row: Vec<u32>,
+    pub tables: Vec<u32>,
+    pub row: Counts,
     pub plan: Vec<u8>,
 }
 
@@ -64,10 +71,11 @@ impl Slices {
     fn guarded(&self) -> Self {
         Self {
             text: guarded(&self.text, 0xa5),
+            old: guarded(&self.old, 0xa5),
             record: guarded(&self.record, 0xa5),
             state: guarded(&self.state, 0xa5),
-            tables: guarded(&self.tables, 0xa5a5),
-            row: guarded(&self.row, 0xa5a5_a5a5),
+            tables: guarded(&self.tables, 0xa5a5_a5a5),
+            row: self.row.within(0xa5a5_a5a5, GUARD),
             plan: guarded(&self.plan, 0xa5),
         }
     }
@@ -96,7 +104,7 @@ impl Made {
     }
 
     /// The lent tables without their guards.
-    pub fn lent_tables(&self) -> &[u16] {
+    pub fn lent_tables(&self) -> &[u32] {
         within(&self.left.tables)
     }
 
@@ -121,6 +129,7 @@ impl Call {
     pub fn made(&self, planner: &dyn Planner) -> Made {
         let mut left = self.slices.guarded();
         let text = lent(&mut left.text);
+        let old = lent(&mut left.old);
         let record = lent(&mut left.record);
         let state = lent(&mut left.state);
         let tables = lent(&mut left.tables);
@@ -136,6 +145,7 @@ impl Call {
             Entry::Value => planner.value(record, state, tables),
             Entry::Search => planner.search(record, tables, plan),
             Entry::CheckPlan => planner.check_plan(record, state, plan),
+            Entry::UpgradeRecord => planner.upgrade_record(old, record),
         };
         Made { answer, left }
     }
@@ -162,6 +172,7 @@ impl fmt::Display for Slices {
             writeln!(out, "  text as string: {:?}", String::from_utf8_lossy(&self.text))?;
         }
         writeln!(out, "  text   ({}): {}", self.text.len(), runs(&self.text))?;
+        writeln!(out, "  old    ({}): {}", self.old.len(), runs(&self.old))?;
         writeln!(out, "  record ({}): {}", self.record.len(), runs(&self.record))?;
         writeln!(out, "  state  ({}): {}", self.state.len(), runs(&self.state))?;
         writeln!(out, "  tables ({}): {}", self.tables.len(), runs(&self.tables))?;
@@ -205,6 +216,7 @@ fn difference(call: &Call, expected: &Made, got: &Made) -> String {
         format!("{:?} differs; it was lent\n{call}", call.entry),
         format!("expected {:?}\n     got {:?}\n", expected.answer, got.answer),
         first_cell("text", &left.text, &right.text),
+        first_cell("old", &left.old, &right.old),
         first_cell("record", &left.record, &right.record),
         first_cell("state", &left.state, &right.state),
         first_cell("tables", &left.tables, &right.tables),

@@ -29,7 +29,7 @@ struct Trial<'a> {
     planner: &'a dyn Planner,
     task: &'a Task,
     record: Vec<u8>,
-    tables: Vec<u16>,
+    tables: Vec<u32>,
     costs: Vec<u32>,
 }
 

@@ -4,6 +4,7 @@
 
 mod bits;
 mod compiled;
+mod front;
 mod layout;
 mod patterns;
 mod plan;
@@ -43,7 +44,7 @@ impl Planner for Fast {
         answer(state, |_| Answer::default())
     }
 
-    fn build_tables(&self, record: &[u8], tables: &mut [u16]) -> Answer {
+    fn build_tables(&self, record: &[u8], tables: &mut [u32]) -> Answer {
         let built = record::check(record).and_then(|record| {
             let spaces = patterns::spaces(&record, tables.len())?;
             table::build(&record, &spaces, tables);
@@ -52,7 +53,7 @@ impl Planner for Fast {
         answer(built, |entries| Answer::kind(0, entries as u64, 0, 0))
     }
 
-    fn spread(&self, record: &[u8], pattern: u64, tables: &mut [u16], row: &mut [u32]) -> Answer {
+    fn spread(&self, record: &[u8], pattern: u64, tables: &mut [u32], row: &mut [u32]) -> Answer {
         let counted = record::check(record).and_then(|record| {
             let spaces = patterns::spaces(&record, tables.len())?;
             let row = spread::counts(row)?;
@@ -72,19 +73,19 @@ impl Planner for Fast {
         })
     }
 
-    fn value(&self, record: &[u8], state: &[u8], tables: &[u16]) -> Answer {
+    fn value(&self, record: &[u8], state: &[u8], tables: &[u32]) -> Answer {
         let value = record::check(record).and_then(|record| {
             let spaces = patterns::spaces(&record, tables.len())?;
             patterns::demand_additive(&record)?;
             Ok(spaces.value(record.state(state)?, tables))
         });
         answer(value, |value| match value {
-            Some(value) => Answer::kind(0, value.into(), 0, 0),
+            Some(value) => Answer::kind(0, value, 0, 0),
             None => Answer::kind(1, 0, 0, 0),
         })
     }
 
-    fn search(&self, record: &[u8], tables: &mut [u16], plan: &mut [u8]) -> Answer {
+    fn search(&self, record: &[u8], tables: &mut [u32], plan: &mut [u8]) -> Answer {
         let report = record::check(record).and_then(|record| {
             let spaces = patterns::spaces(&record, tables.len())?;
             patterns::demand_additive(&record)?;
@@ -110,5 +111,9 @@ impl Planner for Fast {
             plan::check(&record, *state, plan)
         });
         answer(passed, |cost| Answer::kind(0, cost.into(), plan.len() as u64, 0))
+    }
+
+    fn upgrade_record(&self, old: &[u8], record: &mut [u8]) -> Answer {
+        answer(record::upgrade(old, record), |()| Answer::default())
     }
 }

@@ -21,14 +21,14 @@ unsafe extern "C" {
     fn planner_build_tables(
         record: *const u8,
         record_length: usize,
-        tables: *mut u16,
+        tables: *mut u32,
         tables_length: usize,
     ) -> Answer;
     fn planner_spread(
         record: *const u8,
         record_length: usize,
         pattern: u64,
-        tables: *mut u16,
+        tables: *mut u32,
         tables_length: usize,
         row: *mut u32,
         row_length: usize,
@@ -39,13 +39,13 @@ unsafe extern "C" {
         record_length: usize,
         state: *const u8,
         state_length: usize,
-        tables: *const u16,
+        tables: *const u32,
         tables_length: usize,
     ) -> Answer;
     fn planner_search(
         record: *const u8,
         record_length: usize,
-        tables: *mut u16,
+        tables: *mut u32,
         tables_length: usize,
         plan: *mut u8,
         plan_length: usize,
@@ -57,6 +57,12 @@ unsafe extern "C" {
         state_length: usize,
         plan: *const u8,
         plan_length: usize,
+    ) -> Answer;
+    fn planner_upgrade_record(
+        old: *const u8,
+        old_length: usize,
+        record: *mut u8,
+        record_length: usize,
     ) -> Answer;
 }
 
@@ -103,14 +109,14 @@ impl Planner for Library {
         )
     }
 
-    fn build_tables(&self, record: &[u8], tables: &mut [u16]) -> Answer {
+    fn build_tables(&self, record: &[u8], tables: &mut [u32]) -> Answer {
         entry!(
             "planner_build_tables",
             planner_build_tables(record.as_ptr(), record.len(), tables.as_mut_ptr(), tables.len())
         )
     }
 
-    fn spread(&self, record: &[u8], pattern: u64, tables: &mut [u16], row: &mut [u32]) -> Answer {
+    fn spread(&self, record: &[u8], pattern: u64, tables: &mut [u32], row: &mut [u32]) -> Answer {
         entry!(
             "planner_spread",
             planner_spread(
@@ -129,7 +135,7 @@ impl Planner for Library {
         entry!("planner_additive", planner_additive(record.as_ptr(), record.len()))
     }
 
-    fn value(&self, record: &[u8], state: &[u8], tables: &[u16]) -> Answer {
+    fn value(&self, record: &[u8], state: &[u8], tables: &[u32]) -> Answer {
         entry!(
             "planner_value",
             planner_value(
@@ -143,7 +149,7 @@ impl Planner for Library {
         )
     }
 
-    fn search(&self, record: &[u8], tables: &mut [u16], plan: &mut [u8]) -> Answer {
+    fn search(&self, record: &[u8], tables: &mut [u32], plan: &mut [u8]) -> Answer {
         entry!(
             "planner_search",
             planner_search(
@@ -168,6 +174,13 @@ impl Planner for Library {
                 plan.as_ptr(),
                 plan.len(),
             )
+        )
+    }
+
+    fn upgrade_record(&self, old: &[u8], record: &mut [u8]) -> Answer {
+        entry!(
+            "planner_upgrade_record",
+            planner_upgrade_record(old.as_ptr(), old.len(), record.as_mut_ptr(), record.len())
         )
     }
 }

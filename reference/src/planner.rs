@@ -1,4 +1,4 @@
-//! The nine entries as a trait, so that any two makes can be compared.
+//! The ten entries as a trait, so that any two makes can be compared.
 
 use crate::answer::Answer;
 
@@ -6,10 +6,11 @@ pub trait Planner {
     fn read_text(&self, text: &[u8], record: &mut [u8]) -> Answer;
     fn check_record(&self, record: &[u8]) -> Answer;
     fn check_state(&self, record: &[u8], state: &[u8]) -> Answer;
-    fn build_tables(&self, record: &[u8], tables: &mut [u16]) -> Answer;
-    fn spread(&self, record: &[u8], pattern: u64, tables: &mut [u16], row: &mut [u32]) -> Answer;
+    fn build_tables(&self, record: &[u8], tables: &mut [u32]) -> Answer;
+    fn spread(&self, record: &[u8], pattern: u64, tables: &mut [u32], row: &mut [u32]) -> Answer;
     fn additive(&self, record: &[u8]) -> Answer;
-    fn value(&self, record: &[u8], state: &[u8], tables: &[u16]) -> Answer;
-    fn search(&self, record: &[u8], tables: &mut [u16], plan: &mut [u8]) -> Answer;
+    fn value(&self, record: &[u8], state: &[u8], tables: &[u32]) -> Answer;
+    fn search(&self, record: &[u8], tables: &mut [u32], plan: &mut [u8]) -> Answer;
     fn check_plan(&self, record: &[u8], state: &[u8], plan: &[u8]) -> Answer;
+    fn upgrade_record(&self, old: &[u8], record: &mut [u8]) -> Answer;
 }

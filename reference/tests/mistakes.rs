@@ -36,7 +36,7 @@ const MAY_DO_NOTHING: &str = "vars=2\nsize=2\nsize=2\nmoves=1\nneed=\noutcomes=2
 #[test]
 fn an_outcome_that_changes_nothing_stays() {
     // In the abstraction the second outcome names nothing and leads back.
-    assert_eq!(build(MAY_DO_NOTHING), [65_535, 0]);
+    assert_eq!(build(MAY_DO_NOTHING), [u32::MAX, 0]);
     assert_eq!(search(MAY_DO_NOTHING), Answer::kind(3, 0, 0, 0));
 }
 
@@ -48,7 +48,7 @@ const PAST_THE_GOAL: &str = "vars=2\nsize=4\nsize=2\nmoves=4\nneed=0:0\noutcomes
 
 #[test]
 fn states_past_an_abstract_goal_have_their_value() {
-    assert_eq!(build(PAST_THE_GOAL), [1, 0, 1, 65_535, 1, 0]);
+    assert_eq!(build(PAST_THE_GOAL), [1, 0, 1, u32::MAX, 1, 0]);
     // 0 to 1, the abstract goal, on to 2, variable 1 set there, and back.
     let mut plan = [0; 5];
     let answer = Brute.search(&record(PAST_THE_GOAL), &mut [0; 6], &mut plan);

@@ -91,7 +91,7 @@ fn range_of_a_number() {
     assert_read(3, 4, &lines(4, &["moves=65"]));
     assert_read(3, 6, &lines(6, &["outcomes=0", "outcomes=9"]));
     assert_read(3, 20, &lines(20, &["patterns=9"]));
-    assert_read(3, 23, &lines(23, &["limit=33"]));
+    assert_read(3, 23, &lines(23, &["limit=256", "limit=9999999"]));
     assert_read(3, 24, &lines(24, &["budget=1000001"]));
     assert_eq!(read(&with_line(24, "budget=1000000")), Answer::default());
 }
@@ -115,9 +115,9 @@ fn lowest_line_goes_first() {
 
 #[test]
 fn short_record_in_every_entry() {
-    let record = &record(&sample())[..9_463];
-    let (state, answer) = (start(&sample()), refused(5, 9_463));
-    assert_eq!(Brute.read_text(b"", &mut [0; 9_463]), answer);
+    let record = &record(&sample())[..9_527];
+    let (state, answer) = (start(&sample()), refused(5, 9_527));
+    assert_eq!(Brute.read_text(b"", &mut [0; 9_527]), answer);
     assert_eq!(Brute.check_record(record), answer);
     assert_eq!(Brute.check_state(record, &[]), answer);
     assert_eq!(Brute.build_tables(record, &mut []), answer);
@@ -143,7 +143,6 @@ fn cells_outside_their_rule() {
         (0, 17),
         (1, 65),
         (2, 9),
-        (3, 33),
         (8, 1),
         (8, 17),
         (9, 0),
@@ -168,6 +167,11 @@ fn cells_outside_their_rule() {
         (765, 0),
         (781, 0),
         (9_463, 0),
+        (9_464, 0),
+        (9_467, 0),
+        (9_468, 1),
+        (9_468, 255),
+        (9_527, 1),
     ];
     for (offset, held) in faults {
         let answer = refused(6, offset as u64);
@@ -191,13 +195,13 @@ fn a_longer_record_passes() {
     longer.push(77);
     assert_eq!(Brute.check_record(&longer), Answer::default());
     assert_eq!(Brute.read_text(sample().as_bytes(), &mut longer), Answer::default());
-    assert_eq!(longer[9_464..], [77]);
+    assert_eq!(longer[9_528..], [77]);
 }
 
 #[test]
 fn faulty_record_before_everything_else() {
-    let record = cell(3, 99);
-    let answer = refused(6, 3);
+    let record = cell(2, 99);
+    let answer = refused(6, 2);
     assert_eq!(Brute.check_state(&record, &[]), answer);
     assert_eq!(Brute.build_tables(&record, &mut []), answer);
     assert_eq!(Brute.spread(&record, 0, &mut [], &mut []), answer);
@@ -290,15 +294,15 @@ fn turns(number: usize) -> Vec<u8> {
 }
 
 #[test]
-fn a_move_after_thirty_two_moves() {
-    let deepest = [turns(31), vec![2, 254]].concat();
-    assert_eq!(check(TURNTABLE, &deepest), Answer::kind(0, 32, 33, 0));
-    assert_eq!(check(TURNTABLE, &[turns(32), vec![2, 254]].concat()), refused(17, 32));
+fn a_move_after_as_many_as_a_path_may_have() {
+    let deepest = [turns(254), vec![2, 254]].concat();
+    assert_eq!(check(TURNTABLE, &deepest), Answer::kind(0, 255, 256, 0));
+    assert_eq!(check(TURNTABLE, &[turns(255), vec![2, 254]].concat()), refused(17, 255));
     // Depth goes before applicability, but after the other two.
-    assert_eq!(check(TURNTABLE, &[turns(32), vec![1]].concat()), refused(17, 32));
-    assert_eq!(check(TURNTABLE, &[turns(32), vec![254]].concat()), refused(15, 32));
-    assert_eq!(check(TURNTABLE, &[turns(32), vec![3]].concat()), refused(13, 32));
-    assert_eq!(check(TURNTABLE, &turns(32)), refused(12, 32));
-    assert_eq!(check(TURNTABLE, &[turns(31), vec![2, 2]].concat()), refused(17, 32));
+    assert_eq!(check(TURNTABLE, &[turns(255), vec![1]].concat()), refused(17, 255));
+    assert_eq!(check(TURNTABLE, &[turns(255), vec![254]].concat()), refused(15, 255));
+    assert_eq!(check(TURNTABLE, &[turns(255), vec![3]].concat()), refused(13, 255));
+    assert_eq!(check(TURNTABLE, &turns(255)), refused(12, 255));
+    assert_eq!(check(TURNTABLE, &[turns(254), vec![2, 2]].concat()), refused(17, 255));
     assert_eq!(check(TURNTABLE, &[2, 2]), refused(14, 1));
 }

@@ -64,8 +64,12 @@ fn limit_three_is_over() {
 }
 
 #[test]
-fn limit_thirty_three_is_refused() {
-    let text = changed("limit=32", "limit=33");
+fn limit_two_hundred_and_fifty_six_is_refused() {
+    for limit in [33, 255] {
+        let text = changed("limit=32", &format!("limit={limit}"));
+        assert_eq!(printed(&text), printed(&sample()));
+    }
+    let text = changed("limit=32", "limit=256");
     assert_eq!(read(&text), refused(3, 23));
     assert_eq!(printed(&text), "refused=3/at=23/");
 }
@@ -73,7 +77,7 @@ fn limit_thirty_three_is_refused() {
 #[test]
 fn falling_back_to_the_store_leaves_no_plan() {
     let text = changed("eff=0:3", "eff=0:0");
-    assert_eq!(build(&text)[..4], [65_535, 65_535, 0, 1]);
+    assert_eq!(build(&text)[..4], [u32::MAX, u32::MAX, 0, 1]);
     assert_eq!(search(&text), Answer::kind(3, 0, 0, 0));
     assert_eq!(printed(&text), "value=infinite/answer=none/count=0/");
 }

@@ -68,8 +68,12 @@ fn any_other_ending_leaves_255_in_the_plan() {
 #[test]
 fn value_on_any_tables() {
     let (record, state) = (record(&sample()), common::start(&sample()));
-    let value = |tables: &[u16]| Brute.value(&record, &state, tables);
+    let value = |tables: &[u32]| Brute.value(&record, &state, tables);
+    let last = u32::MAX - 1;
+    assert_eq!(value(&[last, 0, 0, 0, last, 0]), Answer::kind(0, 8_589_934_588, 0, 0));
     assert_eq!(value(&[65_534, 0, 0, 0, 65_534, 0]), Answer::kind(0, 131_068, 0, 0));
-    assert_eq!(value(&[0, 0, 0, 0, 65_535, 0]), Answer::kind(1, 0, 0, 0));
-    assert_eq!(value(&[65_535, 0, 0, 0, 1, 0]), Answer::kind(1, 0, 0, 0));
+    assert_eq!(value(&[0, 0, 0, 0, u32::MAX, 0]), Answer::kind(1, 0, 0, 0));
+    assert_eq!(value(&[u32::MAX, 0, 0, 0, 1, 0]), Answer::kind(1, 0, 0, 0));
+    // What was infinite in 16 bits is a number like any other.
+    assert_eq!(value(&[65_535, 0, 0, 0, 1, 0]), Answer::kind(0, 65_536, 0, 0));
 }

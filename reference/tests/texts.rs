@@ -2,6 +2,7 @@
 
 use reference::answer::Answer;
 use reference::brute::record::{self, LENGTH};
+use reference::brute::task::Task;
 use reference::brute::{Brute, reader};
 use reference::generate::{Random, damage, tasks, text};
 use reference::planner::Planner;
@@ -12,8 +13,10 @@ const SEED: u64 = 77;
 fn generated_texts_read_back() {
     for case in 0..3_000 {
         let task = tasks::any(&mut Random::of_case(SEED, case));
-        for last_break in [true, false] {
-            let text = text::text(&task, last_break);
+        for (number, last_break) in [true, false, true, false].into_iter().enumerate() {
+            // Costs of 1 left out, and written for some of the moves.
+            let written = |action: usize| number > 1 && (case as usize + action) % number == 0;
+            let text = text::text_with(&task, written, last_break);
             assert_eq!(reader::parse(&text).as_ref(), Ok(&task), "case {case}");
             let mut record = vec![0; LENGTH];
             assert_eq!(Brute.read_text(&text, &mut record), Answer::default());
@@ -22,17 +25,29 @@ fn generated_texts_read_back() {
     }
 }
 
-/// Texts have one form only: what still reads is the text of the task read.
+/// The text of a task with a line for each cost that another text has one for.
+fn with_the_lines_of(other: &[u8], task: &Task, last_break: bool) -> Vec<u8> {
+    let lines: Vec<&[u8]> = other.split(|&byte| byte == b'\n').collect();
+    let needs = (0..lines.len()).filter(|&line| lines[line].starts_with(b"need="));
+    let is_cost = |need: usize| lines[need + 1].starts_with(b"cost=");
+    let written: Vec<bool> = needs.map(is_cost).collect();
+    text::text_with(task, |action| written[action], last_break)
+}
+
+/// But for lines of costs that may be left out, texts have one form only: what
+/// still reads is the text of the task read.
 #[test]
 fn a_damaged_text_is_refused_or_is_another_text() {
     let (mut sound, mut refused) = (0, [0; 5]);
     for case in 0..10_000 {
         let mut random = Random::of_case(SEED + 1, case);
-        let whole = text::text(&tasks::small(&mut random), case % 2 == 0);
+        let written = |action: usize| (case as usize + action) % 3 == 0;
+        let whole = text::text_with(&tasks::small(&mut random), written, case % 2 == 0);
         let damaged = damage::text(&mut random, &whole);
         match reader::parse(&damaged) {
             Ok(task) => {
-                let again = [true, false].map(|last_break| text::text(&task, last_break));
+                let again = |last_break| with_the_lines_of(&damaged, &task, last_break);
+                let again = [true, false].map(again);
                 assert!(again.contains(&damaged), "case {case}");
                 sound += 1;
             }

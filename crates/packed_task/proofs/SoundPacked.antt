@@ -10,7 +10,7 @@ use Rattle.task_record.specs.Numbers as rec
 use Rattle.task_record.specs.Record.{Sound}
 use Rattle.task_record.specs.TaskOf.{cells_at, action_of, task_of}
 use Rattle.task_record.proofs.Fronts.{Unnamed}
-use Rattle.task_record.proofs.SoundTask.{Assigns, all_tabulate, actions_right, size_right, outcomes_right, goal_assigns, precondition_assigns, outcome_assigns, cell_of_part, sizes_length, assigns_fits, assigns_unnamed}
+use Rattle.task_record.proofs.SoundTask.{Assigns, all_tabulate, actions_right, size_right, outcomes_right, costs_right, goal_assigns, precondition_assigns, outcome_assigns, cell_of_part, sizes_length, assigns_fits, assigns_unnamed}
 use Rattle.packed_task.specs.Packable.{all_cells_fit, PackableOutcome, PackableAction, Packable}
 use Rattle.packed_task.specs.Packed.{outcome_count, action_weight, compiled, Readable}
 use Rattle.packed_task.proofs.Compiled.{outcome_count_is, action_weight_is}
@@ -65,7 +65,7 @@ module _ (r : List ℕ) (sound : Sound r) where
   }
 
   module _ (m : ℕ) (l : m < action_count r) where
-    -- What the words of an action say: its number of outcomes, and 1 for its weight.
+    -- What the words of an action say: its number of outcomes, and its cost for its weight.
     pub compiled_outcomes : outcome_count (compiled (task_of r)) m ≡ rec.outcome_count r m
     unfolding action_of
     compiled_outcomes = outcome_count_is (task_of r) sound_packable.actions_few m (rw (actions_length r) l)
@@ -74,7 +74,7 @@ module _ (r : List ℕ) (sound : Sound r) where
     pub compiled_outcomes_few : outcome_count (compiled (task_of r)) m ≤ 8
     compiled_outcomes_few = rw compiled_outcomes (outcomes_right r sound m l).1
 
-    pub compiled_weight : action_weight (compiled (task_of r)) m ≡ 1
+    pub compiled_weight : action_weight (compiled (task_of r)) m ≡ rec.action_cost r m
     unfolding action_of
     compiled_weight = action_weight_is (task_of r) sound_packable.actions_few m (rw (actions_length r) l) ∙ ap (λ a. a.weight) (action_at_lem r m l)
 
@@ -83,5 +83,6 @@ module _ (r : List ℕ) (sound : Sound r) where
     actions_few = actions_right r sound;
     outcomes_few = compiled_outcomes_few;
     outcomes_some = λ m l. rw (compiled_outcomes m l) (outcomes_right r sound m l).0;
-    weights_some = λ m l. let e = compiled_weight m l in omega (arith, e);
+    weights_some = λ m l. rw (compiled_weight m l) (costs_right r sound m l).0;
+    weights_few = λ m l. rw (compiled_weight m l) (costs_right r sound m l).1;
   }

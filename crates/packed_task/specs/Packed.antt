@@ -4,6 +4,7 @@ use Rattle.std.specs.Prelude.{ℕ, zero, suc, ◌+◌, ◌*◌, ◌/◌, ◌%◌
 use Rattle.planning.specs.Finite.{tabulate, chain}
 use Rattle.planning.specs.System.{System}
 use Rattle.planning.specs.Task.{Action, Task}
+use Rattle.planning.specs.Table.{most_weight}
 use Rattle.planning.specs.Pattern.{counted}
 use Rattle.packed_task.specs.declared.packed.DigitRule.{DigitRule}
 use Rattle.packed_task.specs.declared.packed.DigitRule.TheVariants.{Naming, Leaving, Setting, Low, Picking}
@@ -134,9 +135,11 @@ digit_by Setting x = setting x
 digit_by Low x = low x
 digit_by Picking x = picking x
 
--- The numbers of outcomes in a compiled task are such that they can be read, every action has an outcome, and none weighs nothing.
+-- The numbers of outcomes in a compiled task are such that they can be read, every action has an outcome, and none weighs nothing or more than the
+-- largest cost.
 pub record Readable (a : List ℕ) (actions : ℕ) : Type 0 where
   pub actions_few : actions ≤ 64
   pub outcomes_few : (m : ℕ) → m < actions → outcome_count a m ≤ 8
   pub outcomes_some : (m : ℕ) → m < actions → 1 ≤ outcome_count a m
   pub weights_some : (m : ℕ) → m < actions → 1 ≤ action_weight a m
+  pub weights_few : (m : ℕ) → m < actions → action_weight a m ≤ most_weight

@@ -10,7 +10,7 @@ use Rattle.planning.specs.Finite.{All, chain}
 use Rattle.planning.specs.Plan.{Plan, Strong, cost}
 use Rattle.planning.specs.Task.{Task, State, system}
 use Rattle.planning.specs.Pattern.{Additive}
-use Rattle.planning.specs.Table.{table, tables, entry_of, estimate, Small}
+use Rattle.planning.specs.Table.{table, tables, entry_of, estimate, Small, most_weight}
 use Rattle.planning.proofs.Table.{table-length, value_of_built}
 use Rattle.planning.proofs.Verdict.{verdict-additive}
 use Rattle.planning.proofs.Estimate.{built_value_admissible, built_value_infinite}
@@ -18,8 +18,8 @@ use Rattle.task_record.specs.Numbers.{action_count}
 use Rattle.task_record.specs.Record.{Sound}
 use Rattle.task_record.specs.State.{state_check}
 use Rattle.task_record.specs.TaskOf.{action_of, task_of, patterns_of, values_of}
-use Rattle.std.proofs.Common.{Ok, Some, None}
-use Rattle.task_record.proofs.SoundTask.{all_tabulate, sound_well_formed}
+use Rattle.std.proofs.Common.{Ok, Some, None, zero-add}
+use Rattle.task_record.proofs.SoundTask.{all_tabulate, costs_right, sound_well_formed}
 use Rattle.task_record.proofs.States.{checked_good, good_values}
 use Rattle.patterns.specs.Space.{entries_needed}
 use Rattle.patterns.specs.Additivity.{additivity_of}
@@ -35,10 +35,11 @@ built_length t [] = refl
 built_length t (p ∷ ps) = length-append (map entry_of (table t p)) (tables t ps)
     ∙ rw (length-map (table t p) entry_of, table-length t p (λ a. a.weight), built_length t ps)
 
--- Every action of a record counts 1.
-pub unit_weights : (r : List ℕ) → All (λ a. a.weight ≤ 1) (task_of r).actions
+-- No action of a sound record weighs more than the largest cost.
+pub light_weights : (r : List ℕ) → Sound r → All (λ a. a.weight ≤ most_weight) (task_of r).actions
 unfolding task_of action_of
-unit_weights r = all_tabulate (λ a. a.weight ≤ 1) (action_of r) 0 (action_count r) (λ i l. omega arith)
+light_weights r sound = all_tabulate (λ a. a.weight ≤ most_weight) (action_of r) 0 (action_count r)
+    (λ m l. rw (zero-add m) (costs_right r sound m l).1)
 
 module _ (r s rest : List ℕ) where
   -- The task, its patterns, and the tables that a build of them leaves, whatever follows.
@@ -64,7 +65,7 @@ module _ (r s rest : List ℕ) where
     module _ (small : Small (task_of r) (patterns_of r)) where
       read_of_built : read_value r s built ≡ estimate (task_of r) (patterns_of r) (values_of r s)
       unfolding read_value
-      read_of_built = value_of_built (task_of r) (values_of r s) state (unit_weights r) (patterns_of r) small rest
+      read_of_built = value_of_built (task_of r) (values_of r s) state (light_weights r sound) (patterns_of r) small rest
 
       -- The call answers the summed estimate.
       pub call_on_built : Additive (task_of r) (patterns_of r) → state_value r s built ≡ Ok (value_of (estimate (task_of r) (patterns_of r) (values_of r s)))
@@ -85,7 +86,7 @@ module _ (r s rest : List ℕ) where
   finite_answer_admissible n h p q =
       let k = answered_means r s built (Some n) h in
       let e = read_finite (read_value r s built) n k.2 in
-      let a = built_value_admissible (task_of r) (sound_well_formed r (sound k.0)) (patterns_of r) (ready_additive k.0 k.1) (ready_small k.0 k.1) (unit_weights r) rest p (values_of r s) (state k.0) q in
+      let a = built_value_admissible (task_of r) (sound_well_formed r (sound k.0)) (patterns_of r) (ready_additive k.0 k.1) (ready_small k.0 k.1) (light_weights r (sound k.0)) rest p (values_of r s) (state k.0) q in
       leb→le n (cost (system (task_of r)) p) (rw e at a)
 
   -- An infinite answer means that there is no strong plan from the state.
@@ -94,4 +95,4 @@ module _ (r s rest : List ℕ) where
   infinite_answer_no_plan h p q =
       let k = answered_means r s built None h in
       let e = read_infinite (read_value r s built) k.2 in
-      built_value_infinite (task_of r) (sound_well_formed r (sound k.0)) (patterns_of r) (ready_additive k.0 k.1) (ready_small k.0 k.1) (unit_weights r) rest (values_of r s) (state k.0) e p q
+      built_value_infinite (task_of r) (sound_well_formed r (sound k.0)) (patterns_of r) (ready_additive k.0 k.1) (ready_small k.0 k.1) (light_weights r (sound k.0)) rest (values_of r s) (state k.0) e p q

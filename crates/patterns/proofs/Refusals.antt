@@ -5,6 +5,7 @@ use Rattle.planning.specs.Extended.{ℕ∞, fin, inf}
 use Rattle.planning.specs.Numbers.{refusal}
 use Rattle.planning.specs.Pattern.{Verdict, additive, conflict, verdict}
 use Rattle.planning.proofs.Test.{by_test}
+use Rattle.task_record.specs.Layout.{record_size}
 use Rattle.task_record.specs.Record.{record_check, first_bad, Sound}
 use Rattle.task_record.specs.Refusals.{refusal_numbers, after}
 use Rattle.task_record.specs.State.{judge_state, state_check, GoodState}
@@ -63,9 +64,9 @@ checked_ready r lent h = let k = after_ok (record_check r) (λ u. judge_estimate
 -- The numbers of a record's refusals.
 pub record_number : (r : List ℕ) (e : Refusal) → record_check r ≡ Err e → (refusal_numbers e).number < 10
 unfolding record_check refusal
-record_number r e h = by_test (ltb (length r) 9464)
+record_number r e h = by_test (ltb (length r) record_size)
     (λ s. let g = rw s at h in let k : ShortRecord (length r) ≡ e = cc in rw (← k) (omega arith))
-    (λ s. by_test (ltb (first_bad r) 9464)
+    (λ s. by_test (ltb (first_bad r) record_size)
     (λ f. let g = rw (s, f) at h in let k : WrongCell (first_bad r) ≡ e = cc in rw (← k) (omega arith))
     (λ f. let g = rw (s, f) at h in let z : ◌≡◌ {A = ℕ} 0 1 = cc in absurd (omega arith)))
 

@@ -2,10 +2,10 @@
 ghost use Rattle.std.specs.Prelude.{◌≡◌, slice_index_or};
 ghost use Rattle.planning.specs.Table.{infinite_entry};
 
-// "An entry is 16 bits"
-pub type Entry = u16;
+// "Table entries become 32 bits"
+pub type Entry = u32;
 
-// "65,535 is infinite"
+// "infinite 4,294,967,295"
 pub const INFINITE: Entry = Entry::MAX;
 
 // Entry i; what lies past the end counts as infinite.

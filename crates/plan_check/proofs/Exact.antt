@@ -1,5 +1,5 @@
 -- The check is exact: it passes a plan, with a cost and a length, where the record is sound, the state is good, and the bytes are those of a
--- strong plan from that state with at most 32 moves on a path, and cost and length are that plan's; and nowhere else. Assumes nothing.
+-- strong plan from that state with at most 255 moves on a path, and cost and length are that plan's; and nowhere else. Assumes nothing.
 use Rattle.std.proofs.Common.{◌≡◌, ◌↔◌, ℕ, List, refl, ap, arith, Result, Ok, Err}
 use Rattle.planning.specs.PlanCheck.{Checked, passed, refused, check_plan, most_moves}
 use Rattle.planning.proofs.PlanCheck.{check_exact}

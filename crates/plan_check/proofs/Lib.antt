@@ -8,9 +8,11 @@ pub mod Refusals
 pub mod Waiting
 -- The loop over a plan's bytes: what holds between two bytes, and what each step does.
 pub mod Reading
+-- To allow more moves changes only the answer that a move is too deep.
+pub mod Deeper
 -- The refusals of planning's check have the numbers 12 to 17.
 pub mod Numbered
--- The check passes exactly the strong plans of at most 32 moves depth, with their cost and length.
+-- The check passes exactly the strong plans of at most 255 moves depth, with their cost and length.
 pub mod Exact
 -- For C: the number is 0 exactly where the plan passed.
 pub mod ZeroNumber

@@ -6,16 +6,16 @@ use Prim.Native.Nat.{ℕ, ◌<◌, ◌≤◌}
 use native.Mathlib.Omega.{arith}
 use lib.ListN.{take, drop}
 use Rattle.planning.specs.Finite.{Some, tabulate}
+use Rattle.planning.specs.Table.{most_weight}
 use Rattle.planning.specs.Task.{meets, apply, permits, system}
 use Rattle.planning.proofs.Task.{task_filled}
 use Rattle.task_record.specs.Layout.{at_goal, at_precondition, at_outcome}
 use Rattle.task_record.specs.Numbers.{action_count, outcome_count}
 use Rattle.task_record.specs.Record.{Sound}
 use Rattle.task_record.specs.TaskOf.{cells_at, action_of, task_of, values_of}
-use Rattle.task_record.proofs.SoundTask.{actions_right, sound_well_formed}
+use Rattle.task_record.proofs.SoundTask.{actions_right, costs_right, sound_well_formed}
 use Rattle.task_record.proofs.States.{action_of_task, actions_of_task, goal_of_values, precondition_of_values}
 use Rattle.plan_check.specs.Tower.{tower}
-use Rattle.plan_check.specs.Stack.{most_weight}
 
 pub tower_actions : (r : List ℕ) → (tower r).actions ≡ action_count r
 unfolding tower system
@@ -34,7 +34,7 @@ tower_weight r m l = let k : m < action_count r = omega (arith, tower_actions r)
 module _ (r : List ℕ) (sound : Sound r) where
   pub tower_light : (m : ℕ) → m < (tower r).actions → (action_of r m).weight ≤ most_weight
   unfolding action_of
-  tower_light m l = omega arith
+  tower_light m l = let k : m < action_count r = omega (arith, tower_actions r) in (costs_right r sound m k).1
 
   pub tower_few : (tower r).actions ≤ 254
   tower_few = omega (arith, tower_actions r, actions_right r sound)

@@ -8,7 +8,7 @@ pub mod Refusal
 pub mod Stack
 -- What the check of a plan answers, on the bytes of record, state and plan.
 pub mod Check
--- A strong plan of at most 32 moves depth, as bytes.
+-- A strong plan of at most 255 moves depth, as bytes.
 pub mod StrongPlan
 -- The answer as the numbers that C gets, by case and by the lines of "Where a call can say no".
 pub mod ForC

@@ -4,8 +4,8 @@ use Rattle.planning.specs.System.{System, applies}
 use Rattle.task_record.specs.declared.refusal.Refusal.{Refusal}
 use Rattle.task_record.specs.declared.refusal.Refusal.TheVariants.{UnknownByte, Inapplicable, EarlyArrival, TooDeep}
 
--- Whether byte b, at offset `at`, plans for state s after `moves` moves: 17 "a move after 32 moves on the path", 14 "move does not apply", 15
--- "254 at a state that is no goal", 13 "byte neither 254 nor below M". An action's number is asked first; it is never 254.
+-- Whether byte b, at offset `at`, plans for state s after `moves` moves: 17 "a move after 32 moves on the path", where the check now "allows 255
+-- moves", 14 "move does not apply", 15 "254 at a state that is no goal", 13 "byte neither 254 nor below M". An action's number is asked first; it is never 254.
 unfoldable pub byte_judged : {S : Type 0} → System S → ℕ → ℕ → ℕ → S → ℕ → Result Unit Refusal
 byte_judged Y most b moves s at =
     cond (ltb b Y.actions)

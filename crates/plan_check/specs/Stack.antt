@@ -1,16 +1,12 @@
 -- The stack of the check: the actions under way, each with the outcomes to come, stand for the states that planning's check has pending.
 -- Assumes nothing.
-use Rattle.std.specs.Prelude.{List, [], ◌∷◌, ◌++◌, ℕ, zero, suc, ◌+◌, ◌-◌, get_or}
+use Rattle.std.specs.Prelude.{List, [], ◌∷◌, ◌++◌, ℕ, zero, suc, ◌+◌, ◌-◌, get_or, drop, length}
 use Rattle.planning.specs.Task.{apply}
 use Rattle.planning.specs.PlanCheck.{Pending}
 use Rattle.task_record.specs.Layout.{at_action, in_outcomes}
 use Rattle.task_record.specs.Numbers.{outcome_count}
 use Rattle.task_record.specs.TaskOf.{cells_at, action_of, values_of}
 use Rattle.plan_check.specs.declared.frames.Frame.{Frame}
-
--- The largest weight of an action: it is a byte.
-abbrev pub most_weight : ℕ
-most_weight = 255
 
 -- Action m taken in state s after `depth` moves, for which `paid` was paid.
 unfoldable pub begun_frame : List ℕ → ℕ → List ℕ → ℕ → ℕ → Frame
@@ -46,6 +42,23 @@ frame_at frames i = get_or frames i (record { state = []; next = 0; paid = 0; de
 unfoldable pub topmost_first : List Frame → ℕ → List Frame
 topmost_first frames zero = []
 topmost_first frames (suc n) = frame_at frames n ∷ topmost_first frames n
+
+-- The stack: the frames in use, the topmost first, and how many there is room for.
+pub record Waiting : Type 0 where
+  pub frames : List Frame
+  pub room : ℕ
+
+abbrev pub waiting : List Frame → ℕ → Waiting
+waiting frames used = record { frames = topmost_first frames used; room = length frames }
+
+abbrev pub nothing_waits : ℕ → Waiting
+nothing_waits room = record { frames = []; room = room }
+
+abbrev pub waits_first : Frame → Waiting → Waiting
+waits_first f w = record { frames = f ∷ w.frames; room = w.room }
+
+abbrev pub first_gone : Waiting → Waiting
+first_gone w = record { frames = drop 1 w.frames; room = w.room }
 
 -- What the frames of the stack await, the topmost first.
 unfoldable pub waiting_of : List ℕ → List Frame → List (Pending (List ℕ))

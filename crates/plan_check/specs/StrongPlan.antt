@@ -1,4 +1,5 @@
--- What a plan is that the check passes: demand 2, "a strong plan of at most 32 moves depth". Assumes nothing.
+-- What a plan is that the check passes: a strong plan with at most 255 moves on a path ("the check, and with it demand 2, allows 255 moves").
+-- Assumes nothing.
 use Rattle.std.specs.Prelude.{◌≡◌, List, ℕ, ◌≤◌, length}
 use Rattle.planning.specs.Plan.{Plan, Strong, cost, depth, encode}
 use Rattle.planning.specs.PlanCheck.{most_moves}

@@ -1,5 +1,5 @@
 // The check of a plan on three lent slices: record, state and plan. It accepts all inputs, and only reads.
-ghost use Rattle.std.specs.Prelude.{◌≡◌};
+ghost use Rattle.std.specs.Prelude.{◌≡◌, ◌≤◌, length};
 ghost use Rattle.planning.specs.PlanCheck.{check_plan, most_moves};
 ghost use Rattle.task_record.specs.TaskOf.{values_of};
 ghost use Rattle.plan_check.specs.Tower.{tower};
@@ -35,22 +35,29 @@ fn ended(plan: &[u8], end: usize, cost: u32) -> Result<Passed, Refusal>
     })
 }
 
-// The plan from its first byte to its last: each plans for one state. After an action that is the state after its first outcome; after an
-// arrival it is the state after the next outcome of the action that began last among those under way.
-fn check_bytes(checked: &SoundRecord, plan: &[u8], start: [u8; 16]) -> Result<Passed, Refusal>
-    ensures { result ≡ answer_of (check_plan (tower checked.now) most_moves (values_of checked.now start) plan.now) }
+// The plan from its first byte to its last, with at most `most` moves on a path: each byte plans for one state. After an action that is the state
+// after its first outcome; after an arrival it is the state after the next outcome of the action that began last among those under way, each of
+// which is a move of the path.
+fn check_bytes(
+    checked: &SoundRecord,
+    plan: &[u8],
+    start: [u8; 16],
+    most: u16,
+    frames: &mut [Frame],
+) -> Result<Passed, Refusal>
+    requires { (most ≤ length frames.old) × (most ≤ most_moves) }
+    ensures { result ≡ answer_of (check_plan (tower checked.now) most (values_of checked.now start) plan.now) }
 {
     let rec = checked.cells;
     let task = Task::of(checked);
-    let mut frames = [Frame::unused(); 32];
-    let mut stack = Stack::new(&mut frames);
+    let mut stack = Stack::new(frames);
     let mut state = start;
     let mut depth = 0;
     let mut paid = 0;
     let mut worst = 0;
     for (at, byte) in plan.iter().enumerate() {
         let b = *byte;
-        task.judge_byte(at, b, state, depth)?;
+        task.judge_byte(at, b, state, depth, most)?;
         let frame = if task.has_action(b) {
             Frame::begun(&task, b, state, depth, paid)
         } else {
@@ -70,7 +77,37 @@ fn check_bytes(checked: &SoundRecord, plan: &[u8], start: [u8; 16]) -> Result<Pa
     Err(Refusal::UnfinishedPlan(plan.len() as u64))
 }
 
-// Whether `plan` is a strong plan of at most 32 moves depth from `state` in the task that `rec` holds.
+// The same with N frames, for at most N moves on a path.
+#[inline(never)]
+fn check_within<const N: usize>(
+    checked: &SoundRecord,
+    plan: &[u8],
+    start: [u8; 16],
+) -> Result<Passed, Refusal>
+    requires { N ≤ most_moves }
+    ensures { result ≡ answer_of (check_plan (tower checked.now) N (values_of checked.now start) plan.now) }
+{
+    let mut frames = [Frame::unused(); N];
+    check_bytes(checked, plan, start, N as u16, &mut frames)
+}
+
+// "the check, and with it demand 2, allows 255 moves". Most plans have at most 32 on a path, and to clear 255 frames takes as long as to check a
+// short plan: so a plan is checked for 255 moves where 32 were too few.
+fn check_from(checked: &SoundRecord, plan: &[u8], start: [u8; 16]) -> Result<Passed, Refusal>
+    ensures { result ≡ answer_of (check_plan (tower checked.now) most_moves (values_of checked.now start) plan.now) }
+{
+    match check_within::<32>(checked, plan, start) {
+        Ok(passed) => Ok(passed),
+        Err(refusal) => {
+            if refusal.numbers().0 == 17 {
+                return check_within::<255>(checked, plan, start);
+            }
+            Err(refusal)
+        }
+    }
+}
+
+// Whether `plan` is a strong plan of at most 255 moves depth from `state` in the task that `rec` holds.
 #[tactic(auto, unfolding(crate::specs::Check::plan_check_of))]
 pub fn check_plan(rec: &[u8], state: &[u8], plan: &[u8]) -> Result<Passed, Refusal>
     ensures value { result ≡ plan_check_of rec.now state.now plan.now }
@@ -78,5 +115,5 @@ pub fn check_plan(rec: &[u8], state: &[u8], plan: &[u8]) -> Result<Passed, Refus
 {
     let checked = SoundRecord::new(rec)?;
     checked.check_state(state)?;
-    check_bytes(&checked, plan, cells_at(state, 0))
+    check_from(&checked, plan, cells_at(state, 0))
 }

@@ -1,14 +1,15 @@
 // An action under way, as it waits on the check's stack: some of its outcomes have had their plans, the others are to come.
 ghost use Rattle.std.specs.Prelude.{◌≡◌, ◌+◌, ◌*◌, ◌≤◌, ◌<◌, length};
+ghost use Rattle.planning.specs.PlanCheck.{most_moves};
+ghost use Rattle.planning.specs.Table.{most_weight};
 ghost use Rattle.planning.specs.Task.{apply};
 ghost use Rattle.task_record.specs.Numbers.{action_count};
 ghost use Rattle.task_record.specs.TaskOf.{cells_at};
-ghost use Rattle.plan_check.specs.Stack.{most_weight, begun_frame, rest_frame};
+ghost use Rattle.plan_check.specs.Stack.{begun_frame, rest_frame};
 
 use crate::cells::{applied, cells_at};
 use crate::task::Task;
-use task_record::cells::action_weight;
-use task_record::layout::{IN_OUTCOMES, ROW_SIZE, at_action};
+use task_record::layout::{IN_OUTCOMES, ROW_SIZE, at_action, at_cost};
 
 // The state in which the action was taken, the offset of the next outcome's cells, what the path to its outcomes costs, how many moves that path has,
 // and how many outcomes are to come. The last two have 16 bits, so that a frame has 32 bytes and no gap: with 8 bits, where the gap is cleared each
@@ -25,14 +26,14 @@ pub(crate) struct Frame {
 impl Frame {
     // Action m taken in a state: all its outcomes are to come.
     pub(crate) fn begun(task: &Task, m: u8, state: [u8; 16], depth: u16, paid: u32) -> Frame
-        requires { (m < action_count task.now) × (depth < 32) × (paid ≤ most_weight * depth) }
+        requires { (m < action_count task.now) × (depth < most_moves) × (paid ≤ most_weight * depth) }
         ensures { result ≡ begun_frame task.now m state depth paid }
     {
         let action = at_action(m);
         Frame {
             state,
             next: action + IN_OUTCOMES,
-            paid: paid + u32::from(action_weight(task.rec, m)),
+            paid: paid + u32::from(task.rec[at_cost(m)]),
             depth: depth + 1,
             left: u16::from(task.rec[action]),
         }

@@ -1,6 +1,5 @@
-// The task of a sound record, and the tests at a byte of a plan: whether it plans for a state that is reached by `depth` moves.
+// The task of a sound record, and the tests at a byte of a plan: whether it plans for a state that is reached by `depth` moves, of at most `most`.
 ghost use Rattle.std.specs.Prelude.{◌≡◌, ◌<◌, ltb};
-ghost use Rattle.planning.specs.PlanCheck.{most_moves};
 ghost use Rattle.task_record.specs.Numbers.{action_count};
 ghost use Rattle.task_record.specs.TaskOf.{values_of};
 ghost use Rattle.plan_check.specs.Tower.{tower};
@@ -12,9 +11,6 @@ use task_record::cells::action_count;
 use task_record::layout::{AT_GOAL, at_precondition};
 use task_record::refusal::Refusal;
 use task_record::sound::SoundRecord;
-
-// "at most 32 moves depth"
-const MOST_MOVES: u16 = 32;
 
 // Arrival: no action's number.
 // Stays: the search has this number too: it is a byte of plans, and `task_record`, the crate below both, knows no plans.
@@ -79,12 +75,13 @@ impl<'a> Task<'a> {
         b: u8,
         state: [u8; 16],
         depth: u16,
+        most: u16,
     ) -> Result<(), Refusal>
-        ensures { result ≡ byte_judged (tower self.now) most_moves b depth (values_of self.now state) at }
+        ensures { result ≡ byte_judged (tower self.now) most b depth (values_of self.now state) at }
     {
         let offset = at as u64;
         if b < self.actions {
-            if MOST_MOVES <= depth {
+            if most <= depth {
                 return Err(Refusal::TooDeep(offset));
             }
             if !self.action_met(b, state) || met(self.goal, state) {

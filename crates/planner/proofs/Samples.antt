@@ -11,7 +11,7 @@ use Rattle.task_record.specs.TaskOf.{cells_at, action_of, task_of, start_of}
 use Rattle.reader.specs.Bytes.{bytes}
 use Rattle.reader.specs.Text.{index_of, lines_of, pieces, has_key, digits, value, well_formed, number_of}
 use Rattle.reader.specs.Lists.{pair_of, item_of, pair_fits, pair_step, list_from, listed, no_items, list_of}
-use Rattle.reader.specs.Grammar.{next_due, take_number, budget_bytes, take_budget, take_list, number_line, budget_line, list_line, take_line, read_from, unused_action, unused_actions, blank, read_whole, record_left_by, read_answer, read_leaves}
+use Rattle.reader.specs.Grammar.{next_due, take_number, budget_bytes, take_budget, take_list, number_line, budget_line, list_line, take_due, take_line, read_from, unused_action, unused_actions, blank, read_whole, record_left_by, read_answer, read_leaves}
 use Rattle.reader.proofs.ReadSound.{record_left_sound}
 use Rattle.tables.specs.Sample.{tower}
 use Rattle.task_record.specs.declared.refusal.Refusal.{Refusal}
@@ -26,7 +26,7 @@ answers_of r = map (λ e. answer_of (check_plan (system (task_of r)) most_moves 
 
 module _ (lent : List ℕ) where
   computed : answers_of (record_left_by lent (read_whole sample_text)) ≡ map (λ e. e.expected) checks
-  unfolding choose tabulate applies meets apply permits system demand check_byte check_bytes check_plan action_of task_of start_of bytes index_of lines_of pieces has_key digits value well_formed number_of pair_of item_of pair_fits pair_step list_from listed no_items list_of next_due take_number budget_bytes take_budget take_list number_line budget_line list_line take_line read_from unused_action unused_actions blank read_whole refusal_of answer_of tower sample_text checks answers_of
+  unfolding choose tabulate applies meets apply permits system demand check_byte check_bytes check_plan action_of task_of start_of bytes index_of lines_of pieces has_key digits value well_formed number_of pair_of item_of pair_fits pair_step list_from listed no_items list_of next_due take_number budget_bytes take_budget take_list number_line budget_line list_line take_due take_line read_from unused_action unused_actions blank read_whole refusal_of answer_of tower sample_text checks answers_of
   computed = refl
 
   module _ (long : record_size ≤ length lent) where
@@ -35,7 +35,7 @@ module _ (lent : List ℕ) where
     sample_left = rw (le-ltb (length lent) record_size long)
 
     sample_read : read_answer sample_text lent ≡ Ok tt
-    unfolding bytes index_of lines_of pieces has_key digits value well_formed number_of pair_of item_of pair_fits pair_step list_from listed no_items list_of next_due take_number budget_bytes take_budget take_list number_line budget_line list_line take_line read_from unused_action unused_actions blank read_whole read_answer tower sample_text
+    unfolding bytes index_of lines_of pieces has_key digits value well_formed number_of pair_of item_of pair_fits pair_step list_from listed no_items list_of next_due take_number budget_bytes take_budget take_list number_line budget_line list_line take_due take_line read_from unused_action unused_actions blank read_whole read_answer tower sample_text
     sample_read = rw (le-ltb (length lent) record_size long)
 
     pub checks_of_text : map (λ e. plan_check_of (read_leaves sample_text lent) (cells_at (read_leaves sample_text lent) at_start) e.plan) checks ≡ map (λ e. e.expected) checks

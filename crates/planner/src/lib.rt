@@ -4,4 +4,5 @@
 pub mod answer;
 pub mod estimates;
 pub mod plans;
+pub mod records;
 pub mod tasks;

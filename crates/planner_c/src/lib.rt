@@ -5,4 +5,5 @@
 
 pub mod estimates;
 pub mod plans;
+pub mod records;
 pub mod tasks;

@@ -15,7 +15,7 @@ use Rattle.planning.specs.Plan.{Plan, arrived, act, Plans, done, ◌then◌, Str
 use Rattle.planning.specs.Estimate.{Consistent, Admissible}
 use Rattle.planning.specs.Task.{Action, Task, apply, permits, action_at, no_action, system, State, WellFormed}
 use Rattle.planning.specs.Pattern.{project, mask_action, abstraction, AbstractState, affects_pattern, affected_from, Additive}
-use Rattle.planning.specs.Table.{entry_at, table, tables, value, estimate, Small}
+use Rattle.planning.specs.Table.{entry_at, table, tables, value, estimate, Small, most_weight}
 use Rattle.planning.proofs.Test.{and_l, by_test}
 use Rattle.planning.proofs.Finite.{all_imp, all_at, some_imp, some_all, some_map, some_unmap}
 use Rattle.planning.proofs.Extended.{mono?, weaken, add_up, le∞_refl, le∞_trans, max∞_left, max∞_right, max∞_case, add∞_mono, charge_mono, add∞-zero}
@@ -179,9 +179,9 @@ module _ (t : Task) (w : WellFormed t) where
   estimate_infinite ps A = infinite_means_none (system t) (State t) (estimate t ps) (estimate_admissible ps A)
 
   -- The same of the value read from the tables as built, whatever follows them, where patterns are small and actions count 1.
-  pub built_value_admissible : (ps : List (List ℕ)) → Additive t ps → Small t ps → All (λ a. a.weight ≤ 1) t.actions → (rest : List ℕ) → Admissible (system t) (State t) (value t.sizes ps (tables t ps ++ rest))
+  pub built_value_admissible : (ps : List (List ℕ)) → Additive t ps → Small t ps → All (λ a. a.weight ≤ most_weight) t.actions → (rest : List ℕ) → Admissible (system t) (State t) (value t.sizes ps (tables t ps ++ rest))
   built_value_admissible ps A small unit rest p s o k = rw (value_of_built t s o unit ps small rest) (estimate_admissible ps A p s o k)
 
-  pub built_value_infinite : (ps : List (List ℕ)) → Additive t ps → Small t ps → All (λ a. a.weight ≤ 1) t.actions → (rest s : List ℕ) → State t s →
+  pub built_value_infinite : (ps : List (List ℕ)) → Additive t ps → Small t ps → All (λ a. a.weight ≤ most_weight) t.actions → (rest s : List ℕ) → State t s →
       value t.sizes ps (tables t ps ++ rest) s ≡ inf → (p : Plan) → Strong (system t) p s → ⊥
   built_value_infinite ps A small unit rest = infinite_means_none (system t) (State t) (value t.sizes ps (tables t ps ++ rest)) (built_value_admissible ps A small unit rest)

@@ -43,12 +43,12 @@ place_counted (fin v) h = let l : v ≤ most_cost = (let k = h v refl in omega a
 place_counted inf h = refl
 
 pub place_inside : (c : ℕ∞) → ((k : ℕ) → c ≡ fin k → k < suc most_cost) → place_of c < row_size
-unfolding place_of
+unfolding place_of row_size
 place_inside (fin v) h = let k = h v refl in omega arith
 place_inside inf h = omega arith
 
 counted_placed : (i : ℕ) → i < row_size → place_of (counted_at i) ≡ i
-unfolding place_of counted_at
+unfolding place_of counted_at row_size
 counted_placed i l = by_test (leb i most_cost)
     (λ e. rw e)
     (λ e. let h = nleb→lt i most_cost (rw e tt) in rw e (omega arith))
@@ -59,7 +59,7 @@ module _ (tab : List ℕ∞) where
   finite_length = length-tabulate (λ v. states_with (fin v) tab) 0 (suc most_cost)
 
   pub spread-length : length (spread tab) ≡ row_size
-  unfolding spread
+  unfolding spread row_size
   spread-length = length-append (tabulate (λ v. states_with (fin v) tab) 0 (suc most_cost)) (states_with inf tab ∷ []) ∙ rw finite_length
 
   pub finite_count : (v : ℕ) → v ≤ most_cost → get_or (spread tab) v 0 ≡ states_with (fin v) tab
@@ -74,7 +74,7 @@ module _ (tab : List ℕ∞) where
       ap (λ i. get_or (row ++ (states_with inf tab ∷ [])) i 0) (sym finite_length) ∙ get_or-append_seam row (states_with inf tab) [] 0
 
   spread_at : (i : ℕ) → i < row_size → get_or (spread tab) i 0 ≡ states_with (counted_at i) tab
-  unfolding counted_at
+  unfolding counted_at row_size
   spread_at i l = by_test (leb i most_cost)
       (λ e. rw e (finite_count i (leb→le i most_cost (rw e tt))))
       (λ e. let h = nleb→lt i most_cost (rw e tt) in let k : i ≡ suc most_cost = omega arith in rw e (ap (λ j. get_or (spread tab) j 0) k ∙ infinite_count))

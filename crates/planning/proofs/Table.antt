@@ -16,7 +16,7 @@ use Rattle.planning.specs.Extended.{ℕ∞, fin, inf, infinite_from}
 use Rattle.planning.specs.System.{iterate, IsCost, cost_within}
 use Rattle.planning.specs.Task.{Action, Task, system, no_action, in_sizes, State, WellFormed}
 use Rattle.planning.specs.Pattern.{keep, project, mask_action, abstraction, AbstractState}
-use Rattle.planning.specs.Table.{index_from, index, state_count, state_at, entry_at, largest_weight, table_round, table_after, rounds_enough, weighted_table, table, infinite_entry, entry_of, cost_of, tables, EntriesBelow, value, estimate, Small, most_cost}
+use Rattle.planning.specs.Table.{index_from, index, state_count, state_at, entry_at, largest_weight, table_round, table_after, rounds_enough, weighted_table, table, infinite_entry, entry_of, cost_of, tables, EntriesBelow, value, estimate, Small, most_weight, most_cost}
 use Rattle.planning.proofs.Test.{false_not_T, and_in, and_l, and_r, by_test, not_equal}
 use Rattle.planning.proofs.Finite.{all_imp, all_at, length-tabulate, get_or_tabulate, some_tabulate, get_or_map}
 use Rattle.planning.proofs.Extended.{infinite_below, infinite_above}
@@ -164,8 +164,8 @@ finite_below n x k e = by_test (leb k n)
     let a : leb k k ≡ leb k n = rw e at (infinite_above n x k (omega arith) ∙ sym (infinite_below (suc n) x n (omega arith))) in
     absurd (false_not_T (a ∙ b) (le→leb k k (omega arith))))
 
--- A finite entry is at most (number of abstract states - 1) times the largest weight; where every action counts 1 at most and the pattern has at
--- most 4,096 states, at most `most_cost`.
+-- A finite entry is at most (number of abstract states - 1) times the largest weight; where every action counts `most_weight` at most and the
+-- pattern has at most 4,096 states, at most `most_cost`.
 pub entries_bounded : (t : Task) (p : List ℕ) (q : Action → ℕ) → EntriesBelow (suc ((state_count t.sizes p - 1) * largest_weight t.actions q)) (weighted_table t p q)
 unfolding weighted_table rounds_enough infinite_from
 entries_bounded t p q i k e = finite_below ((state_count t.sizes p - 1) * largest_weight t.actions q) (get_or (table_after t p q (rounds_enough t p q)) i inf) k
@@ -176,12 +176,12 @@ unfolding largest_weight
 largest_weight_at_most [] q n h = omega arith
 largest_weight_at_most (a ∷ rest) q n h = omega (arith, h.0, largest_weight_at_most rest q n h.1)
 
-pub light_entries_bounded : (t : Task) → All (λ a. a.weight ≤ 1) t.actions → (p : List ℕ) → state_count t.sizes p ≤ 4096 → EntriesBelow (suc most_cost) (table t p)
+pub light_entries_bounded : (t : Task) → All (λ a. a.weight ≤ most_weight) t.actions → (p : List ℕ) → state_count t.sizes p ≤ 4096 → EntriesBelow (suc most_cost) (table t p)
 unfolding table
 light_entries_bounded t u p h i k e = let l = entries_bounded t p (λ a. a.weight) i k e in
-    let b = mul-le-mul_left (state_count t.sizes p - 1) (largest_weight_at_most t.actions (λ a. a.weight) 1 u) in omega arith
+    let b = mul-le-mul_left (state_count t.sizes p - 1) (largest_weight_at_most t.actions (λ a. a.weight) most_weight u) in omega arith
 
--- An entry of 16 bits holds a value below 65,535, or infinity.
+-- An entry holds a value below the infinite one, or infinity.
 pub cost_of_entry : (v : ℕ∞) → ((k : ℕ) → v ≡ fin k → k < infinite_entry) → cost_of (entry_of v) ≡ v
 unfolding cost_of entry_of
 cost_of_entry (fin k) h = let l : k < infinite_entry = h k refl in rw (not_equal k infinite_entry (λ e. omega arith))
@@ -204,13 +204,13 @@ module _ (t : Task) (s : List ℕ) (o : State t s) where
   value-drop p more = let l : length (map entry_of (table t p)) ≡ state_count t.sizes p = length-map (table t p) entry_of ∙ table-length t p (λ a. a.weight) in
       rw (← l) (drop-append_seam (map entry_of (table t p)) more)
 
-  -- The value read from tables whose finite entries are below 65,535, whatever follows them, is the summed estimate.
+  -- The value read from tables whose finite entries are below the infinite one, whatever follows them, is the summed estimate.
   pub value_of_entries_below : (ps : List (List ℕ)) → All (λ p. EntriesBelow infinite_entry (table t p)) ps → (rest : List ℕ) → value t.sizes ps (tables t ps ++ rest) s ≡ estimate t ps s
   unfolding value tables estimate chain
   value_of_entries_below [] h rest = refl
   value_of_entries_below (p ∷ ps) h rest = rw (append_assoc (map entry_of (table t p)) (tables t ps) rest, value_entry p h.0 (tables t ps ++ rest), value-drop p (tables t ps ++ rest), value_of_entries_below ps h.1 rest)
 
-  -- So it is where each pattern has at most 4,096 states and each action counts 1 at most.
-  pub value_of_built : All (λ a. a.weight ≤ 1) t.actions → (ps : List (List ℕ)) → Small t ps → (rest : List ℕ) → value t.sizes ps (tables t ps ++ rest) s ≡ estimate t ps s
+  -- So it is where each pattern has at most 4,096 states and each action counts `most_weight` at most.
+  pub value_of_built : All (λ a. a.weight ≤ most_weight) t.actions → (ps : List (List ℕ)) → Small t ps → (rest : List ℕ) → value t.sizes ps (tables t ps ++ rest) s ≡ estimate t ps s
   unfolding Small
   value_of_built u ps h rest = value_of_entries_below ps (all_imp (λ p l i k e. let b = light_entries_bounded t u p l i k e in omega arith) ps h) rest

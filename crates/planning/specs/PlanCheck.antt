@@ -25,7 +25,7 @@ pending_after Y x m = map (λ s. record { state = s; moves = suc x.moves; paid =
 
 module _ {S : Type 0} (Y : System S) (most : ℕ) where
   -- "The check's lines are tested at each byte", in the order of the table: 13 "byte neither 254 nor below M", 15 "254 at a state that is
-  -- no goal", 17 "a move after 32 moves on the path", 14 "move does not apply". b is the byte at offset i, x what it plans for, worst the
+  -- no goal", 17 "a move after 255 moves on the path", 14 "move does not apply". b is the byte at offset i, x what it plans for, worst the
   -- largest cost of a path that has arrived.
   unfoldable pub check_byte : (List (Pending S) → ℕ → ℕ → Checked) → ℕ → Pending S → List (Pending S) → ℕ → ℕ → Checked
   check_byte next b x rest i worst = choose (eqb b 254)
@@ -45,6 +45,6 @@ module _ {S : Type 0} (Y : System S) (most : ℕ) where
   unfoldable pub check_plan : S → List ℕ → Checked
   check_plan s bs = check_bytes bs (record { state = s; moves = 0; paid = 0 } ∷ []) 0 0
 
--- "a strong plan of at most 32 moves depth"
+-- "the check, and with it demand 2, allows 255 moves": a strong plan of at most 255 moves depth.
 abbrev pub most_moves : ℕ
-most_moves = 32
+most_moves = 255

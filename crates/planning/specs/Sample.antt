@@ -5,34 +5,38 @@ use Rattle.planning.specs.Extended.{ℕ∞, fin}
 use Rattle.planning.specs.Plan.{encode}
 use Rattle.planning.specs.Task.{Task, system}
 use Rattle.planning.specs.Pattern.{Verdict, additive, conflict, verdict}
-use Rattle.planning.specs.Table.{tables, estimate}
+use Rattle.planning.specs.Table.{infinite_entry, tables, estimate}
 use Rattle.planning.specs.Search.{Answer, found, over, spent, none, answer}
 use Rattle.planning.specs.Examinations.{Examined}
 use Rattle.planning.specs.PlanCheck.{Checked, passed, refused, check_plan, most_moves}
 
--- "Variable 0 is the pallet (store, lift, bay, edge), 1 the door (shut, open)." The last outcome of action 1 and the outcome of action 3
--- are parameters: the examples change them.
-unfoldable pub tower : List ℕ → List ℕ → Task
-tower slip door = record {
+-- "Variable 0 is the pallet (store, lift, bay, edge), 1 the door (shut, open)." The cost and the last outcome of action 1 and the outcome of
+-- action 3 are parameters: the examples change them.
+unfoldable pub tower : ℕ → List ℕ → List ℕ → Task
+tower cost slip door = record {
   sizes = 4 ∷ 2 ∷ [];
   goal = 2 ∷ 1 ∷ [];
   actions =
       record { precondition = 0 ∷ 255 ∷ []; outcomes = (1 ∷ 255 ∷ []) ∷ []; weight = 1 } ∷
-      record { precondition = 1 ∷ 255 ∷ []; outcomes = (2 ∷ 255 ∷ []) ∷ slip ∷ []; weight = 1 } ∷
+      record { precondition = 1 ∷ 255 ∷ []; outcomes = (2 ∷ 255 ∷ []) ∷ slip ∷ []; weight = cost } ∷
       record { precondition = 3 ∷ 255 ∷ []; outcomes = (2 ∷ 255 ∷ []) ∷ []; weight = 1 } ∷
       record { precondition = 255 ∷ 0 ∷ []; outcomes = door ∷ []; weight = 1 } ∷ [];
 }
 
 unfoldable pub sample : Task
-sample = tower (3 ∷ 255 ∷ []) (255 ∷ 1 ∷ [])
+sample = tower 1 (3 ∷ 255 ∷ []) (255 ∷ 1 ∷ [])
 
 -- "eff=0:0 for eff=0:3"
 unfoldable pub slipping : Task
-slipping = tower (0 ∷ 255 ∷ []) (255 ∷ 1 ∷ [])
+slipping = tower 1 (0 ∷ 255 ∷ []) (255 ∷ 1 ∷ [])
 
 -- "eff=0:2,1:1 for eff=1:1"
 unfoldable pub coupled : Task
-coupled = tower (3 ∷ 255 ∷ []) (2 ∷ 1 ∷ [])
+coupled = tower 1 (3 ∷ 255 ∷ []) (2 ∷ 1 ∷ [])
+
+-- A line cost=3 after the need of action 1: the example with unequal costs.
+unfoldable pub costly : Task
+costly = tower 3 (3 ∷ 255 ∷ []) (255 ∷ 1 ∷ [])
 
 -- "patterns=2/pattern=0/pattern=1", "start=0,0"
 unfoldable pub sample_patterns : List (List ℕ)
@@ -45,7 +49,7 @@ sample_start = 0 ∷ 0 ∷ []
 pub data Question : Type 0 where
   tables_of : Task → Question
   search_of : Task → ℕ → ℕ → Question
-  check_of : List ℕ → Question
+  check_of : Task → List ℕ → Question
 
 -- What the document says to it. A search tells the value of the start first, a refusal its number and second number.
 pub data Reply : Type 0 where
@@ -76,7 +80,7 @@ unfoldable pub reply_to : Question → Reply
 reply_to (tables_of t) = entries (tables t sample_patterns)
 reply_to (search_of t budget limit) = search_reply (verdict t sample_patterns)
     (λ u. answer_reply (estimate t sample_patterns sample_start) (answer t sample_patterns budget limit sample_start))
-reply_to (check_of bs) = check_reply (check_plan (system sample) most_moves sample_start bs)
+reply_to (check_of t bs) = check_reply (check_plan (system t) most_moves sample_start bs)
 
 pub record Example : Type 0 where
   pub question : Question
@@ -94,19 +98,24 @@ starred =
     -- "Budget 6: spent, round 4, count 6." "limit=3: over, count 0."
     is (search_of sample 6 32) (spent_reply (fin 4) 4 6) ∷
     is (search_of sample 100 3) (over_reply (fin 4) 0) ∷
-    -- "eff=0:0 for eff=0:3: table 65535,65535,0,1; none." Its count is 0.
-    is (tables_of slipping) (entries (65535 ∷ 65535 ∷ 0 ∷ 1 ∷ 1 ∷ 0 ∷ [])) ∷
+    -- "eff=0:0 for eff=0:3: table 65535,65535,0,1; none." Its count is 0; infinite is now 4,294,967,295.
+    is (tables_of slipping) (entries (infinite_entry ∷ infinite_entry ∷ 0 ∷ 1 ∷ 1 ∷ 0 ∷ [])) ∷
     is (search_of slipping 100 32) (none_reply 0) ∷
     -- "eff=0:2,1:1 for eff=1:1: 9 at 3."
     is (search_of coupled 100 32) (refused_reply 9 3) ∷
     -- "Check at start: 0,1,3,254: 12 at 4. 254: 15 at 0. 3,3: 14 at 1. 4: 13 at 0. The plan with 254 added: 16 at 7."
-    is (check_of (0 ∷ 1 ∷ 3 ∷ 254 ∷ [])) (refused_reply 12 4) ∷
-    is (check_of (254 ∷ [])) (refused_reply 15 0) ∷
-    is (check_of (3 ∷ 3 ∷ [])) (refused_reply 14 1) ∷
-    is (check_of (4 ∷ [])) (refused_reply 13 0) ∷
-    is (check_of (0 ∷ 1 ∷ 3 ∷ 254 ∷ 2 ∷ 3 ∷ 254 ∷ 254 ∷ [])) (refused_reply 16 7) ∷
+    is (check_of sample (0 ∷ 1 ∷ 3 ∷ 254 ∷ [])) (refused_reply 12 4) ∷
+    is (check_of sample (254 ∷ [])) (refused_reply 15 0) ∷
+    is (check_of sample (3 ∷ 3 ∷ [])) (refused_reply 14 1) ∷
+    is (check_of sample (4 ∷ [])) (refused_reply 13 0) ∷
+    is (check_of sample (0 ∷ 1 ∷ 3 ∷ 254 ∷ 2 ∷ 3 ∷ 254 ∷ 254 ∷ [])) (refused_reply 16 7) ∷
     -- The plan itself passes, with its cost and length.
-    is (check_of (0 ∷ 1 ∷ 3 ∷ 254 ∷ 2 ∷ 3 ∷ 254 ∷ [])) (passed_reply 4 7) ∷ []
+    is (check_of sample (0 ∷ 1 ∷ 3 ∷ 254 ∷ 2 ∷ 3 ∷ 254 ∷ [])) (passed_reply 4 7) ∷
+    -- With cost 3 at action 1 the first table, the value and the plan's cost are 2 higher at the lift and before it; a limit of 5 is too low.
+    is (tables_of costly) (entries (5 ∷ 4 ∷ 0 ∷ 1 ∷ 1 ∷ 0 ∷ [])) ∷
+    is (search_of costly 100 255) (found_reply (fin 6) 6 7 (0 ∷ 1 ∷ 3 ∷ 254 ∷ 2 ∷ 3 ∷ 254 ∷ [])) ∷
+    is (search_of costly 100 5) (over_reply (fin 6) 0) ∷
+    is (check_of costly (0 ∷ 1 ∷ 3 ∷ 254 ∷ 2 ∷ 3 ∷ 254 ∷ [])) (passed_reply 6 7) ∷ []
 
 abbrev at : ℕ → ℕ → ℕ → Examined (List ℕ)
 at pallet door d = record { state = pallet ∷ door ∷ []; depth = d }

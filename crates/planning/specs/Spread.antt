@@ -16,11 +16,11 @@ unfoldable pub states_with : ℕ∞ → List ℕ∞ → ℕ
 states_with c [] = 0
 states_with c (x ∷ tab) = cond (same_cost x c) (suc (states_with c tab)) (states_with c tab)
 
--- "A lent row of 4,097 counts".
-abbrev pub row_size : ℕ
+-- "Item 1's row has a count per value from 0 to 1,044,225, then infinite" (document 02, item 3).
+unfoldable pub row_size : ℕ
 row_size = most_cost + 2
 
--- "List how many abstract states have each value from 0 to 4,095, and how many are infinite".
+-- "List how many abstract states have each value .., and how many are infinite".
 unfoldable pub spread : List ℕ∞ → List ℕ
 spread tab = tabulate (λ v. states_with (fin v) tab) 0 (suc most_cost) ++ (states_with inf tab ∷ [])
 

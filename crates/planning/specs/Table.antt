@@ -57,9 +57,9 @@ module _ (t : Task) (p : List ℕ) (q : Action → ℕ) where
 unfoldable pub table : Task → List ℕ → List ℕ∞
 table t p = weighted_table t p (λ a. a.weight)
 
--- "An entry is 16 bits; 65,535 is infinite."
+-- "Table entries become 32 bits, infinite 4,294,967,295" (document 02, item 3).
 abbrev pub infinite_entry : ℕ
-infinite_entry = 65535
+infinite_entry = 4294967295
 
 unfoldable pub entry_of : ℕ∞ → ℕ
 entry_of (fin k) = k
@@ -89,6 +89,11 @@ estimate t ps s = sum∞ (λ p. entry_at t.sizes p (table t p) (project p s)) ps
 unfoldable pub Small : Task → List (List ℕ) → Type 0
 Small t ps = All (λ p. state_count t.sizes p ≤ 4096) ps
 
--- The largest finite cost that an entry can have: one less than the 4,096 states, where every action counts 1 (light_entries_bounded).
+-- "cost= of 1 to 255": the largest weight of an action.
+abbrev pub most_weight : ℕ
+most_weight = 255
+
+-- "a count per value from 0 to 1,044,225": the largest finite cost that an entry can have, one less than the 4,096 states times the largest weight
+-- (light_entries_bounded).
 abbrev pub most_cost : ℕ
-most_cost = 4095
+most_cost = 1044225

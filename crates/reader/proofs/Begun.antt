@@ -17,32 +17,33 @@ use Rattle.reader.specs.declared.lists.Gathered.{Gathered}
 use Rattle.reader.specs.declared.grammar.LineFault.TheVariants as of-line
 use Rattle.reader.specs.declared.lists.Kind.{Kind}
 use Rattle.reader.specs.declared.order.Due.{Due}
-use Rattle.reader.specs.declared.order.Due.TheVariants.{Vars, Size, Moves, Need, Outcomes, Eff, Goal, Start, Patterns, Pattern, Limit, Budget, End}
+use Rattle.reader.specs.declared.order.Due.TheVariants.{Vars, Size, Moves, Need, Outcomes, Eff, Goal, Start, Patterns, Pattern, Limit, Budget, End, Cost}
 use Rattle.task_record.proofs.Tests.{both_left, both_right}
 use Rattle.reader.proofs.Filling.{Filled, Started}
 
 -- Up to the start, no pattern is given; N is known and every size is given.
-pub record Sized (r : List ℕ) (a : ℕ) : Type 0 where
-  pub filled : Filled r (variable_count r) a
+pub record Sized (r : List ℕ) (a q : ℕ) : Type 0 where
+  pub filled : Filled r (variable_count r) a q
   pub some : 1 ≤ variable_count r
   pub plain : pattern_count r ≡ 0
 
 -- From the start on, everything is given but rows and numbers of the header.
 pub record Settled (r : List ℕ) : Type 0 where
-  pub filled : Filled r (variable_count r) (action_count r)
+  pub filled : Filled r (variable_count r) (action_count r) (action_count r)
   pub some : 1 ≤ variable_count r
   pub started : Started r
 
 -- What holds of the record before the line that is due.
 abbrev pub Begun : Due → List ℕ → Type 0
-Begun Vars r = Filled r 0 0 × (variable_count r ≡ 0) × (action_count r ≡ 0) × (pattern_count r ≡ 0)
-Begun (Size i) r = Filled r i 0 × (i < variable_count r) × (action_count r ≡ 0) × (pattern_count r ≡ 0)
-Begun Moves r = Sized r 0 × (action_count r ≡ 0)
-Begun (Need m) r = Sized r m × (m < action_count r)
-Begun (Outcomes m) r = Sized r m × (m < action_count r)
-Begun (Eff m k) r = Sized r (m + 1) × (m < action_count r) × (k < outcome_count r m)
-Begun Goal r = Sized r (action_count r)
-Begun Start r = Sized r (action_count r)
+Begun Vars r = Filled r 0 0 0 × (variable_count r ≡ 0) × (action_count r ≡ 0) × (pattern_count r ≡ 0)
+Begun (Size i) r = Filled r i 0 0 × (i < variable_count r) × (action_count r ≡ 0) × (pattern_count r ≡ 0)
+Begun Moves r = Sized r 0 0 × (action_count r ≡ 0)
+Begun (Need m) r = Sized r m m × (m < action_count r)
+Begun (Cost m) r = Sized r m m × (m < action_count r)
+Begun (Outcomes m) r = Sized r m (m + 1) × (m < action_count r)
+Begun (Eff m k) r = Sized r (m + 1) (m + 1) × (m < action_count r) × (k < outcome_count r m)
+Begun Goal r = Sized r (action_count r) (action_count r)
+Begun Start r = Sized r (action_count r) (action_count r)
 Begun Patterns r = Settled r × (pattern_count r ≡ 0)
 Begun (Pattern p) r = Settled r × (p < pattern_count r)
 Begun Limit r = Settled r

@@ -10,9 +10,9 @@ use lib.ListN.{length, drop}
 use lib.Seq.{ext_get_or}
 use borrow.Author.Tests.{lt-ltb, ltb-true, ltb-false, le-ltb, eqb-true, eqb-false, leb-true}
 use Rattle.planning.specs.Finite.{All, Some}
-use Rattle.task_record.specs.Layout.{record_size, at_sizes, at_goal, at_start, at_pattern, at_action}
-use Rattle.task_record.specs.Numbers.{byte, variable_count, action_count, pattern_count, outcome_count}
-use Rattle.task_record.specs.Record.{size_ok, pattern_ok, count_ok, assignment_ok, Sound}
+use Rattle.task_record.specs.Layout.{record_size, at_sizes, at_goal, at_start, at_pattern, at_action, at_cost}
+use Rattle.task_record.specs.Numbers.{byte, variable_count, action_count, pattern_count, outcome_count, action_cost}
+use Rattle.task_record.specs.Record.{size_ok, pattern_ok, count_ok, cost_ok, assignment_ok, Sound}
 use Rattle.reader.specs.Text.{line_break}
 use Rattle.reader.specs.Grammar.{proceed, complete, read_from, blank, read_whole, read_answer, read_leaves}
 use Rattle.reader.specs.Written.{line_of, dues_of, written}
@@ -21,10 +21,10 @@ use Rattle.reader.specs.declared.order.Due.{Due}
 use Rattle.reader.specs.declared.order.Due.TheVariants.{Vars}
 use Rattle.planning.proofs.Test.{by_test, or-false}
 use Rattle.task_record.proofs.Parts.{Bytes}
-use Rattle.task_record.proofs.Offsets.{size_at, pattern_at, count_at, block_at}
+use Rattle.task_record.proofs.Offsets.{size_at, pattern_at, count_at, block_at, cost_at}
 use Rattle.task_record.proofs.Soundness.{sound_cell}
 use Rattle.reader.proofs.ReadSound.{read_leaves_lem}
-use Rattle.reader.proofs.StoredCells.{blank_whole, blank_front, blank_patterns, blank_count, blank_block}
+use Rattle.reader.proofs.StoredCells.{blank_whole, blank_front, blank_patterns, blank_count, blank_block, blank_cost}
 use Rattle.reader.proofs.WrittenPieces.{lacks, text_lines}
 use Rattle.reader.proofs.WrittenLines.{Same, Known, stored, line_taken, line_breaks}
 use Rattle.reader.proofs.WrittenStores.{Covers, stored_whole, new_same, kept_same, next_known}
@@ -96,9 +96,9 @@ module _ (t : List ℕ) (sound : Sound t) (fit : Bytes t) where
     unfolding count_ok
     count_cell m l e =
         by_test (ltb m (action_count t))
-        (λ q. covered (action_lines (Covers k) t m (ltb-true m (action_count t) q) (λ more. inr (inl (omega arith, omega arith)))))
+        (λ q. covered (action_lines (Covers k) t m (ltb-true m (action_count t) q) (λ more. inr (inr (inl (omega arith, omega arith))))))
         (λ q.
-        let h = rw q at (sym (count_at t m) ∙ sound_cell t sound (at_action m) (omega arith)) in
+        let h = rw q at (sym (count_at t m l) ∙ sound_cell t sound (at_action m) (omega arith)) in
         unused (rw e (blank_count m l ∙ sym (eqb-true (byte t (at_action m)) 0 h))))
 
     -- a cell of its precondition or of an outcome
@@ -106,7 +106,7 @@ module _ (t : List ℕ) (sound : Sound t) (fit : Bytes t) where
     unfolding assignment_ok
     unused_block m i a l e q =
         let h = rw (q, or-false (eqb (byte t (at_action m + 1 + i)) 255)) at
-        (sym (block_at t m i l) ∙ sound_cell t sound (at_action m + 1 + i) (omega arith)) in
+        (sym (block_at t m i a l) ∙ sound_cell t sound (at_action m + 1 + i) (omega arith)) in
         let f : at_action m + 1 + i ≡ at_action m + suc i = omega arith in
         unused (rw e (ap (λ z. byte blank z) f ∙ blank_block m i a l ∙ sym (eqb-true (byte t (at_action m + 1 + i)) 255 h)))
 
@@ -116,8 +116,8 @@ module _ (t : List ℕ) (sound : Sound t) (fit : Bytes t) where
         (λ q.
         let h = leb-true (i / 16) (outcome_count t m) q in
         covered (action_lines (Covers k) t m u
-        (λ more. inr (inr (among_outcomes (Covers k) more m (outcome_count t m) 0 (i / 16 - 1) (omega arith) (omega arith)
-        (omega arith, omega arith))))))
+        (λ more. inr (inr (inr (among_outcomes (Covers k) more m (outcome_count t m) 0 (i / 16 - 1) (omega arith) (omega arith)
+        (omega arith, omega arith)))))))
         (λ q. unused_block m i a l e (rw (lt-ltb m (action_count t) u, q)))
 
     block_cell : (m i : ℕ) → m < 64 → i < 144 → k ≡ at_action m + 1 + i → Q
@@ -130,7 +130,17 @@ module _ (t : List ℕ) (sound : Sound t) (fit : Bytes t) where
         (λ w. outcome_cell m i a (ltb-false i 16 w) l e u))
         (λ q. unused_block m i a l e (rw q))
 
-    action_cell : at_action 0 ≤ k → k < record_size → Q
+    -- the cost of action m
+    cost_cell : (m : ℕ) → m < 64 → k ≡ at_cost m → Q
+    unfolding cost_ok
+    cost_cell m l e =
+        by_test (ltb m (action_count t))
+        (λ q. covered (action_lines (Covers k) t m (ltb-true m (action_count t) q) (λ more. inr (inl (omega arith, omega arith)))))
+        (λ q.
+        let h = rw q at (sym (cost_at t m) ∙ sound_cell t sound (at_cost m) (omega arith)) in
+        unused (rw e (blank_cost m l ∙ sym (eqb-true (action_cost t m) 0 h))))
+
+    action_cell : at_action 0 ≤ k → k < at_cost 0 → Q
     action_cell low l =
         by_test (eqb ((k - 184) % 145) 0)
         (λ q. let h = eqb-true ((k - 184) % 145) 0 q in count_cell ((k - 184) / 145) (omega arith) (omega arith))
@@ -162,7 +172,9 @@ module _ (t : List ℕ) (sound : Sound t) (fit : Bytes t) where
         by_test (ltb k 56) (λ q. let h = ltb-true k 56 q in covered (from_goal (Covers k) t (inr (inl (omega arith, omega arith)))))
         (λ q4. let d = ltb-false k 56 q4 in
         by_test (ltb k 184) (λ q. let h = ltb-true k 184 q in pattern_cell (k - 56) (omega arith) (omega arith))
-        (λ q5. action_cell (ltb-false k 184 q5) l)))))
+        (λ q5. let a5 = ltb-false k 184 q5 in
+        by_test (ltb k (at_cost 0)) (λ q. action_cell a5 (ltb-true k (at_cost 0) q))
+        (λ q6. let a6 = ltb-false k (at_cost 0) q6 in cost_cell (k - at_cost 0) (omega arith) (omega arith)))))))
 
   lines_plain : (due : Due) (dues : List Due) → Run t due dues → All (λ l. lacks line_break l ≡ true) (map (line_of t) dues)
   lines_plain _ _ over = tt
@@ -181,7 +193,7 @@ module _ (t : List ℕ) (sound : Sound t) (fit : Bytes t) where
       ∙ lines_read Vars (dues_of t) blank 1 run blank_whole tt
       ∙ ap (λ z. complete z) (ext_get_or 0 (final t (dues_of t) blank) t (w ∙ sym whole) (λ k l. same k (omega arith)))
 
--- So every sound record of 9,464 bytes is what some text reads to.
+-- So every sound record of 9,528 bytes is what some text reads to.
 pub sound_record_has_text : (t : List ℕ) → Sound t → Bytes t → length t ≡ record_size → (text : List ℕ) × (read_whole text ≡ complete t)
 sound_record_has_text t sound fit whole = (written t, written_reads t sound fit whole)
 

@@ -1,4 +1,4 @@
--- A record while it is filled: its header is in range, sizes and numbers of outcomes are given up to some variable and some action and 0
+-- A record while it is filled: its header is in range, sizes, numbers of outcomes and costs are given up to some variable and some actions and 0
 -- from there on, and its rows (goal, patterns, preconditions, outcomes) name only what they may; what a store keeps of this; and that
 -- a record that is filled is sound. Assumes nothing.
 use mathlib.Core.Path.{◌≡◌, ◌∙◌}
@@ -9,15 +9,15 @@ use native.Mathlib.Omega.{arith}
 use lib.Dec.{ltb, leb, eqb}
 use lib.ListN.{length}
 use borrow.Author.Tests.{lt-ltb, ltb-true, ltb-false, le-leb, leb-true, eq-eqb}
-use Rattle.task_record.specs.Layout.{record_size, at_sizes, at_goal, at_start, at_pattern, at_action}
-use Rattle.task_record.specs.Numbers.{byte, variable_count, action_count, pattern_count, limit_of, budget_of, size_of, outcome_count}
-use Rattle.task_record.specs.Record.{head_ok, size_ok, value_ok, assignment_ok, state_ok, pattern_ok, count_ok, cell_ok, Sound}
+use Rattle.task_record.specs.Layout.{record_size, at_sizes, at_goal, at_start, at_pattern, at_action, at_cost}
+use Rattle.task_record.specs.Numbers.{byte, variable_count, action_count, pattern_count, limit_of, budget_of, size_of, outcome_count, action_cost}
+use Rattle.task_record.specs.Record.{head_ok, size_ok, value_ok, assignment_ok, state_ok, pattern_ok, count_ok, cost_ok, cell_ok, Sound}
 use Rattle.reader.specs.Grammar.{blank}
 use Rattle.planning.proofs.Test.{by_test}
 use Rattle.task_record.proofs.Tests.{both, both_left, both_right, either, one_of}
-use Rattle.task_record.proofs.Offsets.{size_at, goal_at, start_at, pattern_at, count_at, block_at}
+use Rattle.task_record.proofs.Offsets.{size_at, goal_at, start_at, pattern_at, count_at, block_at, cost_at}
 use Rattle.task_record.proofs.Soundness.{every-cell_sound}
-use Rattle.reader.proofs.StoredCells.{inside_or_outside, blank_whole, blank_front, blank_states, blank_patterns, blank_count, blank_block}
+use Rattle.reader.proofs.StoredCells.{inside_or_outside, blank_whole, blank_front, blank_states, blank_patterns, blank_count, blank_block, blank_cost}
 
 -- The numbers by which rows are judged do not fall from r to e.
 pub record Grown (r e : List ℕ) : Type 0 where
@@ -110,7 +110,7 @@ pub record Heads (r : List ℕ) : Type 0 where
   pub variables : variable_count r ≤ 16
   pub actions : action_count r ≤ 64
   pub patterns : pattern_count r ≤ 8
-  pub limit : limit_of r ≤ 32
+  pub limit : limit_of r ≤ 255
   pub budget : budget_of r ≤ 1000000
 
 -- the same first 8 bytes
@@ -125,33 +125,37 @@ heads_kept r e same h =
       budget = rw (same 4 (omega arith), same 5 (omega arith), same 6 (omega arith), same 7 (omega arith)) h.budget;
     }
 
--- Of the sizes the first i are given, of the numbers of outcomes the first a.
-pub record Given (r : List ℕ) (i a : ℕ) : Type 0 where
+-- Of the sizes the first i are given, of the numbers of outcomes the first a, of the costs the first q.
+pub record Given (r : List ℕ) (i a q : ℕ) : Type 0 where
   pub size : (v : ℕ) → v < 16 → v < i → (2 ≤ size_of r v) × (size_of r v ≤ 16)
   pub size_due : (v : ℕ) → v < 16 → i ≤ v → size_of r v ≡ 0
   pub count : (m : ℕ) → m < 64 → m < a → (1 ≤ outcome_count r m) × (outcome_count r m ≤ 8)
   pub count_due : (m : ℕ) → m < 64 → a ≤ m → outcome_count r m ≡ 0
+  pub cost : (m : ℕ) → m < 64 → m < q → (1 ≤ action_cost r m) × (action_cost r m ≤ 255)
+  pub cost_due : (m : ℕ) → m < 64 → q ≤ m → action_cost r m ≡ 0
 
--- the same sizes and the same numbers of outcomes
-pub given_kept : (r e : List ℕ) (i a : ℕ) → ((v : ℕ) → v < 16 → size_of e v ≡ size_of r v) → ((m : ℕ) → m < 64 → outcome_count e m ≡ outcome_count r m)
-    → Given r i a → Given e i a
-given_kept r e i a sizes counts g =
+-- the same sizes, numbers of outcomes and costs
+pub given_kept : (r e : List ℕ) (i a q : ℕ) → ((v : ℕ) → v < 16 → size_of e v ≡ size_of r v) → ((m : ℕ) → m < 64 → outcome_count e m ≡ outcome_count r m)
+    → ((m : ℕ) → m < 64 → action_cost e m ≡ action_cost r m) → Given r i a q → Given e i a q
+given_kept r e i a q sizes counts costs g =
     record {
       size = λ v l h. rw (sizes v l) (g.size v l h);
       size_due = λ v l h. sizes v l ∙ g.size_due v l h;
       count = λ m l h. rw (counts m l) (g.count m l h);
       count_due = λ m l h. counts m l ∙ g.count_due m l h;
+      cost = λ m l h. rw (costs m l) (g.cost m l h);
+      cost_due = λ m l h. costs m l ∙ g.cost_due m l h;
     }
 
 -- A record that is filled so far.
-pub record Filled (r : List ℕ) (i a : ℕ) : Type 0 where
+pub record Filled (r : List ℕ) (i a q : ℕ) : Type 0 where
   pub whole : length r ≡ record_size
   pub heads : Heads r
-  pub given : Given r i a
+  pub given : Given r i a q
   pub rows : Rows r
 
 -- The blank record: nothing is given.
-pub blank-filled : Filled blank 0 0
+pub blank-filled : Filled blank 0 0 0
 unfolding budget_of assignment_ok pattern_ok
 blank-filled =
     record {
@@ -168,6 +172,8 @@ blank-filled =
         size_due = λ v l h. blank_front (at_sizes + v) (omega arith);
         count = λ m l h. absurd (omega arith);
         count_due = λ m l h. blank_count m l;
+        cost = λ m l h. absurd (omega arith);
+        cost_due = λ m l h. blank_cost m l;
       };
       rows = record {
         goal = λ v l. rw (blank_states v (omega arith));
@@ -186,8 +192,8 @@ pub started_kept : (r e : List ℕ) → variable_count e ≡ variable_count r �
 unfolding state_ok
 started_kept r e variables sizes cells h v l = rw (variables, sizes v l, cells v l) (h v l)
 
--- With every size, every number of outcomes and the start, every cell is inside its rule.
-module _ (r : List ℕ) (f : Filled r (variable_count r) (action_count r)) (some : 1 ≤ variable_count r) (start : Started r) where
+-- With every size, every number of outcomes, every cost and the start, every cell is inside its rule.
+module _ (r : List ℕ) (f : Filled r (variable_count r) (action_count r) (action_count r)) (some : 1 ≤ variable_count r) (start : Started r) where
   -- the header
   pub head_cell_right : (k : ℕ) → k < at_sizes → cell_ok r k ≡ true
   unfolding cell_ok head_ok
@@ -201,7 +207,7 @@ module _ (r : List ℕ) (f : Filled r (variable_count r) (action_count r)) (some
       (λ u. by_test (eqb k 2)
       (λ w. rw (t, u, w) (le-leb (pattern_count r) 8 h.patterns))
       (λ w. by_test (eqb k 3)
-      (λ x. rw (t, u, w, x) (le-leb (limit_of r) 32 h.limit))
+      (λ x. rw (t, u, w, x) (le-leb (limit_of r) 255 h.limit))
       (λ x. by_test (eqb k 4)
       (λ y. rw (t, u, w, x, y) (le-leb (budget_of r) 1000000 h.budget))
       (λ y. rw (t, u, w, x, y)))))))
@@ -230,7 +236,7 @@ module _ (r : List ℕ) (f : Filled r (variable_count r) (action_count r)) (some
   pub count_cell_right : (m : ℕ) → m < 64 → cell_ok r (at_action m) ≡ true
   unfolding count_ok
   count_cell_right m l =
-      count_at r m ∙ by_test (ltb m (action_count r))
+      count_at r m l ∙ by_test (ltb m (action_count r))
       (λ t.
       let g = f.given.count m l (ltb-true m (action_count r) t) in
       rw t (both (leb 1 (outcome_count r m)) (leb (outcome_count r m) 8) (le-leb 1 (outcome_count r m) g.0) (le-leb (outcome_count r m) 8 g.1)))
@@ -240,7 +246,7 @@ module _ (r : List ℕ) (f : Filled r (variable_count r) (action_count r)) (some
   pub block_cell_right : (m i : ℕ) → m < 64 → i < 144 → cell_ok r (at_action m + 1 + i) ≡ true
   block_cell_right m i h l =
       let e : at_block m (i / 16) + i % 16 ≡ at_action m + 1 + i = omega arith in
-      block_at r m i l ∙ rw e at (f.rows.blocks m (i / 16) (i % 16) h (omega arith) (omega arith))
+      block_at r m i h l ∙ rw e at (f.rows.blocks m (i / 16) (i % 16) h (omega arith) (omega arith))
 
   -- every cell of an action
   pub action_cell_right : (m c : ℕ) → m < 64 → c < 145 → cell_ok r (at_action m + c) ≡ true
@@ -254,6 +260,16 @@ module _ (r : List ℕ) (f : Filled r (variable_count r) (action_count r)) (some
       let p = ltb-false 0 c t in
       let e : at_action m + c ≡ at_action m = omega arith in
       rw e (count_cell_right m h))
+
+  -- the costs: given below M, 0 beyond
+  pub cost_cell_right : (m : ℕ) → m < 64 → cell_ok r (at_cost m) ≡ true
+  unfolding cost_ok
+  cost_cell_right m l =
+      cost_at r m ∙ by_test (ltb m (action_count r))
+      (λ t.
+      let g = f.given.cost m l (ltb-true m (action_count r) t) in
+      rw t (both (leb 1 (action_cost r m)) (leb (action_cost r m) 255) (le-leb 1 (action_cost r m) g.0) (le-leb (action_cost r m) 255 g.1)))
+      (λ t. rw t (eq-eqb (action_cost r m) 0 (f.given.cost_due m l (ltb-false m (action_count r) t))))
 
   -- every cell of the record
   pub every-cell_right : (k : ℕ) → k < record_size → cell_ok r k ≡ true
@@ -275,10 +291,16 @@ module _ (r : List ℕ) (f : Filled r (variable_count r) (action_count r)) (some
       (λ x. let d = ltb-false k (at_pattern 0) x in
       by_test (ltb k (at_action 0))
       (λ y. let g = ltb-true k (at_action 0) y in let e : k ≡ at_pattern 0 + (k - at_pattern 0) = omega arith in rw e (pattern_cell_right (k - at_pattern 0) (omega arith)))
-      (λ y.
-      let g = ltb-false k (at_action 0) y in
+      (λ y. let g = ltb-false k (at_action 0) y in
+      by_test (ltb k (at_cost 0))
+      (λ z.
+      let n = ltb-true k (at_cost 0) z in
       let e : k ≡ at_action ((k - 184) / 145) + (k - 184) % 145 = omega arith in
-      rw e (action_cell_right ((k - 184) / 145) ((k - 184) % 145) (omega arith) (omega arith)))))))
+      rw e (action_cell_right ((k - 184) / 145) ((k - 184) % 145) (omega arith) (omega arith)))
+      (λ z.
+      let n = ltb-false k (at_cost 0) z in
+      let e : k ≡ at_cost (k - at_cost 0) = omega arith in
+      rw e (cost_cell_right (k - at_cost 0) (omega arith))))))))
 
   -- so it is sound
   pub filled_sound : Sound r

@@ -13,6 +13,8 @@ pub mod Stores
 pub mod Items
 -- The lines of a text, one after the other.
 pub mod Lines
+-- A cost that is left out is 1.
+pub mod Optional
 -- The last line counts alike with or without its line break.
 pub mod LastLine
 -- What each cell holds after a run of stores.
@@ -49,7 +51,7 @@ pub mod WrittenOrder
 pub mod Complete
 -- What a call answers and leaves, once it is known what the text says.
 pub mod Answers
--- The fast pass: numbers of one or two digits.
+-- The fast pass: numbers of one, two or three digits.
 pub mod QuickNumbers
 -- The fast pass: a list, item by item.
 pub mod QuickLists

@@ -14,7 +14,7 @@ use Rattle.task_record.proofs.Rest.{drop_step}
 use Rattle.task_record.proofs.Tests.{both_left, both_right}
 use Rattle.reader.specs.Bytes.{bytes}
 use Rattle.reader.specs.Text.{line_break, has_key, lines_of, well_formed, number_of}
-use Rattle.reader.specs.Grammar.{Line, taken, faulty, complete, go_on, next_due, key_budget, take_budget, budget_line, take_line, read_from}
+use Rattle.reader.specs.Grammar.{Line, taken, faulty, complete, go_on, next_due, key_budget, take_budget, budget_line, take_due, take_line, read_from}
 use Rattle.reader.specs.declared.order.Due.TheVariants.{Budget, End}
 use Rattle.reader.proofs.Decimals.{formed_some, formed_digits}
 use Rattle.reader.proofs.Lines.{read_taken, read_complete}
@@ -60,7 +60,7 @@ module _ (t : List ℕ) (from end : ℕ) (room : from ≤ end) (within : end ≤
 
   pub budget_ends : (at : ℕ) (r r' : List ℕ) → from ≡ at + 7 → has_key key_budget (drop at t) ≡ true → take_budget r Budget (number_of part) ≡ go_on Budget r' → (n : ℕ)
       → read_from n Budget r (lines_of (drop at t)) ≡ complete r'
-  unfolding take_line budget_line next_due bytes lacks
+  unfolding take_line take_due budget_line next_due bytes lacks
   budget_ends at r r' f had e n =
       let split : drop at t ≡ key_budget ++ drop from t = key_split key_budget (drop at t) had ∙ rw (drop-drop 7 at t, f) in
       let line : take_line r Budget (key_budget ++ part) ≡ go_on Budget r' = rw (key_had key_budget part, drop-append_seam key_budget part) e in

@@ -65,20 +65,20 @@ module _ (s rest key : List ℕ) (due : Due) (r r' : List ℕ) (plain : lacks li
             ∙ read_taken n due r (key ++ l) (lines_of rest) (next_due r' due) r' k;
       }
 
-  pub number_leads : (lo hi cell : ℕ) → hi ≤ 255 → ((l : List ℕ) → take_line r due l ≡ number_line r due l key lo hi cell)
+  pub number_leads : (lo hi cell : ℕ) → hi ≤ 255 → ((l : List ℕ) → take_line r due (key ++ l) ≡ number_line r due (key ++ l) key lo hi cell)
       → NumberLine s key lo hi r cell r' rest → Leads due r s (next_due r' due) r' rest
   number_leads lo hi cell small is z =
       let a = z.stands in
       let h = a.most in
       line_leads z.value (decimal a.number) z.had a.line
-      (is (key ++ decimal a.number) ∙ number_line_read r due key lo hi cell a.number a.least a.most (omega arith) ∙ ap (go_on due) (sym a.stored))
+      (is (decimal a.number) ∙ number_line_read r due key lo hi cell a.number a.least a.most (omega arith) ∙ ap (go_on due) (sym a.stored))
 
-  pub list_leads : (kind : Kind) (row : ℕ) → ((l : List ℕ) → take_line r due l ≡ list_line r due l key kind row)
+  pub list_leads : (kind : Kind) (row : ℕ) → ((l : List ℕ) → take_line r due (key ++ l) ≡ list_line r due (key ++ l) key kind row)
       → ListLine s key kind r row r' rest → Leads due r s (next_due r' due) r' rest
   list_leads kind row is z =
       let a = z.list in
       line_leads z.value a.text z.had a.line
-      (is (key ++ a.text) ∙ list_line_good r due key kind row a.text a.last a.cells a.says a.whole ∙ ap (go_on due) (sym a.stored))
+      (is a.text ∙ list_line_good r due key kind row a.text a.last a.cells a.says a.whole ∙ ap (go_on due) (sym a.stored))
 
 -- a number at the end of its line
 pub number_at : (s m : List ℕ) (lo hi : ℕ) (r : List ℕ) (cell n : ℕ) (r' : List ℕ) → s ≡ decimal n ++ m → n ≤ 255 → 0 < length m

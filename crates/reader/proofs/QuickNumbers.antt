@@ -1,4 +1,4 @@
--- Numbers of one or two digits, by their bytes; and what the items of a list say by them. Assumes nothing.
+-- Numbers of one, two or three digits, by their bytes; and what the items of a list say by them. Assumes nothing.
 use mathlib.Core.Path.{◌≡◌, sym, ap, ap₂, subst, ◌∙◌}
 use mathlib.Core.List.{List, [], ◌∷◌, ◌++◌, append_assoc}
 use Prim.Native.Nat.{ℕ, ◌+◌, ◌-◌, ◌*◌, ◌/◌, ◌%◌, ◌≤◌, ◌<◌}
@@ -23,6 +23,12 @@ two_written : (n : ℕ) → 10 ≤ n → n < 100 → decimal n ≡ (48 + n / 10)
 unfolding decimal digits_of
 two_written n l h = rw (le-ltb n 10 l, lt-ltb (n / 10) 10 (omega arith))
 
+three_written : (n : ℕ) → 100 ≤ n → n < 1000 → decimal n ≡ (48 + n / 100) ∷ (48 + n / 10 % 10) ∷ (48 + n % 10) ∷ []
+unfolding decimal digits_of
+three_written n l h =
+    let e : n / 10 / 10 ≡ n / 100 = omega arith in
+    rw (le-ltb n 10 (omega arith), le-ltb (n / 10) 10 (omega arith), lt-ltb (n / 10 / 10) 10 (omega arith), e)
+
 -- a text and its first byte
 pub first_byte : (s : List ℕ) → 0 < length s → s ≡ get_or s 0 0 ∷ drop 1 s
 first_byte s h = drop_step s 0 h
@@ -31,7 +37,7 @@ first_byte s h = drop_step s 0 h
 pub split_shorter : (s p rest : List ℕ) → s ≡ p ++ rest → length rest ≤ length s
 split_shorter s p rest e = let n = ap length e ∙ length-append p rest in omega arith
 
--- one digit stands in front, or two of which the first is not 0
+-- one digit stands in front, or two or three of which the first is not 0
 module _ (s : List ℕ) (a : ℕ) (first : get_or s 0 0 ≡ a) (low : 48 ≤ a) (high : a < 58) where
   pub one-digit : 0 < length s → s ≡ decimal (a - 48) ++ drop 1 s
   one-digit h =
@@ -48,6 +54,20 @@ module _ (s : List ℕ) (a : ℕ) (first : get_or s 0 0 ≡ a) (low : 48 ≤ a) 
       ∙ ap (λ (z : List ℕ). get_or s 0 0 ∷ z) (drop_step s 1 h)
       ∙ ap₂ (λ (x y : ℕ). x ∷ (y ∷ drop 2 s)) e f
       ∙ ap (λ (z : List ℕ). z ++ drop 2 s) (sym (two_written n (omega arith) (omega arith)))
+
+  pub three_digits : (b c : ℕ) → get_or s 1 0 ≡ b → 48 ≤ b → b < 58 → get_or s 2 0 ≡ c → 48 ≤ c → c < 58 → (a ≡ 48 → ⊥) → 2 < length s
+      → s ≡ decimal (10 * (10 * (a - 48) + (b - 48)) + (c - 48)) ++ drop 3 s
+  three_digits b c second l k third l' k' lead h =
+      let n = 10 * (10 * (a - 48) + (b - 48)) + (c - 48) in
+      let e : get_or s 0 0 ≡ 48 + n / 100 = omega arith in
+      let f : get_or s 1 0 ≡ 48 + n / 10 % 10 = omega arith in
+      let g : get_or s 2 0 ≡ 48 + n % 10 = omega arith in
+      first_byte s (omega arith)
+      ∙ ap (λ (z : List ℕ). get_or s 0 0 ∷ z) (drop_step s 1 (omega arith))
+      ∙ ap (λ (z : List ℕ). get_or s 0 0 ∷ (get_or s 1 0 ∷ z)) (drop_step s 2 h)
+      ∙ ap (λ (x : ℕ). x ∷ (get_or s 1 0 ∷ (get_or s 2 0 ∷ drop 3 s))) e
+      ∙ ap₂ (λ (x y : ℕ). (48 + n / 100) ∷ (x ∷ (y ∷ drop 3 s))) f g
+      ∙ ap (λ (z : List ℕ). z ++ drop 3 s) (sym (three_written n (omega arith) (omega arith)))
 
 -- two of which the first is 1
 pub teen_digits : (s : List ℕ) (b : ℕ) → get_or s 0 0 ≡ 49 → get_or s 1 0 ≡ b → 48 ≤ b → b < 58 → 1 < length s → s ≡ decimal (10 + (b - 48)) ++ drop 2 s

@@ -14,7 +14,7 @@ use Rattle.task_record.specs.Record.{Sound}
 use Rattle.reader.specs.Text.{lines_of}
 use Rattle.reader.specs.Grammar.{ended, Line, taken, faulty, take_line, fault_at, Whole, complete, refused, proceed, read_from, blank, read_whole, answer_of, read_answer, read_leaves}
 use Rattle.reader.specs.declared.order.Due.{Due}
-use Rattle.reader.specs.declared.order.Due.TheVariants.{Vars, Size, Moves, Need, Outcomes, Eff, Goal, Start, Patterns, Pattern, Limit, Budget, End}
+use Rattle.reader.specs.declared.order.Due.TheVariants.{Vars, Size, Moves, Need, Outcomes, Eff, Goal, Start, Patterns, Pattern, Limit, Budget, End, Cost}
 use Rattle.std.specs.Prelude.{Ok, is_ok}
 use Rattle.task_record.specs.declared.refusal.Refusal.{Refusal}
 use Rattle.task_record.specs.declared.refusal.Refusal.TheVariants.{UnexpectedLine}
@@ -32,6 +32,7 @@ ended_settled Vars r e h = absurd (false≢true e)
 ended_settled (Size i) r e h = absurd (false≢true e)
 ended_settled Moves r e h = absurd (false≢true e)
 ended_settled (Need m) r e h = absurd (false≢true e)
+ended_settled (Cost m) r e h = absurd (false≢true e)
 ended_settled (Outcomes m) r e h = absurd (false≢true e)
 ended_settled (Eff m k) r e h = absurd (false≢true e)
 ended_settled Goal r e h = absurd (false≢true e)
@@ -82,11 +83,11 @@ read_settled text r h =
 pub read_sound : (text r : List ℕ) → read_whole text ≡ complete r → Sound r
 read_sound text r h = let s = read_settled text r h in filled_sound r s.filled s.some s.started
 
--- and 9,464 bytes long
+-- and 9,528 bytes long
 pub read_length : (text r : List ℕ) → read_whole text ≡ complete r → length r ≡ record_size
 read_length text r h = (read_settled text r h).filled.whole
 
--- A call that answers Ok had a record of 9,464 bytes or more, and a text that says a record.
+-- A call that answers Ok had a record of 9,528 bytes or more, and a text that says a record.
 pub answered_record : (w : Whole) → answer_of w ≡ Ok tt → (r : List ℕ) × (w ≡ complete r)
 answered_record (complete r) h = (r, refl)
 answered_record (refused refusal) h = absurd (false≢true (ap is_ok h))
@@ -104,9 +105,9 @@ pub read_leaves_lem : (text record₀ r : List ℕ) → record_size ≤ length r
 unfolding read_leaves
 read_leaves_lem text record₀ r long h = rw (le-ltb (length record₀) record_size long, h)
 
--- The first 9,464 bytes that such a call leaves are a sound record, and so is all of it.
+-- The first 9,528 bytes that such a call leaves are a sound record, and so is all of it.
 module _ (text record₀ : List ℕ) (answer : read_answer text record₀ ≡ Ok tt) where
-  -- the first 9,464 bytes
+  -- the first 9,528 bytes
   pub front_left_sound : Sound (take record_size (read_leaves text record₀))
   front_left_sound =
       let a = read_answers text record₀ answer in

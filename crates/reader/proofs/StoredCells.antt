@@ -7,7 +7,7 @@ use lib.Dec.{ltb}
 use lib.ListN.{length, get_or, set, replicate, length-set, get_or-replicate, get_or-append}
 use lib.Seq.{sets, get_or-set_same, get_or-set_other, get_or-append-add}
 use borrow.Author.Tests.{ltb-true, ltb-false}
-use Rattle.task_record.specs.Layout.{record_size, at_goal, at_pattern, at_action}
+use Rattle.task_record.specs.Layout.{record_size, at_goal, at_pattern, at_action, at_cost}
 use Rattle.task_record.specs.Numbers.{byte}
 use Rattle.reader.specs.Grammar.{unused_action, unused_actions, blank}
 use Rattle.planning.proofs.Test.{by_test}
@@ -40,7 +40,10 @@ inside_sets (v ∷ vs) r at (suc j) l h =
     let n = length-set r at v in
     rw e (inside_sets vs (set r at v) (suc at) j (omega arith) (omega arith))
 
--- The blank record: header and sizes are 0, goal and start 255, patterns 0.
+-- The blank record: header and sizes are 0, goal and start 255, patterns 0; then its actions and their costs.
+abbrev blank_tail : List ℕ
+blank_tail = unused_actions 64 ++ replicate 64 0
+
 pub blank_whole : length blank ≡ record_size
 unfolding blank unused_actions unused_action
 blank_whole = refl
@@ -49,15 +52,15 @@ blank_whole = refl
 pub blank_front : (k : ℕ) → k < at_goal → byte blank k ≡ 0
 unfolding blank
 blank_front k l =
-    get_or-append (replicate at_goal 0) (replicate 32 255 ++ (replicate 128 0 ++ unused_actions 64)) 0 k l
+    get_or-append (replicate at_goal 0) (replicate 32 255 ++ (replicate 128 0 ++ blank_tail)) 0 k l
     ∙ get_or-replicate at_goal k 0 0 l
 
 -- its goal and its start
 pub blank_states : (k : ℕ) → k < 32 → byte blank (at_goal + k) ≡ 255
 unfolding blank
 blank_states k l =
-    get_or-append-add (replicate at_goal 0) (replicate 32 255 ++ (replicate 128 0 ++ unused_actions 64)) k 0
-    ∙ get_or-append (replicate 32 255) (replicate 128 0 ++ unused_actions 64) 0 k l
+    get_or-append-add (replicate at_goal 0) (replicate 32 255 ++ (replicate 128 0 ++ blank_tail)) k 0
+    ∙ get_or-append (replicate 32 255) (replicate 128 0 ++ blank_tail) 0 k l
     ∙ get_or-replicate 32 k 255 0 l
 
 -- its patterns
@@ -65,9 +68,9 @@ pub blank_patterns : (k : ℕ) → k < 128 → byte blank (at_pattern 0 + k) ≡
 unfolding blank
 blank_patterns k l =
     let e : at_pattern 0 + k ≡ 24 + (32 + k) = omega arith in
-    rw e (get_or-append-add (replicate at_goal 0) (replicate 32 255 ++ (replicate 128 0 ++ unused_actions 64)) (32 + k) 0
-    ∙ get_or-append-add (replicate 32 255) (replicate 128 0 ++ unused_actions 64) k 0
-    ∙ get_or-append (replicate 128 0) (unused_actions 64) 0 k l
+    rw e (get_or-append-add (replicate at_goal 0) (replicate 32 255 ++ (replicate 128 0 ++ blank_tail)) (32 + k) 0
+    ∙ get_or-append-add (replicate 32 255) (replicate 128 0 ++ blank_tail) k 0
+    ∙ get_or-append (replicate 128 0) blank_tail 0 k l
     ∙ get_or-replicate 128 k 0 0 l)
 
 -- An action that is not used has no outcome, and names nothing.
@@ -81,14 +84,19 @@ unused_cell (suc n) (suc m) c h l =
     let e : 145 * suc m + c ≡ 145 + (145 * m + c) = omega arith in
     rw e (get_or-append-add (0 ∷ replicate 144 255) (unused_actions n) (145 * m + c) 0 ∙ unused_cell n m c (omega arith) l)
 
+unused_whole : length (unused_actions 64) ≡ 9280
+unfolding unused_actions unused_action
+unused_whole = refl
+
 -- each of its 64 actions is one that is not used
 pub blank_actions : (m c : ℕ) → m < 64 → c < 145 → byte blank (at_action m + c) ≡ get_or unused_action c 0
 unfolding blank
 blank_actions m c h l =
     let e : at_action m + c ≡ 24 + (32 + (128 + (145 * m + c))) = omega arith in
-    rw e (get_or-append-add (replicate at_goal 0) (replicate 32 255 ++ (replicate 128 0 ++ unused_actions 64)) (32 + (128 + (145 * m + c))) 0
-    ∙ get_or-append-add (replicate 32 255) (replicate 128 0 ++ unused_actions 64) (128 + (145 * m + c)) 0
-    ∙ get_or-append-add (replicate 128 0) (unused_actions 64) (145 * m + c) 0
+    rw e (get_or-append-add (replicate at_goal 0) (replicate 32 255 ++ (replicate 128 0 ++ blank_tail)) (32 + (128 + (145 * m + c))) 0
+    ∙ get_or-append-add (replicate 32 255) (replicate 128 0 ++ blank_tail) (128 + (145 * m + c)) 0
+    ∙ get_or-append-add (replicate 128 0) blank_tail (145 * m + c) 0
+    ∙ get_or-append (unused_actions 64) (replicate 64 0) 0 (145 * m + c) (let n = unused_whole in omega arith)
     ∙ unused_cell 64 m c h l)
 
 -- its actions have no outcome
@@ -100,3 +108,15 @@ blank_count m h = let e : at_action m + 0 ≡ at_action m = omega arith in rw e 
 pub blank_block : (m c : ℕ) → m < 64 → c < 144 → byte blank (at_action m + suc c) ≡ 255
 unfolding unused_action
 blank_block m c h l = blank_actions m (suc c) h (omega arith) ∙ get_or-replicate 144 c 255 0 l
+
+-- and cost 0
+pub blank_cost : (m : ℕ) → m < 64 → byte blank (at_cost m) ≡ 0
+unfolding blank
+blank_cost m h =
+    let n = unused_whole in
+    let e : at_cost m ≡ 24 + (32 + (128 + (length (unused_actions 64) + m))) = omega arith in
+    rw e (get_or-append-add (replicate at_goal 0) (replicate 32 255 ++ (replicate 128 0 ++ blank_tail)) (32 + (128 + (length (unused_actions 64) + m))) 0
+    ∙ get_or-append-add (replicate 32 255) (replicate 128 0 ++ blank_tail) (128 + (length (unused_actions 64) + m)) 0
+    ∙ get_or-append-add (replicate 128 0) blank_tail (length (unused_actions 64) + m) 0
+    ∙ get_or-append-add (unused_actions 64) (replicate 64 0) m 0
+    ∙ get_or-replicate 64 m 0 0 h)

@@ -6,7 +6,7 @@ use Prim.Native.Nat.{ℕ, zero, suc, ◌+◌, ◌-◌, ◌≤◌, ◌<◌}
 use native.Mathlib.Omega.{arith}
 use lib.ListN.{length, take, drop, set, replicate, drop_of_length-le, length-replicate, length-set}
 use lib.Seq.{sets, sets-eq, set_out, drop-drop}
-use Rattle.task_record.specs.Layout.{record_size, at_goal, at_pattern, at_action}
+use Rattle.task_record.specs.Layout.{record_size, at_goal, at_pattern, at_action, at_cost}
 use Rattle.reader.specs.Grammar.{unused_action, unused_actions, blank}
 use Rattle.reader.specs.Stores.{all_unnamed, clear_actions}
 
@@ -51,7 +51,7 @@ pub clear_none : (r : List ℕ) → clear_actions 0 r ≡ r
 unfolding clear_actions
 clear_none r = refl
 
--- header and sizes, patterns, and the outcome numbers of all actions cleared: the blank record
-pub blank_by_stores : clear_actions 64 (sets (sets all_unnamed 0 (replicate at_goal 0)) (at_pattern 0) (replicate (at_action 0 - at_pattern 0) 0)) ≡ blank
+-- header and sizes, patterns, costs, and the outcome numbers of all actions cleared: the blank record
+pub blank_by_stores : clear_actions 64 (sets (sets (sets all_unnamed 0 (replicate at_goal 0)) (at_pattern 0) (replicate (at_action 0 - at_pattern 0) 0)) (at_cost 0) (replicate (record_size - at_cost 0) 0)) ≡ blank
 unfolding clear_actions all_unnamed blank unused_actions unused_action
 blank_by_stores = refl

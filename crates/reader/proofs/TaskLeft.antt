@@ -1,4 +1,4 @@
--- What a call that answers Ok leaves says the task and the patterns that the text says, whatever stands after the first 9,464 bytes.
+-- What a call that answers Ok leaves says the task and the patterns that the text says, whatever stands after the first 9,528 bytes.
 -- Assumes nothing.
 use mathlib.Core.Path.{◌≡◌, refl, ap₂}
 use mathlib.Core.List.{List, ◌∷◌, ◌++◌}
@@ -8,7 +8,7 @@ use native.Mathlib.Omega.{arith}
 use lib.ListN.{length, drop, take, length-drop, get_or-append}
 use lib.Seq.{take-append-le, drop-append-le}
 use Rattle.planning.specs.Finite.{tabulate}
-use Rattle.task_record.specs.Layout.{record_size, at_sizes, at_goal, at_pattern, at_action, at_precondition, at_outcome}
+use Rattle.task_record.specs.Layout.{record_size, at_sizes, at_goal, at_pattern, at_action, at_precondition, at_outcome, at_cost}
 use Rattle.task_record.specs.Numbers.{byte, variable_count, action_count, pattern_count, outcome_count}
 use Rattle.task_record.specs.Record.{Sound}
 use Rattle.task_record.specs.TaskOf.{cells_at, action_of, task_of, patterns_of}
@@ -24,7 +24,7 @@ same_entries f g k (suc n) same =
     ap₂ ◌∷◌ (rw add-zero at (same 0 (omega arith)))
     (same_entries f g (suc k) n (λ i l. let e : suc k + i ≡ k + suc i = omega arith in rw e (same (suc i) (omega arith))))
 
--- A sound record of 9,464 bytes, and bytes after it.
+-- A sound record of 9,528 bytes, and bytes after it.
 module _ (r rest : List ℕ) (whole : length r ≡ record_size) (sound : Sound r) where
   same_cell : (k : ℕ) → k < record_size → byte (r ++ rest) k ≡ byte r k
   same_cell k l = get_or-append r rest 0 k (omega arith)
@@ -38,7 +38,7 @@ module _ (r rest : List ℕ) (whole : length r ≡ record_size) (sound : Sound r
   same_action m l = let few = actions_right r sound in let o = outcomes_right r sound m l in
       let e = same_entries (λ k. cells_at (r ++ rest) (at_outcome m k)) (λ k. cells_at r (at_outcome m k)) 0 (outcome_count r m)
       (λ k h. same_part 16 (at_outcome m (0 + k)) (omega arith)) in
-      rw (same_cell (at_action m) (omega arith), same_part 16 (at_precondition m) (omega arith), e)
+      rw (same_cell (at_action m) (omega arith), same_cell (at_cost m) (omega arith), same_part 16 (at_precondition m) (omega arith), e)
 
   pub same_task : task_of (r ++ rest) ≡ task_of r
   unfolding task_of

@@ -8,22 +8,22 @@ use native.Mathlib.Omega.{arith}
 use lib.ListN.{length, get_or, set}
 use lib.Seq.{sets, drop-append_seam}
 use borrow.Author.Tests.{le-leb, eq-eqb, leb-true}
-use Rattle.task_record.specs.Layout.{at_variables, at_actions, at_patterns, at_limit, at_budget, at_sizes, at_goal, at_start, at_pattern, at_action, at_precondition, at_outcome}
-use Rattle.task_record.specs.Numbers.{byte, variable_count, action_count, pattern_count, limit_of, budget_of, size_of, outcome_count}
+use Rattle.task_record.specs.Layout.{at_variables, at_actions, at_patterns, at_limit, at_budget, at_sizes, at_goal, at_start, at_pattern, at_action, at_precondition, at_outcome, at_cost}
+use Rattle.task_record.specs.Numbers.{byte, variable_count, action_count, pattern_count, limit_of, budget_of, size_of, outcome_count, action_cost}
 use Rattle.task_record.specs.Record.{cell_ok, head_ok, state_ok, pattern_ok, Sound}
 use Rattle.task_record.specs.TaskOf.{cells_at}
 use Rattle.reader.specs.Bytes.{bytes}
 use Rattle.reader.specs.Text.{line_break, has_key}
 use Rattle.reader.specs.Lists.{is_values, whole_list}
-use Rattle.reader.specs.Grammar.{key_vars, key_size, key_moves, key_need, key_outcomes, key_eff, key_goal, key_start, key_patterns, key_pattern, key_limit, key_budget, ended, go_on, take_number, budget_bytes, take_budget, take_list, number_line, budget_line, list_line, take_line}
+use Rattle.reader.specs.Grammar.{key_vars, key_size, key_moves, key_need, key_cost, key_outcomes, key_eff, key_goal, key_start, key_patterns, key_pattern, key_limit, key_budget, ended, go_on, take_number, budget_bytes, take_budget, take_list, number_line, budget_line, list_line, take_due, take_line}
 use Rattle.reader.specs.Written.{decimal, items_of, list_text, line_of}
 use Rattle.reader.specs.declared.lists.Kind.{Kind}
 use Rattle.reader.specs.declared.lists.Kind.TheVariants.{Pairs, Values, Members}
 use Rattle.reader.specs.declared.order.Due.{Due}
-use Rattle.reader.specs.declared.order.Due.TheVariants.{Vars, Size, Moves, Need, Outcomes, Eff, Goal, Start, Patterns, Pattern, Limit, Budget, End}
+use Rattle.reader.specs.declared.order.Due.TheVariants.{Vars, Size, Moves, Need, Outcomes, Eff, Goal, Start, Patterns, Pattern, Limit, Budget, End, Cost}
 use Rattle.task_record.proofs.Offsets.{start_at, pattern_at}
 use Rattle.task_record.proofs.Soundness.{sound_length, sound_cell}
-use Rattle.task_record.proofs.SoundTask.{Assigns, cell_of_part, length_of_part, variables_right, actions_right, patterns_right, size_right, outcomes_right, goal_assigns, precondition_assigns, outcome_assigns}
+use Rattle.task_record.proofs.SoundTask.{Assigns, cell_of_part, length_of_part, variables_right, actions_right, patterns_right, size_right, outcomes_right, costs_right, goal_assigns, precondition_assigns, outcome_assigns}
 use Rattle.reader.proofs.WrittenNumbers.{number_read}
 use Rattle.reader.proofs.WrittenPieces.{lacks, lacks_append, decimal_lacks}
 use Rattle.reader.proofs.WrittenLists.{Listable, list_read_back, list_text_breaks}
@@ -66,6 +66,7 @@ Valid t Vars = Unit {0}
 Valid t (Size i) = i < variable_count t
 Valid t Moves = Unit {0}
 Valid t (Need m) = m < action_count t
+Valid t (Cost m) = m < action_count t
 Valid t (Outcomes m) = m < action_count t
 Valid t (Eff m k) = (m < action_count t) × (k < outcome_count t m)
 Valid t Goal = Unit {0}
@@ -82,6 +83,7 @@ Known t Vars r = Unit {0}
 Known t (Size i) r = Same t r at_variables × ((v : ℕ) → v < i → Same t r (at_sizes + v))
 Known t Moves r = Base t r
 Known t (Need m) r = Base t r × Same t r at_actions
+Known t (Cost m) r = Base t r × Same t r at_actions
 Known t (Outcomes m) r = Base t r × Same t r at_actions
 Known t (Eff m k) r = Base t r × Same t r at_actions × Same t r (at_action m)
 Known t Goal r = Base t r
@@ -98,6 +100,7 @@ place_of Vars = at_variables
 place_of (Size i) = at_sizes + i
 place_of Moves = at_actions
 place_of (Need m) = at_precondition m
+place_of (Cost m) = at_cost m
 place_of (Outcomes m) = at_action m
 place_of (Eff m k) = at_outcome m k
 place_of Goal = at_goal
@@ -113,6 +116,7 @@ row_of t Vars = byte t at_variables ∷ []
 row_of t (Size i) = byte t (at_sizes + i) ∷ []
 row_of t Moves = byte t at_actions ∷ []
 row_of t (Need m) = cells_at t (at_precondition m)
+row_of t (Cost m) = action_cost t m ∷ []
 row_of t (Outcomes m) = byte t (at_action m) ∷ []
 row_of t (Eff m k) = cells_at t (at_outcome m k)
 row_of t Goal = cells_at t at_goal
@@ -127,9 +131,9 @@ abbrev pub stored : List ℕ → Due → List ℕ → List ℕ
 stored t due r = sets r (place_of due) (row_of t due)
 
 module _ (t : List ℕ) (sound : Sound t) where
-  limit_right : limit_of t ≤ 32
+  limit_right : limit_of t ≤ 255
   unfolding cell_ok head_ok
-  limit_right = leb-true (limit_of t) 32 (sound_cell t sound at_limit (omega arith))
+  limit_right = leb-true (limit_of t) 255 (sound_cell t sound at_limit (omega arith))
 
   budget_right : budget_of t ≤ 1000000
   unfolding cell_ok head_ok
@@ -168,7 +172,7 @@ module _ (t : List ℕ) (sound : Sound t) where
 
     -- Each line is taken.
     pub line_taken : (due : Due) → ended due ≡ false → Valid t due → Known t due r → take_line r due (line_of t due) ≡ go_on due (stored t due r)
-    unfolding take_line line_of
+    unfolding take_line take_due line_of
     line_taken Vars e v k =
         let n = variables_right t sound in number_line_read r Vars key_vars 1 16 at_variables (variable_count t) n.0 n.1 (omega arith)
     line_taken (Size i) e v k =
@@ -177,6 +181,10 @@ module _ (t : List ℕ) (sound : Sound t) where
         let n = actions_right t sound in number_line_read r Moves key_moves 0 64 at_actions (action_count t) (omega arith) n (omega arith)
     line_taken (Need m) e v k =
         pairs_line (Need m) key_need (at_precondition m) (cells_at t (at_precondition m)) k.0 (precondition_assigns t sound m v)
+    line_taken (Cost m) e v k =
+        let n = costs_right t sound m v in
+        rw (key_had key_cost (decimal (action_cost t m)))
+        (number_line_read r (Cost m) key_cost 1 255 (at_cost m) (action_cost t m) n.0 n.1 (omega arith))
     line_taken (Outcomes m) e v k =
         let n = outcomes_right t sound m v in
         number_line_read r (Outcomes m) key_outcomes 1 8 (at_action m) (outcome_count t m) n.0 n.1 (omega arith)
@@ -200,7 +208,7 @@ module _ (t : List ℕ) (sound : Sound t) where
         (λ i l. pattern_cell p v i (omega arith)) in
         list_line_read r (Pattern p) key_pattern Members (at_pattern p) (cells_at t (at_pattern p)) g.0 w g.1
         (λ q. let z : ◌≡◌ {A = ℕ} 0 1 = cc in absurd (omega arith)) refl
-    line_taken Limit e v k = number_line_read r Limit key_limit 0 32 at_limit (limit_of t) (omega arith) limit_right (let l = limit_right in omega arith)
+    line_taken Limit e v k = number_line_read r Limit key_limit 0 255 at_limit (limit_of t) (omega arith) limit_right (let l = limit_right in omega arith)
     line_taken Budget e v k = budget_line_read r Budget key_budget (budget_of t) budget_right
     line_taken End e v k = absurd (false≢true (sym e))
 
@@ -219,6 +227,7 @@ module _ (t : List ℕ) (sound : Sound t) where
   line_breaks (Size i) e v = let n = size_right t sound i v in number_breaks key_size (size_of t i) refl (omega arith)
   line_breaks Moves e v = let n = actions_right t sound in number_breaks key_moves (action_count t) refl (omega arith)
   line_breaks (Need m) e v = pairs_breaks key_need (cells_at t (at_precondition m)) refl (precondition_assigns t sound m v)
+  line_breaks (Cost m) e v = let n = costs_right t sound m v in number_breaks key_cost (action_cost t m) refl (omega arith)
   line_breaks (Outcomes m) e v = let n = outcomes_right t sound m v in number_breaks key_outcomes (outcome_count t m) refl (omega arith)
   line_breaks (Eff m j) e v = pairs_breaks key_eff (cells_at t (at_outcome m j)) refl (outcome_assigns t sound m j v.0 v.1)
   line_breaks Goal e v = pairs_breaks key_goal (cells_at t at_goal) refl (goal_assigns t sound)

@@ -12,7 +12,7 @@ use Rattle.task_record.specs.Record.{Sound}
 use Rattle.reader.specs.Grammar.{action_from, pattern_from, next_due, ended}
 use Rattle.reader.specs.Written.{sizes_from, outcomes_from, actions_from, patterns_from, dues_of}
 use Rattle.reader.specs.declared.order.Due.{Due}
-use Rattle.reader.specs.declared.order.Due.TheVariants.{Vars, Size, Moves, Need, Outcomes, Eff, Goal, Start, Patterns, Pattern, Limit, Budget, End}
+use Rattle.reader.specs.declared.order.Due.TheVariants.{Vars, Size, Moves, Need, Outcomes, Eff, Goal, Start, Patterns, Pattern, Limit, Budget, End, Cost}
 use Rattle.planning.proofs.Test.{split_le}
 use Rattle.task_record.proofs.SoundTask.{variables_right, outcomes_right}
 use Rattle.reader.proofs.WrittenLines.{Valid}
@@ -61,8 +61,8 @@ module _ (t : List ℕ) where
         let l : m < action_count t = omega arith in
         let o = outcomes_right t sound m l in
         rw (lt-ltb m (action_count t) l)
-        (line (Need m) _ refl l (line (Outcomes m) _ refl l
-        (outcomes_run m (actions_from t (m + 1) n (goal_lines t)) l (actions_run n (m + 1) (omega arith)) (outcome_count t m) 0 o.0 (omega arith))))
+        (line (Need m) _ refl l (line (Cost m) _ refl l (line (Outcomes m) _ refl l
+        (outcomes_run m (actions_from t (m + 1) n (goal_lines t)) l (actions_run n (m + 1) (omega arith)) (outcome_count t m) 0 o.0 (omega arith)))))
 
     abbrev move_lines : List Due
     move_lines = Moves ∷ actions_from t 0 (action_count t) (goal_lines t)
@@ -116,20 +116,20 @@ module _ (P : Due → Type 0) (rest : List Due) where
 
 -- The lines of action j are among those of the actions.
 module _ (P : Due → Type 0) (t : List ℕ) (rest : List Due) where
-  pub among_actions : (n m j : ℕ) → m ≤ j → j < m + n → ((more : List Due) → Some P (Need j ∷ Outcomes j ∷ outcomes_from j 0 (outcome_count t j) more))
+  pub among_actions : (n m j : ℕ) → m ≤ j → j < m + n → ((more : List Due) → Some P (Need j ∷ Cost j ∷ Outcomes j ∷ outcomes_from j 0 (outcome_count t j) more))
       → Some P (actions_from t m n rest)
   unfolding actions_from
   among_actions zero m j a b h = absurd (omega arith)
   among_actions (suc n) m j a b h =
       split_le m j a
       (λ e. rw e (h (actions_from t (j + 1) n rest)))
-      (λ l. inr (inr (after_outcomes P (actions_from t (m + 1) n rest) m (outcome_count t m) 0
-      (among_actions n (m + 1) j (omega arith) (omega arith) h))))
+      (λ l. inr (inr (inr (after_outcomes P (actions_from t (m + 1) n rest) m (outcome_count t m) 0
+      (among_actions n (m + 1) j (omega arith) (omega arith) h)))))
 
   pub after_actions : (n m : ℕ) → Some P rest → Some P (actions_from t m n rest)
   unfolding actions_from
   after_actions zero m h = h
-  after_actions (suc n) m h = inr (inr (after_outcomes P (actions_from t (m + 1) n rest) m (outcome_count t m) 0 (after_actions n (m + 1) h)))
+  after_actions (suc n) m h = inr (inr (inr (after_outcomes P (actions_from t (m + 1) n rest) m (outcome_count t m) 0 (after_actions n (m + 1) h))))
 
 -- Where each line stands in the whole text.
 module _ (P : Due → Type 0) (t : List ℕ) where
@@ -150,6 +150,6 @@ module _ (P : Due → Type 0) (t : List ℕ) where
   pub pattern_line : (p : ℕ) → p < pattern_count t → P (Pattern p) → Some P (dues_of t)
   pattern_line p l h = from_goal (inr (inr (inr (among_patterns P last_lines (pattern_count t) 0 p (omega arith) (omega arith) h))))
 
-  pub action_lines : (m : ℕ) → m < action_count t → ((more : List Due) → Some P (Need m ∷ Outcomes m ∷ outcomes_from m 0 (outcome_count t m) more))
+  pub action_lines : (m : ℕ) → m < action_count t → ((more : List Due) → Some P (Need m ∷ Cost m ∷ Outcomes m ∷ outcomes_from m 0 (outcome_count t m) more))
       → Some P (dues_of t)
   action_lines m l h = from_moves (inr (among_actions P t (goal_lines t) (action_count t) 0 m (omega arith) (omega arith) h))

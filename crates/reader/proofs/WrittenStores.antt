@@ -9,13 +9,13 @@ use lib.Dec.{ltb}
 use lib.ListN.{length, get_or}
 use lib.Seq.{length-sets}
 use borrow.Author.Tests.{ltb-true, ltb-false}
-use Rattle.task_record.specs.Layout.{record_size, at_variables, at_actions, at_patterns, at_budget, at_sizes, at_goal, at_start, at_pattern, at_action, at_precondition, at_outcome}
+use Rattle.task_record.specs.Layout.{record_size, at_variables, at_actions, at_patterns, at_budget, at_sizes, at_goal, at_start, at_pattern, at_action, at_precondition, at_outcome, at_cost}
 use Rattle.task_record.specs.Numbers.{byte, variable_count, action_count, pattern_count, budget_of, outcome_count}
 use Rattle.task_record.specs.Record.{Sound}
 use Rattle.task_record.specs.TaskOf.{cells_at}
 use Rattle.reader.specs.Grammar.{action_from, pattern_from, next_due, ended, budget_bytes}
 use Rattle.reader.specs.declared.order.Due.{Due}
-use Rattle.reader.specs.declared.order.Due.TheVariants.{Vars, Size, Moves, Need, Outcomes, Eff, Goal, Start, Patterns, Pattern, Limit, Budget, End}
+use Rattle.reader.specs.declared.order.Due.TheVariants.{Vars, Size, Moves, Need, Outcomes, Eff, Goal, Start, Patterns, Pattern, Limit, Budget, End, Cost}
 use Rattle.planning.proofs.Test.{by_test}
 use Rattle.task_record.proofs.Parts.{Bytes}
 use Rattle.task_record.proofs.Soundness.{sound_length}
@@ -29,6 +29,7 @@ length_of Vars = 1
 length_of (Size i) = 1
 length_of Moves = 1
 length_of (Need m) = 16
+length_of (Cost m) = 1
 length_of (Outcomes m) = 1
 length_of (Eff m k) = 16
 length_of Goal = 16
@@ -55,6 +56,7 @@ module _ (t : List ℕ) (sound : Sound t) where
   place_inside (Size i) v = let n = variables_right t sound in omega arith
   place_inside Moves v = omega arith
   place_inside (Need m) v = let n = actions_right t sound in omega arith
+  place_inside (Cost m) v = let n = actions_right t sound in omega arith
   place_inside (Outcomes m) v = let n = actions_right t sound in omega arith
   place_inside (Eff m k) v = let n = actions_right t sound in let o = outcomes_right t sound m v.0 in omega arith
   place_inside Goal v = omega arith
@@ -74,6 +76,7 @@ module _ (t : List ℕ) (sound : Sound t) where
   row_whole (Size i) v = refl
   row_whole Moves v = refl
   row_whole (Need m) v = part_whole (at_precondition m) (place_inside (Need m) v)
+  row_whole (Cost m) v = refl
   row_whole (Outcomes m) v = refl
   row_whole (Eff m k) v = part_whole (at_outcome m k) (place_inside (Eff m k) v)
   row_whole Goal v = part_whole at_goal (omega arith)
@@ -99,6 +102,7 @@ module _ (t : List ℕ) (sound : Sound t) where
     row_cell (Size i) j l = one_cell t (at_sizes + i) j l
     row_cell Moves j l = one_cell t at_actions j l
     row_cell (Need m) j l = cell_of_part t 16 (at_precondition m) j l
+    row_cell (Cost m) j l = one_cell t (at_cost m) j l
     row_cell (Outcomes m) j l = one_cell t (at_action m) j l
     row_cell (Eff m k) j l = cell_of_part t 16 (at_outcome m k) j l
     row_cell Goal j l = cell_of_part t 16 at_goal j l
@@ -163,6 +167,7 @@ module _ (t : List ℕ) (sound : Sound t) where
           let s = new_same r whole Moves v at_actions (omega arith, omega arith) in
           (ap (λ (z : ℕ). cond (ltb 0 z) (Need 0) Goal) s, action_known (stored t Moves r) 0 (base_kept r whole Moves v k) s)
       next_known (Need m) e v k = (refl, (base_kept r whole (Need m) v k.0, kept_same r whole (Need m) v at_actions k.1))
+      next_known (Cost m) e v k = (refl, (base_kept r whole (Cost m) v k.0, kept_same r whole (Cost m) v at_actions k.1))
       next_known (Outcomes m) e v k = (
         refl,
         (

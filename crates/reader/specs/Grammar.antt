@@ -1,15 +1,15 @@
--- Document 01, "Text" and refusals 1 to 5: which line is due, what a line does to the record, and the whole text. `read_answer` and `read_leaves`
--- are what a call answers and what the lent record holds after it. Assumes nothing.
+-- Document 01, "Text" and refusals 1 to 5, and document 02, item 3: which line is due, what a line does to the record, and the whole text.
+-- `read_answer` and `read_leaves` are what a call answers and what the lent record holds after it. Assumes nothing.
 use Rattle.std.specs.Prelude.{ℕ, zero, suc, ◌+◌, ◌-◌, ◌/◌, ◌%◌, Bool, true, false, cond, ◌&&◌, List, [], ◌∷◌, ◌++◌, length, get_or, drop, set, replicate, ltb, leb, Option, Some, None, Result, Ok, Err}
 use Rattle.std.proofs.lemmas.List.Edits.{sets}
-use Rattle.task_record.specs.Layout.{record_size, at_variables, at_actions, at_patterns, at_limit, at_budget, at_sizes, at_goal, at_start, at_pattern, at_action, at_precondition, at_outcome}
+use Rattle.task_record.specs.Layout.{record_size, at_variables, at_actions, at_patterns, at_limit, at_budget, at_sizes, at_goal, at_start, at_pattern, at_action, at_precondition, at_outcome, at_cost}
 use Rattle.reader.specs.Bytes.{bytes}
 use Rattle.reader.specs.Text.{lines_of, has_key, number_of}
 use Rattle.reader.specs.Lists.{list_of, whole_list}
 use Rattle.reader.specs.declared.lists.Kind.{Kind}
 use Rattle.reader.specs.declared.lists.Kind.TheVariants.{Pairs, Values, Members}
 use Rattle.reader.specs.declared.order.Due.{Due}
-use Rattle.reader.specs.declared.order.Due.TheVariants.{Vars, Size, Moves, Need, Outcomes, Eff, Goal, Start, Patterns, Pattern, Limit, Budget, End}
+use Rattle.reader.specs.declared.order.Due.TheVariants.{Vars, Size, Moves, Need, Outcomes, Eff, Goal, Start, Patterns, Pattern, Limit, Budget, End, Cost}
 use Rattle.reader.specs.declared.grammar.LineFault.{LineFault}
 use Rattle.reader.specs.declared.grammar.LineFault.TheVariants as of-line
 use Rattle.reader.specs.declared.lists.Gathered.{Gathered}
@@ -17,7 +17,7 @@ use Rattle.task_record.specs.declared.refusal.Refusal.{Refusal}
 use Rattle.task_record.specs.declared.refusal.Refusal.TheVariants.{UnexpectedLine, WrongForm, OutOfRange, WrongList, ShortRecord}
 
 -- The order of the lines. "in this order: vars; size per variable; moves; per move need, outcomes, then eff per outcome; goal; start; patterns;
--- pattern each; limit; budget." The record r has the counts that were read.
+-- pattern each; limit; budget."; "a line cost= .. after each need". The record r has the counts that were read.
 -- the lines of action m, or the goal after the last
 abbrev pub action_from : List ℕ → ℕ → Due
 action_from r m = cond (ltb m (get_or r at_actions 0)) (Need m) Goal
@@ -31,7 +31,8 @@ unfoldable pub next_due : List ℕ → Due → Due
 next_due r Vars = Size 0
 next_due r (Size i) = cond (ltb (i + 1) (get_or r at_variables 0)) (Size (i + 1)) Moves
 next_due r Moves = action_from r 0
-next_due r (Need m) = Outcomes m
+next_due r (Need m) = Cost m
+next_due r (Cost m) = Outcomes m
 next_due r (Outcomes m) = Eff m 0
 next_due r (Eff m k) = cond (ltb (k + 1) (get_or r (at_action m) 0)) (Eff m (k + 1)) (action_from r (m + 1))
 next_due r Goal = Start
@@ -48,6 +49,7 @@ ended Vars = false
 ended (Size i) = false
 ended Moves = false
 ended (Need m) = false
+ended (Cost m) = false
 ended (Outcomes m) = false
 ended (Eff m k) = false
 ended Goal = false
@@ -115,6 +117,9 @@ key_moves = bytes "moves="
 abbrev pub key_need : List ℕ
 key_need = bytes "need="
 
+abbrev pub key_cost : List ℕ
+key_cost = bytes "cost="
+
 abbrev pub key_outcomes : List ℕ
 key_outcomes = bytes "outcomes="
 
@@ -139,22 +144,40 @@ key_limit = bytes "limit="
 abbrev pub key_budget : List ℕ
 key_budget = bytes "budget="
 
--- The line that is due: its key, its range or kind, its place. "Ranges: N 1 to 16, size 2 to 16, moves M 0 to 64, patterns P 0 to 8, limit 0 to 32",
--- "1 to 8 outcomes"; a line after the last is "extra".
+-- A line that must be the one that is due: its key, its range or kind, its place. "Ranges: N 1 to 16, size 2 to 16, moves M 0 to 64, patterns P 0 to
+-- 8", "1 to 8 outcomes"; "cost= of 1 to 255"; "Limit is a cost from 0 to 255"; a line after the last is "extra".
+unfoldable pub take_due : List ℕ → Due → List ℕ → Line
+take_due r Vars l = number_line r Vars l key_vars 1 16 at_variables
+take_due r (Size i) l = number_line r (Size i) l key_size 2 16 (at_sizes + i)
+take_due r Moves l = number_line r Moves l key_moves 0 64 at_actions
+take_due r (Need m) l = list_line r (Need m) l key_need Pairs (at_precondition m)
+take_due r (Cost m) l = number_line r (Cost m) l key_cost 1 255 (at_cost m)
+take_due r (Outcomes m) l = number_line r (Outcomes m) l key_outcomes 1 8 (at_action m)
+take_due r (Eff m k) l = list_line r (Eff m k) l key_eff Pairs (at_outcome m k)
+take_due r Goal l = list_line r Goal l key_goal Pairs at_goal
+take_due r Start l = list_line r Start l key_start Values at_start
+take_due r Patterns l = number_line r Patterns l key_patterns 0 8 at_patterns
+take_due r (Pattern p) l = list_line r (Pattern p) l key_pattern Members (at_pattern p)
+take_due r Limit l = number_line r Limit l key_limit 0 255 at_limit
+take_due r Budget l = budget_line r Budget l key_budget
+take_due r End l = faulty of-line.Unexpected
+
+-- The line that comes. "The line may be left out, and that move then costs 1": where a cost is due, a line without its key is the one after it.
 unfoldable pub take_line : List ℕ → Due → List ℕ → Line
-take_line r Vars l = number_line r Vars l key_vars 1 16 at_variables
-take_line r (Size i) l = number_line r (Size i) l key_size 2 16 (at_sizes + i)
-take_line r Moves l = number_line r Moves l key_moves 0 64 at_actions
-take_line r (Need m) l = list_line r (Need m) l key_need Pairs (at_precondition m)
-take_line r (Outcomes m) l = number_line r (Outcomes m) l key_outcomes 1 8 (at_action m)
-take_line r (Eff m k) l = list_line r (Eff m k) l key_eff Pairs (at_outcome m k)
-take_line r Goal l = list_line r Goal l key_goal Pairs at_goal
-take_line r Start l = list_line r Start l key_start Values at_start
-take_line r Patterns l = number_line r Patterns l key_patterns 0 8 at_patterns
-take_line r (Pattern p) l = list_line r (Pattern p) l key_pattern Members (at_pattern p)
-take_line r Limit l = number_line r Limit l key_limit 0 32 at_limit
-take_line r Budget l = budget_line r Budget l key_budget
-take_line r End l = faulty of-line.Unexpected
+take_line r (Cost m) l = cond (has_key key_cost l) (take_due r (Cost m) l) (take_due (set r (at_cost m) 1) (Outcomes m) l)
+take_line r Vars l = take_due r Vars l
+take_line r (Size i) l = take_due r (Size i) l
+take_line r Moves l = take_due r Moves l
+take_line r (Need m) l = take_due r (Need m) l
+take_line r (Outcomes m) l = take_due r (Outcomes m) l
+take_line r (Eff m k) l = take_due r (Eff m k) l
+take_line r Goal l = take_due r Goal l
+take_line r Start l = take_due r Start l
+take_line r Patterns l = take_due r Patterns l
+take_line r (Pattern p) l = take_due r (Pattern p) l
+take_line r Limit l = take_due r Limit l
+take_line r Budget l = take_due r Budget l
+take_line r End l = take_due r End l
 
 -- refusals 1 to 4, of a line: what is wrong with it, and its number
 abbrev pub fault_at : LineFault → ℕ → Refusal
@@ -184,8 +207,8 @@ unfoldable pub read_from : ℕ → Due → List ℕ → List (List ℕ) → Whol
 read_from n due r [] = cond (ended due) (complete r) (refused (UnexpectedLine n))
 read_from n due r (l ∷ ls) = proceed n (take_line r due l) (λ d x. read_from (n + 1) d x ls)
 
--- "Unused cells: size, pattern and outcome number 0, all others 255": an action that is not used, n of them, a record with nothing used
--- (every cell of the header is set by its line)
+-- "Unused cells: size, pattern and outcome number 0, all others 255": an action that is not used, n of them, a record with nothing used, with
+-- "64 bytes at its end, 0 for unused moves" (every cell of the header is set by its line)
 unfoldable pub unused_action : List ℕ
 unused_action = 0 ∷ replicate (at_action 1 - at_precondition 0) 255
 
@@ -194,7 +217,7 @@ unused_actions zero = []
 unused_actions (suc n) = unused_action ++ unused_actions n
 
 unfoldable pub blank : List ℕ
-blank = replicate at_goal 0 ++ (replicate (at_pattern 0 - at_goal) 255 ++ (replicate (at_action 0 - at_pattern 0) 0 ++ unused_actions 64))
+blank = replicate at_goal 0 ++ (replicate (at_pattern 0 - at_goal) 255 ++ (replicate (at_action 0 - at_pattern 0) 0 ++ (unused_actions 64 ++ replicate 64 0)))
 
 -- "line, from 1"
 unfoldable pub read_whole : List ℕ → Whole
@@ -204,12 +227,13 @@ abbrev pub answer_of : Whole → Result Unit Refusal
 answer_of (complete r) = Ok tt
 answer_of (refused refusal) = Err refusal
 
--- "The reader writes 9,464 bytes and nothing after"; "refused calls leave every lent slice as found"
+-- "The reader writes 9,464 bytes and nothing after", which are now 9,528; "refused calls leave every lent slice as found"
 abbrev pub record_left_by : List ℕ → Whole → List ℕ
 record_left_by record₀ (complete r) = r ++ drop record_size record₀
 record_left_by record₀ (refused refusal) = record₀
 
--- What the call answers, and what the lent record holds after it. "the reader tests 5 first": "lent record below 9,464 bytes", "its length".
+-- What the call answers, and what the lent record holds after it. "the reader tests 5 first": "lent record below 9,464 bytes", now
+-- 9,528, "its length".
 unfoldable pub read_answer : List ℕ → List ℕ → Result Unit Refusal
 read_answer text record₀ = cond (ltb (length record₀) record_size) (Err (ShortRecord (length record₀))) (answer_of (read_whole text))
 

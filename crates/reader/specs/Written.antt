@@ -2,15 +2,15 @@
 -- Assumes nothing.
 use Rattle.std.specs.Prelude.{ℕ, zero, suc, ◌+◌, ◌/◌, ◌%◌, cond, List, [], ◌∷◌, ◌++◌, map, ltb, eqb}
 use Rattle.task_record.specs.Layout.{at_variables, at_actions, at_patterns, at_limit, at_sizes, at_goal, at_start, at_pattern, at_action, at_precondition, at_outcome}
-use Rattle.task_record.specs.Numbers.{byte, variable_count, action_count, pattern_count, outcome_count, budget_of}
+use Rattle.task_record.specs.Numbers.{byte, variable_count, action_count, pattern_count, outcome_count, action_cost, budget_of}
 use Rattle.task_record.specs.TaskOf.{cells_at}
 use Rattle.reader.specs.Text.{line_break, comma, colon}
 use Rattle.reader.specs.Lists.{unnamed}
-use Rattle.reader.specs.Grammar.{key_vars, key_size, key_moves, key_need, key_outcomes, key_eff, key_goal, key_start, key_patterns, key_pattern, key_limit, key_budget}
+use Rattle.reader.specs.Grammar.{key_vars, key_size, key_moves, key_need, key_cost, key_outcomes, key_eff, key_goal, key_start, key_patterns, key_pattern, key_limit, key_budget}
 use Rattle.reader.specs.declared.lists.Kind.{Kind}
 use Rattle.reader.specs.declared.lists.Kind.TheVariants.{Pairs, Values, Members}
 use Rattle.reader.specs.declared.order.Due.{Due}
-use Rattle.reader.specs.declared.order.Due.TheVariants.{Vars, Size, Moves, Need, Outcomes, Eff, Goal, Start, Patterns, Pattern, Limit, Budget, End}
+use Rattle.reader.specs.declared.order.Due.TheVariants.{Vars, Size, Moves, Need, Outcomes, Eff, Goal, Start, Patterns, Pattern, Limit, Budget, End, Cost}
 
 -- "A number is 1 to 7 decimal digits, without a leading zero except 0 itself.": the digits of n, at most k + 1 of them
 unfoldable pub digits_of : ℕ → ℕ → List ℕ
@@ -49,6 +49,7 @@ line_of r Vars = key_vars ++ decimal (byte r at_variables)
 line_of r (Size i) = key_size ++ decimal (byte r (at_sizes + i))
 line_of r Moves = key_moves ++ decimal (byte r at_actions)
 line_of r (Need m) = key_need ++ list_text Pairs (cells_at r (at_precondition m))
+line_of r (Cost m) = key_cost ++ decimal (action_cost r m)
 line_of r (Outcomes m) = key_outcomes ++ decimal (byte r (at_action m))
 line_of r (Eff m k) = key_eff ++ list_text Pairs (cells_at r (at_outcome m k))
 line_of r Goal = key_goal ++ list_text Pairs (cells_at r at_goal)
@@ -59,8 +60,8 @@ line_of r Limit = key_limit ++ decimal (byte r at_limit)
 line_of r Budget = key_budget ++ decimal (budget_of r)
 line_of r End = []
 
--- "vars; size per variable; moves; per move need, outcomes, then eff per outcome; goal; start; patterns; pattern each; limit; budget": n lines of
--- each kind, before the rest
+-- "vars; size per variable; moves; per move need, outcomes, then eff per outcome; goal; start; patterns; pattern each; limit; budget", and "a line
+-- cost= .. after each need", though it "may be left out": n lines of each kind, before the rest
 unfoldable pub sizes_from : ℕ → ℕ → List Due → List Due
 sizes_from i zero rest = rest
 sizes_from i (suc n) rest = Size i ∷ sizes_from (i + 1) n rest
@@ -71,7 +72,7 @@ outcomes_from m k (suc n) rest = Eff m k ∷ outcomes_from m (k + 1) n rest
 
 unfoldable pub actions_from : List ℕ → ℕ → ℕ → List Due → List Due
 actions_from r m zero rest = rest
-actions_from r m (suc n) rest = Need m ∷ Outcomes m ∷ outcomes_from m 0 (outcome_count r m) (actions_from r (m + 1) n rest)
+actions_from r m (suc n) rest = Need m ∷ Cost m ∷ Outcomes m ∷ outcomes_from m 0 (outcome_count r m) (actions_from r (m + 1) n rest)
 
 unfoldable pub patterns_from : ℕ → ℕ → List Due → List Due
 patterns_from p zero rest = rest

@@ -4,7 +4,7 @@ ghost use Rattle.reader.specs.Grammar.{blank};
 ghost use Rattle.reader.specs.Stores.{clear_actions};
 
 use crate::store::{fill, put};
-use task_record::layout::{AT_GOAL, RECORD_SIZE, UNNAMED, at_action, at_pattern};
+use task_record::layout::{AT_COSTS, AT_GOAL, RECORD_SIZE, UNNAMED, at_action, at_pattern};
 
 // The record that is filled, before it is copied out.
 pub type Record = [u8; RECORD_SIZE];
@@ -25,5 +25,6 @@ pub(crate) fn clear_record(r: &mut Record)
     fill(r, 0, RECORD_SIZE, UNNAMED);
     fill(r, 0, AT_GOAL, 0);
     fill(r, at_pattern(0), at_action(0) - at_pattern(0), 0);
+    fill(r, AT_COSTS, RECORD_SIZE - AT_COSTS, 0);
     clear_actions(r, 64);
 }

@@ -1,7 +1,7 @@
 // What the line that is due must be: its key, and what stands behind it, with its place in the record. Assumes nothing.
 ghost use Rattle.std.specs.Prelude.{◌≡◌, List, ℕ, true, false, length, drop, cond, MatchResult};
 ghost use Rattle.reader.specs.Text.{has_key};
-ghost use Rattle.reader.specs.Grammar.{faulty, take_line};
+ghost use Rattle.reader.specs.Grammar.{faulty, take_due};
 ghost use Rattle.reader.specs.Held.{held, take_text};
 ghost use Rattle.reader.specs.declared.order.Due.{Due};
 
@@ -11,7 +11,7 @@ use crate::order::Due;
 use crate::places::Field;
 use task_record::layout::{
     AT_ACTION_COUNT, AT_GOAL, AT_LIMIT, AT_PATTERN_COUNT, AT_SIZES, AT_START, AT_VARIABLES,
-    at_action, at_outcome, at_pattern, at_precondition,
+    at_action, at_cost, at_outcome, at_pattern, at_precondition,
 };
 
 // What a value is: a number, the budget, or a list with the place of its cells.
@@ -53,9 +53,9 @@ fn value_behind<'a>(line: &'a [u8], key: &[u8], holds: Holds) -> Result<Value<'a
 }
 
 // The value of a line, which must be the one that is due.
-#[tactic(auto, unfolding(crate::specs::Bytes::bytes, crate::specs::Grammar::take_line, crate::specs::Grammar::number_line, crate::specs::Grammar::list_line, crate::specs::Grammar::budget_line))]
+#[tactic(auto, unfolding(crate::specs::Bytes::bytes, crate::specs::Grammar::take_due, crate::specs::Grammar::number_line, crate::specs::Grammar::list_line, crate::specs::Grammar::budget_line))]
 pub(crate) fn value_of(due: Due, line: &[u8]) -> Result<Value<'_>, LineFault>
-    ensures { (r : List ℕ) → take_line r due line.now ≡ held r due result }
+    ensures { (r : List ℕ) → take_due r due line.now ≡ held r due result }
 {
     match due {
         Due::Vars => value_behind(line, b"vars=", Holds::number(1, 16, AT_VARIABLES)),
@@ -76,8 +76,9 @@ pub(crate) fn value_of(due: Due, line: &[u8]) -> Result<Value<'_>, LineFault>
             b"pattern=",
             Holds::List(Kind::Members, at_pattern(p)),
         ),
-        Due::Limit => value_behind(line, b"limit=", Holds::number(0, 32, AT_LIMIT)),
+        Due::Limit => value_behind(line, b"limit=", Holds::number(0, 255, AT_LIMIT)),
         Due::Budget => value_behind(line, b"budget=", Holds::Budget),
         Due::End => Err(LineFault::Unexpected),
+        Due::Cost(m) => value_behind(line, b"cost=", Holds::number(1, 255, at_cost(m))),
     }
 }

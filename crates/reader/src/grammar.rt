@@ -3,7 +3,7 @@
 ghost use Rattle.std.specs.Prelude.{◌≡◌};
 ghost use Rattle.std.proofs.lemmas.List.Edits.{sets};
 ghost use Rattle.task_record.specs.Layout.{at_budget};
-ghost use Rattle.reader.specs.Grammar.{fault_at, told, budget_bytes, take_number, take_budget, take_list, take_line};
+ghost use Rattle.reader.specs.Grammar.{fault_at, told, budget_bytes, take_number, take_budget, take_list, take_due, take_line};
 ghost use Rattle.reader.specs.Held.{went, take_value};
 ghost use Rattle.reader.specs.declared.order.Due.{Due};
 
@@ -13,7 +13,7 @@ use crate::lists::{Gathered, Kind, read_list};
 use crate::order::Due;
 use crate::places::Field;
 use crate::store::{cell_at, put, put_cells};
-use task_record::layout::{AT_BUDGET, AT_VARIABLES};
+use task_record::layout::{AT_BUDGET, AT_VARIABLES, at_cost};
 use task_record::refusal::Refusal;
 
 // What may be wrong with a line: another key is due, or none; the form of its number or list; a number outside its range; a list against its rules.
@@ -107,10 +107,25 @@ fn take_value(rec: &mut [u8], value: Value<'_>) -> Result<(), LineFault>
     }
 }
 
-// The line that is due.
+// What is due once the line is seen: a cost that is left out is 1, and then the line is the one after it.
+fn due_at(rec: &mut [u8], due: Due, line: &[u8]) -> Due
+    ensures { take_line rec.old due line.now ≡ take_due rec.new result line.now }
+{
+    let Due::Cost(m) = due else {
+        return due;
+    };
+    if line.starts_with(b"cost=") {
+        return due;
+    }
+    put(rec, at_cost(m), 1);
+    Due::Outcomes(m)
+}
+
+// The line that comes.
 pub(crate) fn take_line(rec: &mut [u8], due: Due, line: &[u8]) -> Result<Due, LineFault>
     ensures { take_line rec.old due line.now ≡ told result rec.new }
 {
+    let due = due_at(rec, due, line);
     let value = value_of(due, line)?;
     take_value(rec, value)?;
     Ok(due.next(rec))

@@ -5,7 +5,8 @@ ghost use Rattle.reader.specs.Grammar.{action_from, pattern_from, next_due, ende
 use crate::store::byte_at;
 use task_record::layout::{AT_ACTION_COUNT, AT_PATTERN_COUNT, AT_VARIABLES, at_action};
 
-// The line that is due, by its key: of a size the variable, of the lines of an action its number, of an eff its place, of a pattern its number.
+// The line that is due, by its key: of a size the variable, of the lines of an action its number, of an eff its place, of a pattern its number. The
+// cost stands last, so that what is proved of the others keeps its number.
 #[derive(Clone, Copy, PartialEq, Eq)]
 pub enum Due {
     Vars,
@@ -21,6 +22,7 @@ pub enum Due {
     Limit,
     Budget,
     End,
+    Cost(u8),
 }
 
 // The number after i, where it is below n.
@@ -79,7 +81,7 @@ impl Due {
             Due::Size(i) => after_size(r, i),
             Due::Moves if byte_at(r, AT_ACTION_COUNT) == 0 => Due::Goal,
             Due::Moves => Due::Need(0),
-            Due::Need(m) => Due::Outcomes(m),
+            Due::Need(m) => Due::Cost(m),
             Due::Outcomes(m) => Due::Eff(m, 0),
             Due::Eff(m, o) => after_eff(r, m, o),
             Due::Goal => Due::Start,
@@ -90,11 +92,12 @@ impl Due {
             Due::Limit => Due::Budget,
             Due::Budget => Due::End,
             Due::End => Due::End,
+            Due::Cost(m) => Due::Outcomes(m),
         }
     }
 
     // Whether nothing is due.
-    // Stays: `self == Due::End` says that it is End or is not; then the definition's `ended` needs a law of its thirteen cases.
+    // Stays: `self == Due::End` says that it is End or is not; then the definition's `ended` needs a law of its fourteen cases.
     pub(crate) fn is_end(self) -> bool
         ensures { result ≡ ended self }
     {

@@ -1,5 +1,5 @@
 // Numbers and items of a list at the front of a text, with what stands behind them; none where one is not as the definition asks, or larger than
-// any good one. Assumes room: two bytes for a number.
+// any good one. Assumes room: two or three bytes for a number.
 ghost use Rattle.std.specs.Prelude.{◌≡◌, ℕ, ◌+◌, ◌<◌, ◌≤◌, ◌++◌, length, IfSome};
 ghost use Rattle.reader.specs.Quick.{ItemAt};
 ghost use Rattle.reader.specs.Written.{decimal};
@@ -14,10 +14,10 @@ pub struct Front<'a, T> {
     pub rest: &'a [u8],
 }
 
-// A number of one or two digits.
+// A number of one, two or three digits that a byte can hold.
 pub(crate) fn short_number(s: &[u8]) -> Option<Front<'_, u8>>
-    requires { 2 ≤ length s.now }
-    ensures { IfSome result (λ n. (n.read < 100) × (length s.now ≤ length n.rest.now + 2) × (s.now ≡ decimal n.read ++ n.rest.now)) }
+    requires { 3 ≤ length s.now }
+    ensures { IfSome result (λ n. (n.read < 256) × (length s.now ≤ length n.rest.now + 3) × (s.now ≡ decimal n.read ++ n.rest.now)) }
 {
     let a = s[0];
     let b = s[1];
@@ -33,10 +33,21 @@ pub(crate) fn short_number(s: &[u8]) -> Option<Front<'_, u8>>
     if a == b'0' {
         return None;
     }
-    Some(Front {
-        read: 10 * (a - b'0') + (b - b'0'),
-        rest: &s[2..],
-    })
+    let n = 10 * (a - b'0') + (b - b'0');
+    let c = s[2];
+    if !c.is_ascii_digit() {
+        return Some(Front {
+            read: n,
+            rest: &s[2..],
+        });
+    }
+    match u8::try_from(10 * usize::from(n) + usize::from(c - b'0')) {
+        Ok(n) => Some(Front {
+            read: n,
+            rest: &s[3..],
+        }),
+        Err(_) => None,
+    }
 }
 
 // A number below 20: those of a good list are below 16, so that one of two digits begins with 1.

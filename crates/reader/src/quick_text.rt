@@ -17,7 +17,7 @@ use crate::places::{Field, Row};
 use crate::quick_lines::{quick_list_line, quick_number_line};
 use task_record::layout::{
     AT_ACTION_COUNT, AT_GOAL, AT_LIMIT, AT_PATTERN_COUNT, AT_SIZES, AT_START, AT_VARIABLES,
-    at_action, at_outcome, at_pattern, at_precondition,
+    at_action, at_cost, at_outcome, at_pattern, at_precondition,
 };
 
 // The sizes of all variables.
@@ -46,14 +46,27 @@ fn quick_outcomes<'a>(s: &'a [u8], rec: &mut Draft, m: u8) -> Option<&'a [u8]>
     Some(rest)
 }
 
-// The three kinds of line of action m.
+// The cost of action m, or 1 where the line is left out.
+fn quick_cost<'a>(s: &'a [u8], rec: &mut Draft, m: u8) -> Option<&'a [u8]>
+    requires { m < 64 }
+    ensures { IfSome result (λ e. (get_or rec.new 1 0 ≡ get_or rec.old 1 0) × Leads (Due.Cost m) rec.old s.now (Due.Outcomes m) rec.new e.now) }
+{
+    if s.starts_with(b"cost=") {
+        return quick_number_line(s, rec, b"cost=", Field::new(1, 255, at_cost(m)));
+    }
+    rec.store(at_cost(m), 1);
+    Some(s)
+}
+
+// The four kinds of line of action m.
 fn quick_action<'a>(s: &'a [u8], rec: &mut Draft, m: u8) -> Option<&'a [u8]>
     requires { m < 64 }
     ensures { IfSome result (λ e. (get_or rec.new 1 0 ≡ get_or rec.old 1 0) × Leads (Due.Need m) rec.old s.now (action_from rec.new (m + 1)) rec.new e.now) }
 {
     let a = quick_list_line(s, rec, b"need=", Kind::Pairs, Row::new(at_precondition(m)))?;
-    let b = quick_number_line(a, rec, b"outcomes=", Field::new(1, 8, at_action(m)))?;
-    quick_outcomes(b, rec, m)
+    let b = quick_cost(a, rec, m)?;
+    let c = quick_number_line(b, rec, b"outcomes=", Field::new(1, 8, at_action(m)))?;
+    quick_outcomes(c, rec, m)
 }
 
 // The lines of all actions.
@@ -112,7 +125,7 @@ fn quick_tail<'a>(s: &'a [u8], rec: &mut Draft) -> Option<&'a [u8]>
 {
     let a = quick_number_line(s, rec, b"patterns=", Field::new(0, 8, AT_PATTERN_COUNT))?;
     let b = quick_patterns(a, rec)?;
-    quick_number_line(b, rec, b"limit=", Field::new(0, 32, AT_LIMIT))
+    quick_number_line(b, rec, b"limit=", Field::new(0, 255, AT_LIMIT))
 }
 
 // The lines before the last.

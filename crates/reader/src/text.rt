@@ -1,4 +1,4 @@
-// The entry: a text is read into a lent record of 9,464 bytes. Assumes nothing.
+// The entry: a text is read into a lent record of 9,528 bytes. Assumes nothing.
 ghost use Rattle.std.specs.Prelude.{◌≡◌, ◌≤◌, length};
 ghost use Rattle.task_record.specs.Layout.{record_size};
 ghost use Rattle.reader.specs.Text.{lines_of};

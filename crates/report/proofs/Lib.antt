@@ -16,3 +16,5 @@ pub mod StartValues
 pub mod Reports
 -- The examples from the text to the printed bytes, by computation.
 pub mod Sample
+-- What program `records` writes for a stored record.
+pub mod UpgradedRecords

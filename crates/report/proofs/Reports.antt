@@ -136,7 +136,7 @@ module _ (r : List ℕ) (lent n : ℕ) where
   unfolding record_lines answer_lines
   refusal-told x e = rw (← e)
 
--- A text that is read into a record of 9,464 bytes, or refused.
+-- A text that is read into a record of as many bytes as it has, or refused.
 whole_answer : (text record₀ : List ℕ) → length record₀ ≡ record_size → read_answer text record₀ ≡ answer_of (read_whole text)
 unfolding read_answer
 whole_answer text record₀ whole = rw (le-ltb (length record₀) record_size (omega arith))

@@ -15,7 +15,7 @@ use Rattle.planning.specs.Search.{and_then, or_else, examine_outcomes, try_actio
 use Rattle.reader.specs.Bytes.{bytes}
 use Rattle.reader.specs.Text.{index_of, lines_of, pieces, has_key, digits, value, well_formed, number_of}
 use Rattle.reader.specs.Lists.{pair_of, item_of, pair_fits, pair_step, list_from, listed, no_items, list_of}
-use Rattle.reader.specs.Grammar.{Whole, complete, refused, next_due, take_number, budget_bytes, take_budget, take_list, number_line, budget_line, list_line, take_line, read_from, unused_action, unused_actions, blank, read_whole}
+use Rattle.reader.specs.Grammar.{Whole, complete, refused, next_due, take_number, budget_bytes, take_budget, take_list, number_line, budget_line, list_line, take_due, take_line, read_from, unused_action, unused_actions, blank, read_whole}
 use Rattle.task_record.specs.Numbers.{budget_of}
 use Rattle.task_record.specs.Record.{Sound}
 use Rattle.task_record.specs.Refusals.{after}
@@ -47,7 +47,7 @@ unfolding printed
 printed_sound lent n text = whole_sound lent n text (read_whole text) refl
 
 computed : map (λ s. sound_lines table_entries plan_size (read_whole s.text)) samples ≡ map (λ s. s.lines) samples
-unfolding choose tabulate chain max∞ min∞ add∞ infinite_from applies bellman encode meets apply permits system keep mask_action abstraction counted affects affects_pattern affected_from judge verdict_from verdict index_from index state_count state_at entry_at largest_weight table_round table_after rounds_enough weighted_table table estimate and_then or_else examine_outcomes try_actions try_action examine examine_with examination end_round rounds search_from search answer plan_bytes bytes index_of lines_of pieces has_key digits value well_formed number_of pair_of item_of pair_fits pair_step list_from listed no_items list_of next_due take_number budget_bytes take_budget take_list number_line budget_line list_line take_line read_from unused_action unused_actions blank read_whole budget_of action_of task_of patterns_of start_of additivity_of judge_estimate first_large entries_needed judge_tables task_answer search_of digits_of decimal printing.line printing.number_line printing.comma_before printing.comma_list printing.plan_line refusal_lines refused_lines value_line found_lines spent_lines over_lines none_lines answer_lines tower samples sound_lines refusal
+unfolding choose tabulate chain max∞ min∞ add∞ infinite_from applies bellman encode meets apply permits system keep mask_action abstraction counted affects affects_pattern affected_from judge verdict_from verdict index_from index state_count state_at entry_at largest_weight table_round table_after rounds_enough weighted_table table estimate and_then or_else examine_outcomes try_actions try_action examine examine_with examination end_round rounds search_from search answer plan_bytes bytes index_of lines_of pieces has_key digits value well_formed number_of pair_of item_of pair_fits pair_step list_from listed no_items list_of next_due take_number budget_bytes take_budget take_list number_line budget_line list_line take_due take_line read_from unused_action unused_actions blank read_whole budget_of action_of task_of patterns_of start_of additivity_of judge_estimate first_large entries_needed judge_tables task_answer search_of digits_of decimal printing.line printing.number_line printing.comma_before printing.comma_list printing.plan_line refusal_lines refused_lines value_line found_lines spent_lines over_lines none_lines answer_lines tower samples sound_lines refusal
 computed = refl
 
 pub samples_print : map (λ s. printed table_entries plan_size s.text) samples ≡ map (λ s. s.lines) samples

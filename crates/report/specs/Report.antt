@@ -15,7 +15,7 @@ use Rattle.search.specs.declared.entry.SearchAnswer.{SearchAnswer}
 use Rattle.search.specs.declared.entry.SearchAnswer.TheVariants.{Found, Over, Spent, None}
 use Rattle.report.specs.Lines.{line, number_line, plan_line}
 
--- "limit=33 prints refused=3/at=23, and every refusal has this form."
+-- "limit=33 prints refused=3/at=23, and every refusal has this form." (By document 02, item 3, limit=256 does.)
 unfoldable pub refusal_lines : ℕ → ℕ → List ℕ
 refusal_lines number second = number_line (bytes "refused=") number ++ number_line (bytes "at=") second
 

@@ -28,9 +28,10 @@ samples =
     -- "Budget 7: found." "Budget 6 prints value=4/answer=spent/round=4/count=6."
     prints (tower (bytes "eff=0:3") (bytes "eff=1:1") (bytes "limit=32") (bytes "budget=7")) found_seven ∷
     prints (tower (bytes "eff=0:3") (bytes "eff=1:1") (bytes "limit=32") (bytes "budget=6")) (bytes "value=4\nanswer=spent\nround=4\ncount=6\n") ∷
-    -- "limit=3: over, count 0. limit=33: 3 at 23."
+    -- "limit=3: over, count 0." "limit=256 now gives its 3 at 23" (document 02, item 3), and 33 is a limit.
     prints (tower (bytes "eff=0:3") (bytes "eff=1:1") (bytes "limit=3") (bytes "budget=100")) (bytes "value=4\nanswer=over\ncount=0\n") ∷
-    prints (tower (bytes "eff=0:3") (bytes "eff=1:1") (bytes "limit=33") (bytes "budget=100")) (bytes "refused=3\nat=23\n") ∷
+    prints (tower (bytes "eff=0:3") (bytes "eff=1:1") (bytes "limit=33") (bytes "budget=100")) found_seven ∷
+    prints (tower (bytes "eff=0:3") (bytes "eff=1:1") (bytes "limit=256") (bytes "budget=100")) (bytes "refused=3\nat=23\n") ∷
     -- "eff=0:0 for eff=0:3: .. none." "eff=0:2,1:1 for eff=1:1: 9 at 3."
     prints (tower (bytes "eff=0:0") (bytes "eff=1:1") (bytes "limit=32") (bytes "budget=100")) (bytes "value=infinite\nanswer=none\ncount=0\n") ∷
     prints (tower (bytes "eff=0:3") (bytes "eff=0:2,1:1") (bytes "limit=32") (bytes "budget=100")) (bytes "refused=9\nat=3\n") ∷ []

@@ -45,7 +45,7 @@ impl<'a> Lines<'a> {
         self.at += 1;
     }
 
-    fn put_word(&mut self, word: &[u8])
+    pub(crate) fn put_word(&mut self, word: &[u8])
         requires { self.old.at + length word.now ≤ 4000000000 }
         ensures { Puts word.now self.old self.new }
     {

@@ -2,7 +2,6 @@
 -- Assumes nothing.
 use Rattle.std.proofs.Common.{◌≡◌, ℕ, ◌+◌, ◌-◌, ◌<◌, ◌≤◌, leb, List, [], ◌∷◌, refl, ap, ◌∙◌, arith, length-append, le-leb}
 use native.Mathlib.Nat.{sub-zero}
-use borrow.Author.Tests.{lt-leb}
 use lib.Bits.{bit_and, bit_or}
 use Rattle.planning.specs.Finite.{choose, tabulate}
 use Rattle.planning.specs.Plan.{Plan, arrived, act, Plans, done, ◌then◌, encode, encodes}
@@ -108,11 +107,6 @@ pub row_begins : (task : List ℕ) (actions d m s n : ℕ) (r : ℕ → ℕ → 
     (choose (leb (action_weight task m) d) (λ u. examine_outcomes (r (d - action_weight task m)) ((packed_system task actions).successors m s) c) (λ u. failed c)) c 0
 unfolding packed_system choose
 row_begins task actions d m s n r c left b w e = rw (sub-zero, e, w, le-leb (action_weight task m) d b) (record { join = λ ps. ps; rest = then_itself _; longer = λ ps. omega arith })
-
-pub row_refused : (task : List ℕ) (actions d m s : ℕ) (r : ℕ → ℕ → ℕ → Result Plan) (c : ℕ) → d < action_weight task m →
-    choose (leb (action_weight task m) d) (λ u. examine_outcomes (r (d - action_weight task m)) ((packed_system task actions).successors m s) c) (λ u. failed c) ≡ failed c
-unfolding choose
-row_refused task actions d m s r c b = rw (lt-leb (action_weight task m) d b)
 
 pub row_next : (f : ℕ → ℕ) (k n x : ℕ) {r : ℕ → ℕ → Result Plan} {whole : Result Plans} {c z : ℕ} → k < n → x ≡ f k →
     Resumes r (tabulate f k (n - k)) whole c z → Resumes r (x ∷ tabulate f (k + 1) (n - (k + 1))) whole c z

@@ -1,12 +1,14 @@
 -- Laws of the two loops that examine, in the code's numbers: over the actions of a state that opens, and over the outcomes of an action.
 -- Assumes nothing.
-use Rattle.std.proofs.Common.{◌≡◌, ℕ, ◌+◌, ◌-◌, ◌/◌, ◌<◌, ◌≤◌, List, ◌∷◌, get_or, sym, refl, ◌∙◌, arith}
+use Rattle.std.proofs.Common.{◌≡◌, ℕ, ◌+◌, ◌-◌, ◌/◌, ◌%◌, ◌<◌, ◌≤◌, List, ◌∷◌, get_or, leb, sym, refl, ◌∙◌, arith}
 use lib.Bits.{bit_and, bit_or}
 use lib.Count.{count_trailing_zeros}
 use Rattle.planning.specs.Finite.{tabulate}
 use Rattle.planning.specs.Plan.{Plan, Plans, done}
+use Rattle.planning.specs.Sets.{set_from}
+use Rattle.planning.proofs.Sets.{set_meet}
 use Rattle.planning.specs.Search.{Result}
-use Rattle.packed_task.specs.Packed.{outcome_count, action_weight, keep_mask, set_value, packed_system}
+use Rattle.packed_task.specs.Packed.{outcome_count, action_weight, need_met, keep_mask, set_value, packed_system}
 use Rattle.packed_task.specs.Sets.{met_bytes, meet_from}
 use Rattle.search.specs.declared.examine.Ending.{Ending}
 use Rattle.search.specs.declared.instance.Instance.{Instance}
@@ -17,8 +19,8 @@ use Rattle.search.specs.Packed.{instance_examination, instance_outcomes, instanc
 use Rattle.search.specs.Cycle.{Examinable, Openable, Examines}
 use Rattle.search.proofs.Openings.{expand_tries_all}
 use Rattle.search.proofs.Carrying.{carried}
-use Rattle.search.proofs.Trying.{Trying, trying_begins, trying_within, trying_stops, trying_wins, trying_goes_on, trying_ends}
-use Rattle.search.proofs.Endings.{Success, success_of_ending, failure_of_ending, stop_of_ending, ends_success, ends_failure, ends_stop, act_size, act_head, Resumes, row_begins, row_refused, row_next, row_over, row_stops, row_fails, row_goes_on, row_ends}
+use Rattle.search.proofs.Trying.{worth, Trying, trying_begins, trying_within, trying_affords, trying_stops, trying_wins, trying_goes_on, trying_ends}
+use Rattle.search.proofs.Endings.{Success, success_of_ending, failure_of_ending, stop_of_ending, ends_success, ends_failure, ends_stop, act_size, act_head, Resumes, row_begins, row_next, row_over, row_stops, row_fails, row_goes_on, row_ends}
 use Rattle.search.proofs.Remembering.{failure_remembered, success_remembered}
 use Rattle.search.proofs.Looking.{opened_facts, opened_value}
 use Rattle.search.specs.declared.memory.Slot.{Slot}
@@ -34,9 +36,15 @@ module _ {instance : Instance} {memory : List Slot} {s value d count : ℕ} (p :
   abbrev r : ℕ → ℕ → ℕ → Result Plan
   r = instance_examination instance
 
-  pub examining_begins : {set : ℕ} → set ≡ meet_from instance.sets.now 0 (met_bytes ((instance.constants.variables + 1) / 2)) s → Examining instance s d count set (count + 1) memory
+  -- What applies and the depth affords, met.
+  set_met : {set : ℕ} → set ≡ bit_and (meet_from instance.sets.now 0 (met_bytes ((instance.constants.variables + 1) / 2)) s) (get_or instance.affordable.now (d % 256) 0) →
+      set ≡ set_from (worth instance.task.now instance.constants.actions (instance_value instance) instance.constants.budget r d s) 0 instance.constants.actions
+  set_met f = let l = p.examinable.shallow in let z : d % 256 ≡ d = omega arith in f ∙ rw (z, instance.matching.applying.set_is s, instance.matching.affords.set_is d l)
+      (set_meet (λ m. need_met instance.task.now m s) (λ m. leb (action_weight instance.task.now m) d) 0 instance.constants.actions)
+
+  pub examining_begins : {set : ℕ} → set ≡ bit_and (meet_from instance.sets.now 0 (met_bytes ((instance.constants.variables + 1) / 2)) s) (get_or instance.affordable.now (d % 256) 0) → Examining instance s d count set (count + 1) memory
   examining_begins {set} f = let x = p.examinable in record {
-    trying = trying_begins instance.task.now instance.constants.actions (instance_value instance) instance.constants.budget r d s (r d s count) set (count + 1) (f ∙ instance.matching.applying.set_is s)
+    trying = trying_begins instance.task.now instance.constants.actions (instance_value instance) instance.constants.budget r d s (r d s count) set (count + 1) (set_met f)
         (expand_tries_all instance.task.now instance.constants.actions (instance_value instance) instance.constants.budget d s count instance.matching.ready.weights p.opens);
     counted = omega arith;
     within = omega (arith, (opened_facts x p.opens).0);
@@ -48,8 +56,11 @@ module _ {instance : Instance} {memory : List Slot} {s value d count : ℕ} (p :
     pub action_known : m < instance.constants.actions
     action_known = trying_within instance.task.now instance.constants.actions (instance_value instance) instance.constants.budget r d s (r d s count) set c m instance.matching.ready.few_actions i.trying some e
 
-    pub action_asks : Examinable instance later s value d c × (m < instance.constants.actions) × (value < 256)
-    action_asks = let x = p.examinable in (record { remembers = i.remembers; within = i.within; shallow = x.shallow; valued = x.valued }, action_known, opened_value x p.opens)
+    action_afforded : action_weight instance.task.now m ≤ d
+    action_afforded = trying_affords instance.task.now instance.constants.actions (instance_value instance) instance.constants.budget r d s (r d s count) set c m instance.matching.ready.few_actions i.trying some e
+
+    pub action_asks : Examinable instance later s value d c × (m < instance.constants.actions) × (value < 256) × (action_weight instance.task.now m ≤ d)
+    action_asks = let x = p.examinable in (record { remembers = i.remembers; within = i.within; shallow = x.shallow; valued = x.valued }, action_known, opened_value x p.opens, action_afforded)
 
     module _ {after : List Slot} {a : Ending} (h : Examines plans_size plans_head r instance.constants.budget (instance_outcomes instance d s m c) c after a) where
       pub action_stops : (k : ℕ) → a ≡ Stopped k → Examines plan_size plan_head r instance.constants.budget (r d s count) count after (Stopped k)
@@ -95,18 +106,14 @@ pub record Following (instance : Instance) (s d m count left end k c n : ℕ) (m
   pub short : n ≤ c - count
   pub remembers : Remembers (instance_examination instance) instance.constants.budget memory
 
-module _ {instance : Instance} {memory : List Slot} {s value d count m : ℕ} (p : Examinable instance memory s value d count × (m < instance.constants.actions) × (value < 256)) where
+module _ {instance : Instance} {memory : List Slot} {s value d count m : ℕ} (p : Examinable instance memory s value d count × (m < instance.constants.actions) × (value < 256) × (action_weight instance.task.now m ≤ d)) where
   abbrev whole : Result Plans
   whole = instance_outcomes instance d s m count
 
-  -- An action that weighs too much has no outcomes to examine.
-  pub action_refused : d < action_weight instance.task.now m → Examines plans_size plans_head (instance_examination instance) instance.constants.budget whole count memory (Failed count)
-  action_refused l = let x = p.0 in ends_failure plans_size plans_head x.remembers (omega arith) x.within (row_refused instance.task.now instance.constants.actions d m s (instance_examination instance) count l)
-
   module _ {left end : ℕ} (g : left ≡ d - action_weight instance.task.now m) (e : end ≡ outcome_count instance.task.now m) where
-    pub following_begins : action_weight instance.task.now m ≤ d → Following instance s d m count left end 0 count 0 memory
-    following_begins f = let x = p.0 in record {
-      resumes = row_begins instance.task.now instance.constants.actions d m s end (instance_examination instance) count left f g e;
+    pub following_begins : Following instance s d m count left end 0 count 0 memory
+    following_begins = let x = p.0 in record {
+      resumes = row_begins instance.task.now instance.constants.actions d m s end (instance_examination instance) count left p.3 g e;
       reached = omega arith;
       counted = omega arith;
       within = x.within;

@@ -34,6 +34,8 @@ pub mod Counted
 pub mod Bytes
 -- The value carried along an action.
 pub mod Carrying
+-- Filling the sets of the actions that a depth affords.
+pub mod Affording
 -- Trying a set of actions lowest first is trying them by number.
 pub mod Trying
 -- How examinations end, and what is left of a row of outcomes.

@@ -1,6 +1,6 @@
 -- The search of a sound record's compiled task with built tables is the search of the task itself, and what the code asks of the record
 -- holds. Assumes nothing.
-use Rattle.std.proofs.Common.{◌≡◌, ℕ, ◌+◌, ◌*◌, ◌/◌, ◌≤◌, leb, List, Result, Ok, Err, length, drop, refl, ap, ◌∙◌, arith, leb-true}
+use Rattle.std.proofs.Common.{◌≡◌, ℕ, ◌+◌, ◌*◌, ◌/◌, ◌<◌, ◌≤◌, leb, List, Result, Ok, Err, length, drop, refl, ap, ◌∙◌, arith, leb-true}
 use Rattle.planning.specs.Plan.{encode}
 use Rattle.planning.specs.Search.{found, over, spent, none, search, answer}
 use Rattle.planning.specs.Search as planning
@@ -14,9 +14,9 @@ use Rattle.task_record.specs.Numbers.{variable_count, action_count, pattern_coun
 use Rattle.task_record.specs.Record.{head_ok, cell_ok, Sound}
 use Rattle.task_record.specs.TaskOf.{task_of, patterns_of, start_of}
 use Rattle.task_record.proofs.Soundness.{sound_cell}
-use Rattle.task_record.proofs.SoundTask.{variables_right, actions_right, patterns_right, sound_well_formed, sound_start}
-use Rattle.packed_task.specs.Packed.{pack_by, low, cells_of, packed_system, compiled}
-use Rattle.patterns.proofs.Built.{unit_weights}
+use Rattle.task_record.proofs.SoundTask.{variables_right, actions_right, costs_right, patterns_right, sound_well_formed, sound_start}
+use Rattle.packed_task.specs.Packed.{pack_by, low, cells_of, action_weight, packed_system, compiled}
+use Rattle.patterns.proofs.Built.{light_weights}
 use Rattle.packed_task.proofs.Packing.{cells_pack}
 use Rattle.patterns.proofs.Reading.{patterns_length, actions_length}
 use Rattle.packed_task.specs.Sets.{met_bytes, SetsOf, sets_filled}
@@ -37,9 +37,9 @@ use Rattle.search.proofs.WeightsFilled.{sizes_number}
 use Rattle.search.proofs.WeightValues.{packed_value_lem}
 
 module _ (r : List ℕ) (sound : Sound r) where
-  pub limit_right : limit_of r ≤ 32
+  pub limit_right : limit_of r ≤ 255
   unfolding cell_ok head_ok
-  limit_right = leb-true (limit_of r) 32 (sound_cell r sound at_limit (omega arith))
+  limit_right = leb-true (limit_of r) 255 (sound_cell r sound at_limit (omega arith))
 
   pub budget_right : budget_of r ≤ 1000000
   unfolding cell_ok head_ok
@@ -52,9 +52,13 @@ module _ (r : List ℕ) (sound : Sound r) where
     few_patterns = patterns_right r sound;
     few_variables = (variables_right r sound).1;
     small_budget = b;
-    weights = λ m l. omega (arith, compiled_weight r sound m l);
+    weights = λ m l. rw (compiled_weight r sound m l) (costs_right r sound m l).0;
     few_outcomes = λ m l. compiled_outcomes_few r sound m l;
   }
+
+  -- No action weighs more than 255.
+  pub weights_light : (m : ℕ) → m < action_count r → action_weight (compiled (task_of r)) m ≤ 255
+  weights_light m l = rw (compiled_weight r sound m l) (costs_right r sound m l).1
 
   -- Sets that are filled for its words hold the actions that apply.
   pub sets-applying : (old : List ℕ) {task sets : List ℕ} → task ≡ compiled (task_of r) →
@@ -81,7 +85,7 @@ module _ (r : List ℕ) (sound : Sound r) where
         packed_value weights offsets tabs (length (patterns_of r)) s ≡ estimate (task_of r) (patterns_of r)
         (cells_of (length (task_of r).sizes) s)
     packed_estimate s o = packed_value_lem (task_of r) (sound_packable r sound) (patterns_of r) weights offsets f tabs s o
-        ∙ rw b.built (value_of_built (task_of r) (cells_of (length (task_of r).sizes) s) o.0 (unit_weights r) (patterns_of r) small (drop (length (tables (task_of r) (patterns_of r))) tabs))
+        ∙ rw b.built (value_of_built (task_of r) (cells_of (length (task_of r).sizes) s) o.0 (light_weights r sound) (patterns_of r) small (drop (length (tables (task_of r) (patterns_of r))) tabs))
 
     -- So the search of words is the search of the task.
     pub packed_search_lem : (budget : ℕ) → packed_search (compiled (task_of r)) weights offsets tabs (action_count r) (pattern_count r) budget

@@ -5,6 +5,7 @@ ghost use Rattle.tables.specs.RecordTables.{tables_prepared};
 ghost use Rattle.search.specs.Answer.{answer_of, buffer_of};
 ghost use Rattle.search.specs.Entry.{answer_within, search_answer, plan_after, search_numbers, search_by_lines};
 
+use crate::affordable::fill_affordable;
 use crate::built::BuiltTask;
 use crate::byte_rows::{Blocks, fill_blocks};
 use crate::constants::constants_of;
@@ -40,9 +41,12 @@ fn search_built(built: &BuiltTask, plan: &mut [u8]) -> Result<SearchAnswer, TooL
     fill_weights(built, &mut weights, &mut offsets);
     let constants = constants_of(built, offsets);
     fill_blocks(&weights, constants.patterns, &mut blocks);
+    let mut affordable = [0u64; 256];
+    fill_affordable(built.task, constants.actions, &mut affordable);
     let instance = Instance {
         task: built.task,
         sets: built.sets,
+        affordable: &affordable,
         blocks: &blocks,
         weights: &weights,
         constants,

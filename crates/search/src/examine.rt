@@ -2,7 +2,8 @@
 // without examining another state is a leaf beside them (`look`), asked before the call. The count of examinations is carried in every ending, and every
 // result is remembered. Asks for what `Examinable` names, of a state that opens for `Openable`, and gives what `Examines` names.
 // Stays: `Examinable` at three functions: it speaks of the memory, which every call changes, so that a type of it would be made anew at every call.
-ghost use Rattle.std.specs.Prelude.{◌≡◌, ◌<◌};
+ghost use Rattle.std.specs.Prelude.{◌≡◌, ◌<◌, ◌≤◌};
+ghost use Rattle.packed_task.specs.Packed.{action_weight};
 ghost use Rattle.planning.specs.Table.{infinite_entry};
 ghost use Rattle.search.specs.Examination.{plan_size, plan_head, plans_size, plans_head};
 ghost use Rattle.search.specs.Value.{Estimated};
@@ -11,7 +12,7 @@ ghost use Rattle.search.specs.Cycle.{Examinable, Openable, Examines, Glanced};
 
 use crate::buffer::ARRIVED;
 use crate::carried::{rest_of, sum_with};
-use crate::depth::{is_beyond, left_after};
+use crate::depth::left_after;
 use crate::instance::Instance;
 use crate::memory::{Slot, note, recall};
 use packed_task::applying::applying;
@@ -94,14 +95,16 @@ fn look(instance: &Instance, memory: &[Slot], v: Visit) -> Option<Ending>
     }
 }
 
-// Examines a state that opens: the actions that apply are tried by number, and the first that succeeds wins.
+// Examines a state that opens: the actions that apply and weigh no more than the depth are tried by number, and the first that succeeds wins.
+// Stays: `as` of a depth: an index has no `From` of it. The remainder is the depth itself, which is below 256, and spares the test of a place.
 #[cycle(examine_outcomes)]
 fn examine(instance: &Instance, memory: &mut [Slot], v: Visit) -> Ending
     requires { Openable instance.now memory.old v.s v.value v.d v.count }
     ensures { Examines plan_size plan_head (instance_examination instance.now) instance.now.constants.budget (instance_examination instance.now v.d v.s v.count) v.count memory.new result }
 {
     let mut c = v.count + 1;
-    let set = applying(instance.sets, v.s, (instance.constants.variables + 1) / 2);
+    let set = applying(instance.sets, v.s, (instance.constants.variables + 1) / 2)
+        & instance.affordable[v.d as usize % 256];
     for m in Members(set) {
         match outcomes(instance, memory, m, Visit { count: c, ..v }) {
             Ending::Stopped(e) => {
@@ -128,13 +131,10 @@ fn examine(instance: &Instance, memory: &mut [Slot], v: Visit) -> Ending
 // the time.
 #[cycle(examine_outcomes)]
 fn outcomes(instance: &Instance, memory: &mut [Slot], m: usize, v: Visit) -> Ending
-    requires { (Examinable instance.now memory.old v.s v.value v.d v.count) × (m < instance.now.constants.actions) × (v.value < 256) }
+    requires { (Examinable instance.now memory.old v.s v.value v.d v.count) × (m < instance.now.constants.actions) × (v.value < 256) × (action_weight instance.now.task.now m ≤ v.d) }
     ensures { Examines plans_size plans_head (instance_examination instance.now) instance.now.constants.budget (instance_outcomes instance.now v.d v.s m v.count) v.count memory.new result }
 {
     let action = ActionNumber { number: m };
-    if is_beyond(instance.task, action, v.d) {
-        return Ending::Failed(v.count);
-    }
     let left = left_after(instance.task, action, v.d);
     let rest = rest_of(instance, v.s, m, v.value);
     let mut c = v.count;

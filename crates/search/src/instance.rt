@@ -1,5 +1,5 @@
-// An instance of the search, lent as one: the compiled task, the sets of actions that apply, the weights of each pattern's variables, their sums by bytes, the
-// constants and the tables. That the arrays match is known of every instance.
+// An instance of the search, lent as one: the compiled task, the sets of actions that apply and those that a depth affords, the weights of each
+// pattern's variables, their sums by bytes, the constants and the tables. That the arrays match is known of every instance.
 ghost use Rattle.search.specs.Examination.{Matching};
 
 use crate::byte_rows::Blocks;
@@ -11,9 +11,10 @@ use patterns::entry::Entry;
 pub(crate) struct Instance<'a> {
     pub task: &'a [u64; TASK_WORDS],
     pub sets: &'a [u64; 2048],
+    pub affordable: &'a [u64; 256],
     pub blocks: &'a Blocks,
     pub weights: &'a [[u16; 16]; 8],
     pub constants: Constants,
     pub tables: &'a [Entry],
-    ghost matching: { Matching task.now sets.now blocks.now weights.now constants },
+    ghost matching: { Matching task.now sets.now affordable.now blocks.now weights.now constants },
 }

@@ -2,6 +2,7 @@
 // them (`memory`), rounds, and writing the plan that was found (`write`).
 #![tactic(auto)]
 
+mod affordable;
 mod buffer;
 mod built;
 mod byte_rows;

@@ -1,5 +1,5 @@
 -- Laws of the Bellman value of an action along its edges, and of asking the action about one state. Assumes nothing.
-use Rattle.std.proofs.Common.{◌≡◌, ℕ, zero, suc, ◌+◌, ◌*◌, ◌/◌, ◌%◌, ◌<◌, ◌≤◌, min, max, true, false, ◌⊎◌, Bool, List, [], ◌∷◌, length, get_or, drop, set, sym, refl, ap, ◌∙◌, inl, inr, mul-le-mul, zero-add, arith, length-set, drop_of_length-le, get_or-set_other, le-ltb, ◌^◌, lt-ltb}
+use Rattle.std.proofs.Common.{◌≡◌, ℕ, zero, suc, ◌+◌, ◌*◌, ◌/◌, ◌%◌, ◌<◌, ◌≤◌, max, true, false, ◌⊎◌, Bool, List, [], ◌∷◌, length, get_or, drop, set, sym, refl, ap, ◌∙◌, inl, inr, mul-le-mul, zero-add, arith, length-set, drop_of_length-le, get_or-set_other, ◌^◌, lt-ltb}
 use Rattle.planning.specs.Table.{infinite_entry}
 use native.Mathlib.Decide.{ℕ_discrete, dec_lt}
 use lib.Bits.{bit_and, and_zero_r}
@@ -65,15 +65,6 @@ worst-least f b j zero h = omega arith
 worst-least f b j (suc n) h = let e : j + 0 ≡ j = omega arith in let a : f j ≤ b = rw e at (h 0 (omega arith)) in
     let r = worst-least f b (suc j) n (λ o l. let q : j + suc o ≡ suc j + o = omega arith in rw q at (h (suc o) (omega arith))) in omega (arith, a, r)
 
--- A weight from 65,535 on counts as that.
-raised_cut : (w v : ℕ) → raised (min w 65535) v ≡ raised w v
-unfolding raised
-raised_cut w v = either (dec_lt (w + v) infinite_entry)
-  where
-    either : Dec (w + v < infinite_entry) → raised (min w 65535) v ≡ raised w v
-    either (yes l) = let e : min w 65535 ≡ w = omega arith in rw e
-    either (no l) = rw (le-ltb (w + v) infinite_entry (omega arith), le-ltb (min w 65535 + v) infinite_entry (omega arith))
-
 -- Where edge g leads from state i.
 abbrev pub onward : Space → List Edge → ℕ → ℕ → ℕ
 onward x es i g = way_forward es x.weights g i (get_or x.states i 0)
@@ -136,7 +127,7 @@ module _ {x : Space} {sizes : List ℕ} {es : List Edge} {t : List ℕ} {k e i f
   pub value_end : {marks : List Bool} {r : ℕ} → edge_end es e ≤ f → get_or t i 0 ≤ infinite_entry → r ≡ raised (edge_weight es e) most → BellmanValue x t marks (edge_action es e) i r
   unfolding bellman_value_at bellman_value
   value_end d c q = let z : most ≡ worst (outcome_entry x.task x.mask x.weights t (edge_action es e) (get_or x.states i 0)) 0 (outcome_count x.task (edge_action es e)) = omega (arith, w.met, all_over d) in
-      let y = q ∙ rw (o.weight e l) (raised_cut (action_weight x.task (edge_action es e)) most) ∙ ap (raised (action_weight x.task (edge_action es e))) z in
+      let y = q ∙ ap (λ w. raised w most) (o.weight e l) ∙ ap (raised (action_weight x.task (edge_action es e))) z in
       record { finite = λ h. y; infinite = λ h. low (omega (arith, y, h, c)) }
 
 -- An edge whose first lane alone is free leads to j from the states that the lane's values give, and no others.
@@ -175,19 +166,19 @@ value_only {x} {sizes} {es} {t} {marks} {k} {e} {i} {value} o l b few p s =
     first = let w = o.own e l in let z : edge_first es e ≡ e = omega (arith, w.after, w.before, s.alone) in rw z (sym s.there)
 
 -- The action is asked about one state.
-module _ {x : Space} {m i : ℕ} {t q : List ℕ} {marks : List Bool} {h c : ℕ} (l : i < length t) (k : Queue (length t) q marks h c) where
-  pub asked_never : permitted_at x m i ≡ false → Asked x m i t marks c t q marks h c
+module _ {x : Space} {m i : ℕ} {t : List ℕ} {marks : List Bool} {c : ℕ} (l : i < length t) (k : Queue (length t) marks c) where
+  pub asked_never : permitted_at x m i ≡ false → Asked x m i t marks c t marks c
   asked_never e = record { going = λ j n. going_none k; heard = λ p. false_true (sym e ∙ p) }
 
-  pub asked_miss : (v : ℕ) → BellmanValue x t marks m i v → get_or t i 0 ≤ v → Asked x m i t marks c t q marks h c
+  pub asked_miss : (v : ℕ) → BellmanValue x t marks m i v → get_or t i 0 ≤ v → Asked x m i t marks c t marks c
   asked_miss v o b = record { going = λ j n. going_none k; heard = λ p. either (dec_lt v infinite_entry) }
     where
       either : Dec (v < infinite_entry) → Heard x t marks m i
       either (yes a) = low (omega (arith, o.finite a, b))
       either (no a) = o.infinite (omega arith)
 
-  hit : {q₁ : List ℕ} {marks₁ : List Bool} {d : ℕ} → m < x.actions → permitted_at x m i ≡ true → bellman_value_at x t m i < get_or t i 0 → Put (length t) q marks h c i q₁ marks₁ d → Asked x m i t marks c (set t i (bellman_value_at x t m i)) q₁ marks₁ h d
-  hit {q₁} {marks₁} {d} a e f p = let w = bellman_value_at x t m i in let n = total-set t i w l in let b : w ≤ get_or t i 0 = omega (arith, f) in record {
+  hit : {marks₁ : List Bool} {d : ℕ} → m < x.actions → permitted_at x m i ≡ true → bellman_value_at x t m i < get_or t i 0 → Put (length t) marks c i marks₁ d → Asked x m i t marks c (set t i (bellman_value_at x t m i)) marks₁ d
+  hit {marks₁} {d} a e f p = let w = bellman_value_at x t m i in let n = total-set t i w l in let b : w ≤ get_or t i 0 = omega (arith, f) in record {
     going = λ j o. record {
       moved = record {
         long = length-set t i w;
@@ -207,22 +198,22 @@ module _ {x : Space} {m i : ℕ} {t q : List ℕ} {marks : List Bool} {h c : ℕ
       changed w z j (yes g) = inr (rw g z)
       changed w z j (no g) = inl (get_or-set_other t i j w 0 g)
 
-  pub asked_hit : {u q₁ : List ℕ} {marks₁ : List Bool} {n d : ℕ} (v : ℕ) → m < x.actions → permitted_at x m i ≡ true → get_or t i 0 ≤ infinite_entry → BellmanValue x t marks m i v → v < get_or t i 0 → u ≡ set t i v → n ≡ length t →
-      Put n q marks h c i q₁ marks₁ d → Asked x m i t marks c u q₁ marks₁ h d
+  pub asked_hit : {u : List ℕ} {marks₁ : List Bool} {n d : ℕ} (v : ℕ) → m < x.actions → permitted_at x m i ≡ true → get_or t i 0 ≤ infinite_entry → BellmanValue x t marks m i v → v < get_or t i 0 → u ≡ set t i v → n ≡ length t →
+      Put n marks c i marks₁ d → Asked x m i t marks c u marks₁ d
   asked_hit v a e b o f g y p = let z = o.finite (omega (arith, b, f)) in let g₁ = rw z at g in rw g₁ (hit a e (omega (arith, z, f)) (rw y at p))
 
 -- The only edge of its action.
-pub asked_only : {x : Space} {sizes : List ℕ} {es : List Edge} {t q u q₁ : List ℕ} {marks marks₁ : List Bool} {k e i value h c n d : ℕ} → EdgesOf x sizes (length t) es k → e < k → i < length t → length t ≤ 4096 → Queue (length t) q marks h c →
-    permitted_at x (edge_action es e) i ≡ true → Only x es t e i value → u ≡ set t i value → n ≡ length t → Put n q marks h c i q₁ marks₁ d → Asked x (edge_action es e) i t marks c u q₁ marks₁ h d
+pub asked_only : {x : Space} {sizes : List ℕ} {es : List Edge} {t u : List ℕ} {marks marks₁ : List Bool} {k e i value c n d : ℕ} → EdgesOf x sizes (length t) es k → e < k → i < length t → length t ≤ 4096 → Queue (length t) marks c →
+    permitted_at x (edge_action es e) i ≡ true → Only x es t e i value → u ≡ set t i value → n ≡ length t → Put n marks c i marks₁ d → Asked x (edge_action es e) i t marks c u marks₁ d
 asked_only {value = value} o l b few k p s g y z = asked_hit b k value (o.known _ l) p s.lowers.small (value_only o l b few p s) s.lowers.less g y z
 
 -- The entry that an edge lowers is not the one that it leads to.
 pub less_other : (t : List ℕ) (i j w value : ℕ) → value ≡ get_or t j 0 + w → value < get_or t i 0 → j ≡ i → ⊥
 less_other t i j w value s l e = let f = rw e at s in omega (arith, f, l)
 
-module _ {x : Space} {es : List Edge} {t : List ℕ} {marks : List Bool} {e i j value h c : ℕ} (s : Lowers es t e i j value) where
-  pub asked_from : {u q₁ : List ℕ} {marks₁ : List Bool} {d : ℕ} → Asked x (edge_action es e) i t marks c u q₁ marks₁ h d → AskedFrom x es e j i t marks c u q₁ marks₁ h d
+module _ {x : Space} {es : List Edge} {t : List ℕ} {marks : List Bool} {e i j value c : ℕ} (s : Lowers es t e i j value) where
+  pub asked_from : {u : List ℕ} {marks₁ : List Bool} {d : ℕ} → Asked x (edge_action es e) i t marks c u marks₁ d → AskedFrom x es e j i t marks c u marks₁ d
   asked_from a = record { going = a.going j (less_other t i j (edge_weight es e) value s.value_is s.less); heard = λ p n. a.heard p }
 
-  pub asked_elsewhere : {q : List ℕ} → Queue (length t) q marks h c → (Before x es e i j → ⊥) → AskedFrom x es e j i t marks c t q marks h c
+  pub asked_elsewhere : Queue (length t) marks c → (Before x es e i j → ⊥) → AskedFrom x es e j i t marks c t marks c
   asked_elsewhere k f = record { going = going_none k; heard = λ p n. absurd (f n) }

@@ -22,7 +22,7 @@ use Rattle.task_record.specs.Refusals.{where_ok}
 use Rattle.task_record.specs.declared.refusal.Refusal.{Refusal}
 use Rattle.tables.specs.RecordTables.{table_build, Fits, Buildable, built_over, tables_built, tables_prepared}
 use Rattle.patterns.specs.Value.{value_of, state_value}
-use Rattle.patterns.proofs.Built.{built_length, unit_weights, call_on_built, finite_answer_admissible, infinite_answer_no_plan}
+use Rattle.patterns.proofs.Built.{built_length, light_weights, call_on_built, finite_answer_admissible, infinite_answer_no_plan}
 use Rattle.patterns.proofs.Refusals.{ready_means, fits_means, checked_ready, answered_means}
 use Rattle.patterns.proofs.Room.{fits_small, fits_room, small_fits}
 use Rattle.tables.proofs.TableChain.{entries-length}
@@ -111,7 +111,7 @@ module _ (r tabs : List ℕ) where
       unfolding built_over
       entry_is = rw tables_left_lem (chained_entry (task_of r) (patterns_of r) (drop (entries_needed (task_of r).sizes (patterns_of r)) tabs) k i l inside)
 
-      -- It is the limit of Definition 2.9 at the abstract state with index i, "reachable or not", in 16 bits.
+      -- It is the limit of Definition 2.9 at the abstract state with index i, "reachable or not", in 32 bits.
       pub entry_is_cost : (c : ℕ∞)
           × IsCost (system (abstraction pattern (λ a. a.weight) (task_of r))) (state_at (task_of r).sizes pattern i) c
           × (entry ≡ entry_of c)
@@ -122,7 +122,7 @@ module _ (r tabs : List ℕ) where
         entry_is,
       )
 
-      -- The same read back: "65,535 is infinite".
+      -- The same read back: "infinite 4,294,967,295".
       pub entry_read_is_cost : IsCost (system (abstraction pattern (λ a. a.weight) (task_of r))) (state_at (task_of r).sizes pattern i) (cost_of entry)
       unfolding table Small
       entry_read_is_cost =
@@ -130,7 +130,7 @@ module _ (r tabs : List ℕ) where
           rw (
             entry_is,
             cost_of_entry (get_or (table (task_of r) pattern) i inf)
-                (λ c e. let b = light_entries_bounded (task_of r) (unit_weights r) pattern h i c e in omega arith),
+                (λ c e. let b = light_entries_bounded (task_of r) (light_weights r buildable.sound) pattern h i c e in omega arith),
           )
           (table_entry (task_of r) pattern (λ a. a.weight) well_formed_lem weights_positive i inside)
 

@@ -124,12 +124,11 @@ module _ {ws sizes : List ℕ} {v free at z : ℕ} {t u : List ℕ} (w : Through
       small r = let e : v + 0 ≡ v = omega arith in rw (lowest r.values) (rw e at (r.are.below 0 (omega arith) (λ q. f (lowest free ∙ q))))
 
 -- Where no entry is 0 none need wait.
-pub held_none : {m n h c : ℕ} {q : List ℕ} {marks : List Bool} → Queue n q marks h c → n ≡ m → h ≡ 0 → c ≡ 0 → Held (replicate m infinite_entry) n q marks h c
-held_none {m} v e z f = let l = length-replicate {A = ℕ} m infinite_entry in record {
+pub held_none : {m n c : ℕ} {marks : List Bool} → Queue n marks c → n ≡ m → Held (replicate m infinite_entry) n marks c
+held_none {m} v e = let l = length-replicate {A = ℕ} m infinite_entry in record {
   states = e ∙ sym l;
-  head = z;
   wait = record {
-    queue = rw (e ∙ sym l, z) at v;
+    queue = rw (e ∙ sym l) at v;
     zeros = λ j b g. absurd (let k = get_or-replicate {A = ℕ} m j infinite_entry 0 (omega (arith, b, l)) in omega (arith, k, g));
   };
 }

@@ -6,28 +6,27 @@ use Rattle.tables.specs.Worklist.{Goes}
 use Rattle.tables.specs.declared.worklist.visits.Worklist.{Worklist}
 use Rattle.tables.proofs.Rounds.{queue_as}
 
-module _ {N : ℕ} where
-  pub queue_of : (w : Worklist N) → Queue (length w.entries.now) w.ring.now.indices w.ring.now.marks w.ring.now.head w.ring.now.count
-  queue_of w = queue_as w.ring_states w.ring.now.waits
+module _ {N L : ℕ} where
+  pub queue_of : (w : Worklist N L) → Queue (length w.entries.now) w.queue.now.marks w.queue.now.count
+  queue_of w = queue_as w.queue_states w.queue.now.waits
 
-  pub goes_nowhere : {P : Graphed → List ℕ → List Bool → ℕ → List ℕ → List ℕ → List Bool → ℕ → ℕ → Type 0} (w : Worklist N) →
-      P w.graph.now w.entries.now w.ring.now.marks w.ring.now.count w.entries.now w.ring.now.indices w.ring.now.marks w.ring.now.head w.ring.now.count → Goes P w w
-  goes_nowhere w d = record { same_entries = refl; same_ring = refl; same_graph = refl; same_head = refl; done = d }
+  pub goes_nowhere : {P : Graphed → List ℕ → List Bool → ℕ → List ℕ → List Bool → ℕ → Type 0} (w : Worklist N L) →
+      P w.graph.now w.entries.now w.queue.now.marks w.queue.now.count w.entries.now w.queue.now.marks w.queue.now.count → Goes P w w
+  goes_nowhere w d = record { same_entries = refl; same_queue = refl; same_graph = refl; done = d }
 
-  -- What the second step does is seen from the graph and the head that the first one leaves as they are.
-  pub goes_then : {P Q R : Graphed → List ℕ → List Bool → ℕ → List ℕ → List ℕ → List Bool → ℕ → ℕ → Type 0} {a b c : Worklist N} → Goes P a b → Goes Q b c →
-      (Q a.graph.now b.entries.now b.ring.now.marks b.ring.now.count c.entries.now c.ring.now.indices c.ring.now.marks a.ring.now.head c.ring.now.count →
-      R a.graph.now a.entries.now a.ring.now.marks a.ring.now.count c.entries.now c.ring.now.indices c.ring.now.marks a.ring.now.head c.ring.now.count) → Goes R a c
+  -- What the second step does is seen from the graph that the first one leaves as it is.
+  pub goes_then : {P Q R : Graphed → List ℕ → List Bool → ℕ → List ℕ → List Bool → ℕ → Type 0} {a b c : Worklist N L} → Goes P a b → Goes Q b c →
+      (Q a.graph.now b.entries.now b.queue.now.marks b.queue.now.count c.entries.now c.queue.now.marks c.queue.now.count →
+      R a.graph.now a.entries.now a.queue.now.marks a.queue.now.count c.entries.now c.queue.now.marks c.queue.now.count) → Goes R a c
   goes_then f s both = record {
     same_entries = s.same_entries ∙ f.same_entries;
-    same_ring = s.same_ring ∙ f.same_ring;
+    same_queue = s.same_queue ∙ f.same_queue;
     same_graph = s.same_graph ∙ f.same_graph;
-    same_head = s.same_head ∙ f.same_head;
-    done = both (rw (f.same_head, f.same_graph) at s.done);
+    done = both (rw f.same_graph at s.done);
   }
 
   -- The same of one step.
-  pub goes_as : {P R : Graphed → List ℕ → List Bool → ℕ → List ℕ → List ℕ → List Bool → ℕ → ℕ → Type 0} {a c : Worklist N} → Goes P a c →
-      (P a.graph.now a.entries.now a.ring.now.marks a.ring.now.count c.entries.now c.ring.now.indices c.ring.now.marks a.ring.now.head c.ring.now.count →
-      R a.graph.now a.entries.now a.ring.now.marks a.ring.now.count c.entries.now c.ring.now.indices c.ring.now.marks a.ring.now.head c.ring.now.count) → Goes R a c
-  goes_as s more = record { same_entries = s.same_entries; same_ring = s.same_ring; same_graph = s.same_graph; same_head = s.same_head; done = more s.done }
+  pub goes_as : {P R : Graphed → List ℕ → List Bool → ℕ → List ℕ → List Bool → ℕ → Type 0} {a c : Worklist N L} → Goes P a c →
+      (P a.graph.now a.entries.now a.queue.now.marks a.queue.now.count c.entries.now c.queue.now.marks c.queue.now.count →
+      R a.graph.now a.entries.now a.queue.now.marks a.queue.now.count c.entries.now c.queue.now.marks c.queue.now.count) → Goes R a c
+  goes_as s more = record { same_entries = s.same_entries; same_queue = s.same_queue; same_graph = s.same_graph; done = more s.done }

@@ -14,7 +14,7 @@ use Rattle.packed_task.specs.Within.{is_goal, after}
 use Rattle.tables.proofs.Settled.{inside, then}
 use Rattle.tables.proofs.Stepping.{raised_high}
 use Rattle.tables.specs.Waiting.{index_after, Waits, Heard, low, later, Leads, Asks, Kept, Moved}
-use Rattle.tables.specs.Visits.{Level}
+use Rattle.tables.specs.Visits.{Weighing, Level}
 
 -- The largest of some numbers is at least each, and depends on them alone.
 pub worst_at : (f : ℕ → ℕ) (j n o : ℕ) → o < n → f (j + o) ≤ worst f j n
@@ -102,25 +102,25 @@ kept_settled x begun t marks quiet k = record { steps = k.steps; stable = record
     from m i (low h) = h
     from m i (later o b w) = absurd (quiet (index_after x m i o) w)
 
--- An early end: where no entry is more than 1 above one that waits, nothing can fall any more, since every action weighs something.
+-- An early end: where no entry is above one that waits by more than an action weighs, nothing can fall any more.
 pub raised-least : (e w v : ℕ) → e ≤ infinite_entry → e ≤ w + v → e ≤ raised w v
 unfolding raised
 raised-least e w v b l = by_test (ltb (w + v) infinite_entry) (λ h. rw h l) (λ h. rw h b)
 
-pub kept_level : (x : Space) (first t : List ℕ) (marks : List Bool) → ((m : ℕ) → m < x.actions → 1 ≤ action_weight x.task m) → ((j : ℕ) → Waits marks j → j < length t) →
-    Level t marks → Kept x first t marks → Settled x first t
+pub kept_level : (x : Space) (first t : List ℕ) (marks : List Bool) (w : ℕ) → Weighing x w → ((j : ℕ) → Waits marks j → j < length t) →
+    Level t marks w → Kept x first t marks → Settled x first t
 unfolding bellman_value_at bellman_value outcome_entry index_after
-kept_level x first t marks light known v k =
-    record { steps = k.steps; stable = record { low = λ m i l c q p. from m i l c (k.heard m i (record { known = l; moves = q; enabled = p }) c) } }
+kept_level x first t marks least light known v k =
+    record { steps = k.steps; stable = record { low = λ m i l c q p. from m i (light m l q) c (k.heard m i (record { known = l; moves = q; enabled = p }) c) } }
   where
-    from : (m i : ℕ) → m < x.actions → i < length t → Heard x t marks m i → get_or t i 0 ≤ bellman_value_at x t m i
+    from : (m i : ℕ) → least ≤ action_weight x.task m → i < length t → Heard x t marks m i → get_or t i 0 ≤ bellman_value_at x t m i
     from m i l c (low h) = h
     from m i l c (later o d w) = let s = get_or x.states i 0 in let j = index_after x m i o in
         let f = outcome_entry x.task x.mask x.weights t m s in
         let a = worst_at f 0 (outcome_count x.task m) o d in
         let z : get_or t j 0 ≡ f o = inside t j 0 infinite_entry (known j w) in
         let q : 0 + o ≡ o = zero-add o in let a₁ : f o ≤ worst f 0 (outcome_count x.task m) = rw q at a in
-        raised-least (get_or t i 0) (action_weight x.task m) (worst f 0 (outcome_count x.task m)) (v.small i c) (omega (arith, v.near i j c w (known j w), light m l, z, a₁))
+        raised-least (get_or t i 0) (action_weight x.task m) (worst f 0 (outcome_count x.task m)) (v.small i c) (omega (arith, v.near i j c w (known j w), l, z, a₁))
 
 -- Changes one after the other.
 pub moved_none : (x : Space) (t : List ℕ) (marks : List Bool) (c : ℕ) → Moved x t marks c t marks c

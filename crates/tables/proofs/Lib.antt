@@ -24,8 +24,8 @@ pub mod Asking
 pub mod Walks
 -- What a graph gives where the table has as many entries.
 pub mod Graphs
--- The ring of waiting states: one put in, one taken out, none left.
-pub mod Ring
+-- The waiting states: one put in, one taken out, none left.
+pub mod Queue
 -- The start, at which every goal waits, and the loop that takes one state after the other.
 pub mod Starting
 -- The goals entered by the digits that the goal leaves free.

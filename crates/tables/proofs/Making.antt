@@ -1,5 +1,5 @@
 -- Edges that were made are those of the space: the words are stored, edge by edge and action by action. Assumes nothing.
-use Rattle.std.proofs.Common.{◌≡◌, ℕ, ◌+◌, ◌-◌, ◌*◌, ◌<◌, ◌≤◌, min, false, not, List, length, set, sym, refl, ap, ◌∙◌, subst, arith, length-set, get_or-set_other, get_or-set_same}
+use Rattle.std.proofs.Common.{◌≡◌, ℕ, ◌+◌, ◌-◌, ◌*◌, ◌<◌, ◌≤◌, false, not, List, length, set, sym, refl, ap, ◌∙◌, subst, arith, length-set, get_or-set_other, get_or-set_same}
 use native.Mathlib.Decide.{ℕ_discrete, dec_lt}
 use lib.Bits.{bit_and, bit_or}
 use lib.Count.{count_trailing_zeros}
@@ -17,7 +17,7 @@ use Rattle.tables.proofs.WaysBack.{edge_plain, edge_back_small, edge_free_lem, s
 
 -- The edge that edge_of answers is that of the outcome.
 pub edge_made : (a : List ℕ) (k : ℕ) (ws sizes : List ℕ) (m o gain loss back weight lane₁ rest₁ lane₂ rest₂ : ℕ) →
-    gain ≡ weigh ws (bit_and (pre_value a m) (k - bit_and (keep_mask a m o) k)) → loss ≡ weigh ws (bit_and (set_value a m o) k) → back ≡ back_of gain loss → weight ≡ min (action_weight a m) 65535 →
+    gain ≡ weigh ws (bit_and (pre_value a m) (k - bit_and (keep_mask a m o) k)) → loss ≡ weigh ws (bit_and (set_value a m o) k) → back ≡ back_of gain loss → weight ≡ action_weight a m →
     LaneOf ws sizes (k - bit_and (keep_mask a m o) k - bit_and (pre_mask a m) (k - bit_and (keep_mask a m o) k)) lane₁ rest₁ → LaneOf ws sizes rest₁ lane₂ rest₂ →
     EdgeFor a k ws sizes m o (record {
       mask = bit_or (k - bit_and (keep_mask a m o) k) (bit_and (pre_mask a m) (bit_and (keep_mask a m o) k));

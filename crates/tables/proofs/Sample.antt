@@ -12,7 +12,7 @@ use Rattle.task_record.specs.TaskOf.{action_of, task_of, patterns_of}
 use Rattle.reader.specs.Bytes.{bytes}
 use Rattle.reader.specs.Text.{index_of, lines_of, pieces, has_key, digits, value, well_formed, number_of}
 use Rattle.reader.specs.Lists.{pair_of, item_of, pair_fits, pair_step, list_from, listed, no_items, list_of}
-use Rattle.reader.specs.Grammar.{Whole, complete, refused, next_due, take_number, budget_bytes, take_budget, take_list, number_line, budget_line, list_line, take_line, read_from, unused_action, unused_actions, blank, read_whole, read_answer, read_leaves}
+use Rattle.reader.specs.Grammar.{Whole, complete, refused, next_due, take_number, budget_bytes, take_budget, take_list, number_line, budget_line, list_line, take_due, take_line, read_from, unused_action, unused_actions, blank, read_whole, read_answer, read_leaves}
 use Rattle.reader.proofs.ReadSound.{record_left_sound}
 use Rattle.reader.proofs.TaskLeft.{task_left, patterns_left}
 use Rattle.patterns.specs.Space.{first_large, entries_needed, judge_tables}
@@ -36,7 +36,7 @@ abbrev six : List ℕ → Answer
 six entries = record { check = Ok 6; entries = entries }
 
 computed : map (λ s. answer_of (read_whole s.text)) samples ≡ map (λ s. six s.entries) samples
-unfolding choose tabulate chain max∞ min∞ add∞ infinite_from applies bellman meets apply permits system keep mask_action abstraction index_from index state_count state_at entry_at largest_weight table_round table_after rounds_enough weighted_table table tables entry_of bytes index_of lines_of pieces has_key digits value well_formed number_of pair_of item_of pair_fits pair_step list_from listed no_items list_of next_due take_number budget_bytes take_budget take_list number_line budget_line list_line take_line read_from unused_action unused_actions blank read_whole action_of task_of patterns_of first_large entries_needed judge_tables tower samples answer_of
+unfolding choose tabulate chain max∞ min∞ add∞ infinite_from applies bellman meets apply permits system keep mask_action abstraction index_from index state_count state_at entry_at largest_weight table_round table_after rounds_enough weighted_table table tables entry_of bytes index_of lines_of pieces has_key digits value well_formed number_of pair_of item_of pair_fits pair_step list_from listed no_items list_of next_due take_number budget_bytes take_budget take_list number_line budget_line list_line take_due take_line read_from unused_action unused_actions blank read_whole action_of task_of patterns_of first_large entries_needed judge_tables tower samples answer_of
 computed = refl
 
 module _ (record₀ tabs : List ℕ) (whole : record_size ≤ length record₀) (room : 6 ≤ length tabs) where

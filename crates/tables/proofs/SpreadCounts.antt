@@ -24,7 +24,7 @@ use Rattle.patterns.specs.Space.{table_check}
 use Rattle.task_record.specs.Refusals.{after, where_ok}
 use Rattle.task_record.specs.declared.refusal.Refusal.{Refusal}
 use Rattle.task_record.specs.declared.refusal.Refusal.TheVariants.{ShortRow}
-use Rattle.patterns.proofs.Built.{unit_weights}
+use Rattle.patterns.proofs.Built.{light_weights}
 use Rattle.patterns.proofs.Reading.{patterns_length}
 use Rattle.tables.specs.RecordTables.{Buildable, built_over, tables_built}
 use Rattle.tables.specs.Spread.{costs_named, states_named, table_spread, tables_spread, row_spread}
@@ -81,7 +81,7 @@ module _ (r tabs row : List ℕ) (p n : ℕ) (counted : table_spread r p (length
   costs_bounded : EntriesBelow (suc most_cost) (costs_named r p)
   unfolding costs_named
   costs_bounded = by_test (ltb p (pattern_count r))
-      (λ e. rw e (light_entries_bounded (task_of r) (unit_weights r) (get_or (patterns_of r) p []) (few (below-number e))))
+      (λ e. rw e (light_entries_bounded (task_of r) (light_weights r buildable.sound) (get_or (patterns_of r) p []) (few (below-number e))))
       (λ e. rw e (λ i k f. let z : ◌≡◌ {A = ℕ} 0 1 = cc in absurd (omega arith)))
 
   costs_counted : length (costs_named r p) ≡ n
@@ -127,9 +127,11 @@ module _ (r tabs row : List ℕ) (p n : ℕ) (counted : table_spread r p (length
 
     -- "How many abstract states have each value": count v is the number of those whose cost, the limit of Definition 2.9, is v.
     pub count_of_cost : (v : ℕ) → v ≤ most_cost → HowMany (λ i. IsCost abstracted (state_of i) (fin v)) 0 n (get_or left v 0)
+    unfolding row_size
     count_of_cost v h = rw (count_left v (omega arith), law.finite_count (costs_named r p) v h) (counted_states (fin v))
 
     -- "And how many are infinite": the last count is the number of those from which there is no strong plan.
     pub count_of_infinite : HowMany (λ i. (q : Plan) → Strong abstracted q (state_of i) → ⊥) 0 n (get_or left (suc most_cost) 0)
+    unfolding row_size
     count_of_infinite = rw (count_left (suc most_cost) (omega arith), law.infinite_count (costs_named r p))
         (law.how_many_iff _ _ (λ i. cost_infinite_iff_no_plan abstracted _ sound (state_of i) (state_at_abstract (task_of r) well_formed_lem pattern i)) 0 n _ (counted_states inf))

@@ -16,10 +16,10 @@ use Rattle.task_record.specs.declared.refusal.Refusal.{Refusal}
 use Rattle.task_record.specs.declared.refusal.Refusal.TheVariants.{ShortRow}
 use Rattle.task_record.proofs.ByLines.{line-told, after_record_lem, after_after, told_alone}
 use Rattle.planning.specs.Numbers.{answered, refused_if}
-use Rattle.task_record.specs.Record.{record_check}
+use Rattle.task_record.specs.Record.{record_check, Sound}
 use Rattle.patterns.specs.Answers.{large_pattern, short_tables}
 use Rattle.patterns.specs.Space.{entries_needed, judge_tables, table_check}
-use Rattle.patterns.proofs.Built.{built_length, unit_weights}
+use Rattle.patterns.proofs.Built.{built_length, light_weights}
 use Rattle.patterns.proofs.ByLines.{after_tables_lem}
 use Rattle.patterns.proofs.Reading.{patterns_length}
 use Rattle.tables.specs.Answers.{spread_numbers, short_row, spread_by_lines}
@@ -80,13 +80,13 @@ module _ (zs : List ℕ) where
   needed_within (p ∷ ps) zero = omega arith
   needed_within (p ∷ ps) (suc k) = let h = needed_within ps k in omega arith
 
--- Entries of 16 bits read back as the costs that they are made of.
+-- Entries of 32 bits read back as the costs that they are made of.
 read_back : (tab : List ℕ∞) → EntriesBelow (suc most_cost) tab → map cost_of (map entry_of tab) ≡ tab
 read_back [] b = refl
 read_back (c ∷ tab) b = rw (cost_of_entry c (λ k e. let h = b 0 k e in omega arith), read_back tab (λ i k e. b (suc i) k e))
 
 -- The pattern of a number below P: its part of the tables, and what counting it gives.
-module _ (r tabs : List ℕ) (b : Fits r (length tabs)) (built : tabs ≡ built_over r tabs) (p : ℕ) (l : p < pattern_count r) where
+module _ (r tabs : List ℕ) (sound : Sound r) (b : Fits r (length tabs)) (built : tabs ≡ built_over r tabs) (p : ℕ) (l : p < pattern_count r) where
   abbrev pattern : List ℕ
   pattern = get_or (patterns_of r) p []
 
@@ -111,7 +111,7 @@ module _ (r tabs : List ℕ) (b : Fits r (length tabs)) (built : tabs ≡ built_
   part = rw built (chained_table (task_of r) (patterns_of r) (drop (entries_needed (task_of r).sizes (patterns_of r)) tabs) p below)
 
   bounded : EntriesBelow (suc most_cost) (table (task_of r) pattern)
-  bounded = light_entries_bounded (task_of r) (unit_weights r) pattern few
+  bounded = light_entries_bounded (task_of r) (light_weights r sound) pattern few
 
   -- What `count_entries` asks of the part, and what it then counts.
   module _ (entries : List ℕ) (is : entries ≡ take (state_count (task_of r).sizes pattern) (drop begin tabs)) where

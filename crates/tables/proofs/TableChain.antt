@@ -17,7 +17,7 @@ use Rattle.packed_task.specs.Packed.{compiled}
 use Rattle.tables.specs.RecordTables.{built_over}
 use Rattle.patterns.specs.Space.{entries_needed}
 use Rattle.tables.specs.Steps.{Bounded}
-use Rattle.patterns.proofs.Built.{unit_weights}
+use Rattle.patterns.proofs.Built.{light_weights}
 use Rattle.patterns.proofs.Reading.{actions_length}
 use Rattle.patterns.proofs.Sizes.{variables_few, sizes_taken, sizes_positive}
 use Rattle.packed_task.proofs.SoundPacked.{sound_packable}
@@ -38,7 +38,7 @@ module _ (r : List ℕ) (sound : Sound r) (sizes : List ℕ) (sixteen : Sixteen 
       entries ≡ map entry_of (table (task_of r) p)
   built_is_table entries b = b.is_table (task_of r) (sound_well_formed r sound) (sound_packable r sound)
       (sizes_taken r sound sizes sixteen) refl (sym (actions_length r))
-      (λ i k e. let l = light_entries_bounded (task_of r) (unit_weights r) p small i k e in omega arith)
+      (λ i k e. let l = light_entries_bounded (task_of r) (light_weights r sound) p small i k e in omega arith)
 
 pub entries-length : (t : Task) (p : List ℕ) → length (map entry_of (table t p)) ≡ state_count t.sizes p
 unfolding table

@@ -21,7 +21,7 @@ prepare_numbers prepared = answer_numbers (λ start. answered 0 0 0 0) prepared
 abbrev pub spread_numbers : Result ℕ Refusal → Numbers
 spread_numbers counted = answer_numbers (λ states. answered 0 states 0 0) counted
 
--- "18: row below 4,097, with its length".
+-- "18: row below 4,097, with its length", and of item 3: "then infinite, with 18 following that length", which is now 1,044,227.
 unfoldable pub short_row : ℕ → Numbers → Numbers
 short_row row below = refused_if (nat_lt row row_size) 18 row below
 

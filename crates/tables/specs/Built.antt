@@ -6,7 +6,7 @@ use Rattle.planning.specs.Table.{table, entry_of, infinite_entry}
 use Rattle.packed_task.specs.Packed.{compiled}
 use Rattle.packed_task.specs.Packable.{Packable}
 
--- Finite entries are below the infinite one: where every action counts 1, at most 4,095 (light_entries_bounded of planning).
+-- Finite entries are below the infinite one: where no action weighs more than 255, at most 1,044,225 (light_entries_bounded of planning).
 pub record Built (words : List ℕ) (actions n : ℕ) (sizes p entries : List ℕ) : Type 0 where
   pub is_table : (t : Task) → WellFormed t → Packable t → take n sizes ≡ t.sizes → words ≡ compiled t → actions ≡ length t.actions →
       ((i k : ℕ) → slice_index_or (table t p) i inf ≡ fin k → k < infinite_entry) → entries ≡ map entry_of (table t p)

@@ -1,7 +1,7 @@
 -- The edges of a pattern: for an outcome of an action what a state after it has, and how the index of a state before it comes from that of
 -- the state after it. Two lanes of 32 bits stand in one word, a free digit each: its weight (16 bits), its position in a word (8 bits), how many
 -- values it has (8 bits). A digit is free if the outcome sets it and the precondition does not ask for it. Assumes nothing.
-use Rattle.std.specs.Prelude.{◌≡◌, ℕ, zero, suc, ◌+◌, ◌-◌, ◌*◌, ◌/◌, ◌%◌, ◌^◌, ◌<◌, ◌≤◌, min, true, false, cond, ◌⊎◌, List, ◌++◌, length, take, replicate, ◌==◌, ◌≢◌, bit_and, bit_or, slice_index, slice_index_or}
+use Rattle.std.specs.Prelude.{◌≡◌, ℕ, zero, suc, ◌+◌, ◌-◌, ◌*◌, ◌/◌, ◌%◌, ◌^◌, ◌<◌, ◌≤◌, true, false, cond, ◌⊎◌, List, ◌++◌, length, take, replicate, ◌==◌, ◌≢◌, bit_and, bit_or, slice_index, slice_index_or}
 use Rattle.planning.specs.Table.{state_count, state_at}
 use Rattle.packed_task.specs.Packed.{pack_by, low, pre_mask, pre_value, outcome_count, action_weight, keep_mask, set_value, goal_mask, goal_value}
 use Rattle.tables.specs.Steps.{weigh, weights_from, Space, space, permitted_at}
@@ -111,7 +111,7 @@ pub record EdgesOf (x : Space) (sizes : List ℕ) (n : ℕ) (es : List Edge) (k 
   pub room : k ≤ length es
   pub known : (e : ℕ) → e < k → edge_action es e < x.actions
   pub back : (e : ℕ) → e < k → edge_back es e < 65536
-  pub weight : (e : ℕ) → e < k → edge_weight es e ≡ min (action_weight x.task (edge_action es e)) 65535
+  pub weight : (e : ℕ) → e < k → edge_weight es e ≡ action_weight x.task (edge_action es e)
   pub free : (e : ℕ) → e < k → Choices x.states sizes n 0 (edge_free es e)
   pub span : (e : ℕ) → e < k → edge_end es e ≤ k
   pub own : (e : ℕ) → e < k → Beside es e e

@@ -28,8 +28,7 @@ pub record Zeroed (t new : List ℕ) (i : ℕ) : Type 0 where
   pub here : i < length t → slice_index new i ≡ 0
   pub same : (j : ℕ) → (j ≢ i) → slice_index new j ≡ slice_index t j
 
--- The ring is for the states of the entries, nothing was taken from it, and every state whose entry is 0 is in it.
-pub record Held (t : List ℕ) (n : ℕ) (q : List ℕ) (marks : List Bool) (h c : ℕ) : Type 0 where
+-- The queue is for the states of the entries, and every state whose entry is 0 waits.
+pub record Held (t : List ℕ) (n : ℕ) (marks : List Bool) (c : ℕ) : Type 0 where
   pub states : n ≡ length t
-  pub head : h ≡ 0
-  pub wait : GoalsWait t q marks c
+  pub wait : GoalsWait t marks c

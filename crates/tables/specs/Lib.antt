@@ -6,7 +6,7 @@ pub mod Answers
 pub mod Steps
 -- What a worklist keeps (`Kept`): an action was heard, or an outcome of it waits.
 pub mod Waiting
--- The waiting states: a mark for each, and a ring of their indices.
+-- The waiting states: a mark for each, and their number.
 pub mod Queue
 -- The edges of a pattern, along which an outcome is gone back.
 pub mod Edges

@@ -1,5 +1,5 @@
 -- What making the edges of a pattern leaves behind: the words of an edge, of the edges of one action, and of all. Assumes nothing.
-use Rattle.std.specs.Prelude.{◌≡◌, ℕ, ◌+◌, ◌-◌, ◌*◌, ◌%◌, ◌^◌, ◌<◌, ◌≤◌, min, List, length, bit_and, slice_index, slice_index_or}
+use Rattle.std.specs.Prelude.{◌≡◌, ℕ, ◌+◌, ◌-◌, ◌*◌, ◌%◌, ◌^◌, ◌<◌, ◌≤◌, List, length, bit_and, slice_index, slice_index_or}
 use Rattle.packed_task.specs.Packed.{pre_mask, pre_value, outcome_count, action_weight, keep_mask, set_value}
 use Rattle.tables.specs.Steps.{weigh}
 use Rattle.tables.specs.Edges.{edge_at, edge_first, edge_end, named, freed, test_mask, test_value, digit}
@@ -33,7 +33,7 @@ pub record EdgeFor (a : List ℕ) (k : ℕ) (ws sizes : List ℕ) (m o : ℕ) (w
   pub mask : w.mask ≡ test_mask k (keep_mask a m o) (pre_mask a m)
   pub value : w.value ≡ test_value k (keep_mask a m o) (pre_value a m) (set_value a m o)
   pub back : w.back ≡ back_of (weigh ws (bit_and (pre_value a m) (named k (keep_mask a m o)))) (weigh ws (bit_and (set_value a m o) k))
-  pub weight : w.weight ≡ min (action_weight a m) 65535
+  pub weight : w.weight ≡ action_weight a m
   pub action : w.action ≡ m
   pub lane₁ : ℕ
   pub lane₂ : ℕ

@@ -24,5 +24,5 @@ unfoldable pub samples : List Sample
 samples =
     -- "Tables 3,2,0,1 and 1,0."
     builds (tower (bytes "eff=0:3") (bytes "eff=1:1") (bytes "limit=32") (bytes "budget=100")) (3 ∷ 2 ∷ 0 ∷ 1 ∷ 1 ∷ 0 ∷ []) ∷
-    -- "eff=0:0 for eff=0:3: table 65535,65535,0,1"
+    -- "eff=0:0 for eff=0:3: table 65535,65535,0,1"; "infinite" is now "4,294,967,295" (document 02, item 3).
     builds (tower (bytes "eff=0:0") (bytes "eff=1:1") (bytes "limit=32") (bytes "budget=100")) (infinite_entry ∷ infinite_entry ∷ 0 ∷ 1 ∷ 1 ∷ 0 ∷ []) ∷ []

@@ -1,6 +1,7 @@
 // The spread of a pattern's table: how many of its abstract states have each cost, counted in a lent row. It shows whether a pattern tells
 // states apart.
-// Stays: `as` of a length: it has no `From` into a word, and `try_from` has a case that never happens.
+// Stays: `as` of a length and of an entry: the one has no `From` into a word, the other none into an index, and `try_from` has a case that never
+// happens.
 ghost use Rattle.std.specs.Prelude.{◌≡◌, suc, ◌+◌, ◌<◌, ◌≤◌, min, [], map, length, take};
 ghost use Rattle.planning.specs.Table.{cost_of, EntriesBelow, most_cost, Small};
 ghost use Rattle.planning.specs.Spread.{row_size, spread};
@@ -21,13 +22,13 @@ use task_record::refusal::Refusal;
 use task_record::sound::SoundRecord;
 
 // A count for each cost that a table can hold, from 0 on, and after them one for infinity.
-const ROW: usize = 4097;
+const ROW: usize = 1044227;
 
-// The place of an entry in the row: its own where it is finite, and so at most 4,095; an infinite one is cut to the last.
+// The place of an entry in the row: its own where it is finite, and so at most 1,044,225; an infinite one is cut to the last.
 fn place_of(e: Entry) -> usize
     ensures { result ≡ min e (suc most_cost) }
 {
-    usize::from(e).min(ROW - 1)
+    (e as usize).min(ROW - 1)
 }
 
 // Counts the entries of a table in a row that is cleared.
@@ -78,7 +79,7 @@ fn count_pattern(record: &SoundRecord, pattern: u64, tables: &[Entry], row: &mut
 
 // Builds the tables and counts, for the pattern of a number, how many of its abstract states have each cost: place v of the row is for cost v, the
 // last for infinity. A row that is too short is refused before anything is built. Needs as much stack as a build.
-#[tactic(auto, using(crate::proofs::Spreading::spread_told))]
+#[tactic(auto, using(crate::proofs::Spreading::spread_told), unfolding(planning::specs::Spread::row_size))]
 pub fn spread(
     rec: &[u8],
     pattern: u64,

@@ -5,18 +5,18 @@ use Rattle.std.proofs.Math.Seq.{get_or-append_right}
 use Rattle.task_record.proofs.Sixteens.{zeros}
 use lib.Bits.{bit_or, bit_and, or_add_and, and_le_l, and_le_r}
 use borrow.Author.Tests.{eqb-false}
-use Rattle.task_record.specs.Layout.{at_sizes, at_goal, at_start, at_pattern, at_action, action_size}
+use Rattle.task_record.specs.Layout.{record_size, at_sizes, at_goal, at_start, at_pattern, at_action, at_cost, action_size}
 use Rattle.task_record.specs.Numbers.{variable_count, action_count, pattern_count, size_of, outcome_count}
 use Rattle.task_record.specs.Scan.{first_from}
 use Rattle.task_record.specs.Window.{fits}
-use Rattle.task_record.specs.Record.{cell_ok, size_ok, count_ok, state_ok}
+use Rattle.task_record.specs.Record.{cell_ok, size_ok, count_ok, cost_ok, state_ok}
 use Rattle.task_record.specs.State.{first_bad_value}
 use Rattle.task_record.specs.Parts.{SizesPassed}
 use Rattle.task_record.specs.Columns.{ActionColumn, MemberColumn, FrontPassed, Ramp}
 use Rattle.planning.proofs.Test.{by_test}
 use Rattle.task_record.proofs.Tests.{same_test, both_left}
 use Rattle.task_record.proofs.Scanning.{first_suc, first_none}
-use Rattle.task_record.proofs.Offsets.{size_at, goal_at, start_at, pattern_at, count_at, block_at}
+use Rattle.task_record.proofs.Offsets.{size_at, goal_at, start_at, pattern_at, count_at, block_at, cost_at}
 use Rattle.task_record.proofs.Windows.{size_window, assignment_window, unused_assignment_window, state_window, pattern_window, unused_pattern_window}
 use Rattle.task_record.proofs.Parts.{Bytes, size_right}
 
@@ -60,22 +60,22 @@ pub record UsedRows (r : List ℕ) (m used : ℕ) : Type 0 where
   pub row : (j : ℕ) → (ltb m (action_count r) && leb j (outcome_count r m)) ≡ ltb j used
 
 module _ (r : List ℕ) (m : ℕ) where
-  pub used_rows : m < action_count r → 1 ≤ outcome_count r m → outcome_count r m ≤ 8 → UsedRows r m (1 + outcome_count r m)
+  pub used_rows : m < 64 → m < action_count r → 1 ≤ outcome_count r m → outcome_count r m ≤ 8 → UsedRows r m (1 + outcome_count r m)
   unfolding count_ok
-  used_rows h a b =
+  used_rows near h a b =
       record {
-        counted = count_at r m ∙ rw (lt-ltb m (action_count r) h, le-leb 1 (outcome_count r m) a, le-leb (outcome_count r m) 8 b);
+        counted = count_at r m near ∙ rw (lt-ltb m (action_count r) h, le-leb 1 (outcome_count r m) a, le-leb (outcome_count r m) 8 b);
         few = omega arith;
         row = λ j. rw (lt-ltb m (action_count r) h) (same_test (leb j (outcome_count r m)) (ltb j (1 + outcome_count r m))
             (λ p. let q = leb-true j (outcome_count r m) p in lt-ltb j (1 + outcome_count r m) (omega arith))
             (λ p. let q = ltb-true j (1 + outcome_count r m) p in le-leb j (outcome_count r m) (omega arith)));
       }
 
-  pub no_rows : action_count r ≤ m → outcome_count r m ≡ 0 → UsedRows r m 0
+  pub no_rows : m < 64 → action_count r ≤ m → outcome_count r m ≡ 0 → UsedRows r m 0
   unfolding count_ok
-  no_rows h z =
+  no_rows near h z =
       record {
-        counted = count_at r m ∙ rw (le-ltb m (action_count r) h, eq-eqb (outcome_count r m) 0 z);
+        counted = count_at r m near ∙ rw (le-ltb m (action_count r) h, eq-eqb (outcome_count r m) 0 z);
         few = omega arith;
         row = λ j. rw (le-ltb m (action_count r) h, le-ltb j 0 (omega arith));
       }
@@ -139,10 +139,10 @@ module _ (r : List ℕ) (bytes : Bytes r) where
         sym (unused_pattern_window x b r (i % 16) (i / 16) w) ∙ le-leb ((x + 0) % 256) 0 (omega arith)))
 
     -- The cells of a variable in the nine rows of an action.
-    pub action_passes : (m used : ℕ) → UsedRows r m used → ((v : ℕ) → v < 16 → ActionColumn r (size_of r v) (at_action m + 1 + v) used)
+    pub action_passes : (m used : ℕ) → m < 64 → UsedRows r m used → ((v : ℕ) → v < 16 → ActionColumn r (size_of r v) (at_action m + 1 + v) used)
         → first_from (cell_ok r) (at_action m) action_size ≡ at_action (m + 1)
     unfolding fits
-    action_passes m used rows each =
+    action_passes m used near rows each =
         let few = rows.few in
         let all : (i : ℕ) → i < 144 → cell_ok r (at_action m + 1 + i) ≡ true =
         (λ i l.
@@ -150,7 +150,7 @@ module _ (r : List ℕ) (bytes : Bytes r) where
         let b = bytes (at_action m + 1 + i) in
         let col = each (i % 16) (omega arith) in
         let p : at_action m + 1 + i % 16 + 16 * (i / 16) ≡ at_action m + 1 + i = omega arith in
-        block_at r m i l
+        block_at r m i near l
         ∙ rw (rows.row (i / 16)) (by_test (ltb (i / 16) used)
         (λ w.
         let g = ltb-true (i / 16) used w in
@@ -169,9 +169,18 @@ module _ (r sizes : List ℕ) (bytes : Bytes r) (passed : SizesPassed r sizes) w
       → first_from (cell_ok r) (at_pattern 0) 128 ≡ at_action 0
   patterns_told used e few each = patterns_pass r bytes passed.right used e few (λ v l. rw (passed.read.cell v l) at (each v l))
 
-  pub action_told : (m : ℕ) → m < action_count r → 1 ≤ outcome_count r m → outcome_count r m ≤ 8
+  pub action_told : (m : ℕ) → m < 64 → m < action_count r → 1 ≤ outcome_count r m → outcome_count r m ≤ 8
       → ((v : ℕ) → v < 16 → ActionColumn r (get_or sizes v 0) (at_action m + 1 + v) (1 + outcome_count r m)) → first_from (cell_ok r) (at_action m) action_size ≡ at_action (m + 1)
-  action_told m h a b each = action_passes r bytes passed.right m (1 + outcome_count r m) (used_rows r m h a b) (λ v l. rw (passed.read.cell v l) at (each v l))
+  action_told m near h a b each = action_passes r bytes passed.right m (1 + outcome_count r m) near (used_rows r m near h a b) (λ v l. rw (passed.read.cell v l) at (each v l))
+
+-- The costs, each there exactly where its action is used.
+pub costs_pass : (r : List ℕ) → Bytes r → ((m : ℕ) → m < 64 → ltb 0 (get_or r (at_cost m) 0) ≡ ltb m (action_count r)) → first_from (cell_ok r) (at_cost 0) (record_size - at_cost 0) ≡ record_size
+unfolding cost_ok
+costs_pass r bytes each = first_none (cell_ok r) (at_cost 0) (record_size - at_cost 0)
+    (λ m l. let x = get_or r (at_cost m) 0 in
+    cost_at r m ∙ by_test (ltb m (action_count r))
+    (λ w. let g = ltb-true 0 x (each m l ∙ w) in let b = bytes (at_cost m) in rw (w, le-leb 1 x (omega arith), le-leb x 255 (omega arith)))
+    (λ w. let g = ltb-false 0 x (each m l ∙ w) in rw w (eq-eqb x 0 (omega arith))))
 
 pub is_ramp : Ramp (replicate 16 255 ++ replicate 16 0)
 is_ramp = record { whole = refl; high = λ k h. get_or-append (replicate {A = ℕ} 16 255) (replicate {A = ℕ} 16 0) 0 k h ∙ get_or-replicate 16 k 255 0 h; low = λ k h. get_or-append_right (replicate {A = ℕ} 16 255) (replicate {A = ℕ} 16 0) k 0 h ∙ zeros 16 (k - 16) }

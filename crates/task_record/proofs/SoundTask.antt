@@ -7,13 +7,13 @@ use lib.ListN.{get_or-eq_default}
 use Rattle.planning.specs.Finite.{All, tabulate}
 use Rattle.planning.specs.Task.{State, in_sizes, fits_sizes, WellFormedAction, WellFormed}
 use Rattle.planning.proofs.Finite.{some_tabulate, some_imp}
-use Rattle.task_record.specs.Layout.{record_size, at_variables, at_actions, at_patterns, at_sizes, at_goal, at_start, at_action, at_precondition, at_outcome}
-use Rattle.task_record.specs.Numbers.{byte, variable_count, action_count, pattern_count, size_of, outcome_count}
-use Rattle.task_record.specs.Record.{cell_ok, head_ok, size_ok, value_ok, assignment_ok, state_ok, count_ok, Sound}
+use Rattle.task_record.specs.Layout.{record_size, at_variables, at_actions, at_patterns, at_sizes, at_goal, at_start, at_action, at_precondition, at_outcome, at_cost}
+use Rattle.task_record.specs.Numbers.{byte, variable_count, action_count, pattern_count, size_of, outcome_count, action_cost}
+use Rattle.task_record.specs.Record.{cell_ok, head_ok, size_ok, value_ok, assignment_ok, state_ok, count_ok, cost_ok, Sound}
 use Rattle.task_record.specs.TaskOf.{cells_at, action_of, task_of, start_of}
 use Rattle.planning.proofs.Test.{by_test}
 use Rattle.task_record.proofs.Tests.{both_left, both_right, one_of, false_true}
-use Rattle.task_record.proofs.Offsets.{size_at, goal_at, start_at, count_at, block_at}
+use Rattle.task_record.proofs.Offsets.{size_at, goal_at, start_at, count_at, block_at, cost_at}
 use Rattle.task_record.proofs.Soundness.{sound_length, sound_cell}
 use Rattle.task_record.proofs.Sixteens.{any_default}
 use Rattle.task_record.proofs.Fronts.{Unnamed}
@@ -82,8 +82,15 @@ module _ (r : List ℕ) (sound : Sound r) where
   unfolding count_ok
   outcomes_right m l =
       let n = actions_right in
-      let h = rw (lt-ltb m (action_count r) l) at (sym (count_at r m) ∙ sound_cell r sound (at_action m) (omega arith)) in
+      let h = rw (lt-ltb m (action_count r) l) at (sym (count_at r m (omega arith)) ∙ sound_cell r sound (at_action m) (omega arith)) in
       (leb-true 1 (outcome_count r m) (both_left _ _ h), leb-true (outcome_count r m) 8 (both_right (leb 1 (outcome_count r m)) _ h))
+
+  pub costs_right : (m : ℕ) → m < action_count r → (1 ≤ action_cost r m) × (action_cost r m ≤ 255)
+  unfolding cost_ok
+  costs_right m l =
+      let n = actions_right in
+      let h = rw (lt-ltb m (action_count r) l) at (sym (cost_at r m) ∙ sound_cell r sound (at_cost m) (omega arith)) in
+      (leb-true 1 (action_cost r m) (both_left _ _ h), leb-true (action_cost r m) 255 (both_right (leb 1 (action_cost r m)) _ h))
 
   part_assigns : (k : ℕ) → k + 16 ≤ record_size → ((v : ℕ) → v < 16 → cell_ok r (k + v) ≡ assignment_ok r true v (byte r (k + v))) → Assigns r (cells_at r k)
   part_assigns k l rule =
@@ -107,7 +114,7 @@ module _ (r : List ℕ) (sound : Sound r) where
       let a : k + v ≡ at_action m + 1 + i = omega arith in
       let q : i / 16 ≡ j = omega arith in
       let w : i % 16 ≡ v = omega arith in
-      rw a (block_at r m i (omega arith) ∙ rw (q, w, lt-ltb m (action_count r) l, le-leb j (outcome_count r m) u)))
+      rw a (block_at r m i (omega arith) (omega arith) ∙ rw (q, w, lt-ltb m (action_count r) l, le-leb j (outcome_count r m) u)))
 
   pub precondition_assigns : (m : ℕ) → m < action_count r → Assigns r (cells_at r (at_precondition m))
   precondition_assigns m l = block_assigns m 0 (at_precondition m) l (omega arith) (omega arith)
@@ -123,7 +130,7 @@ module _ (r : List ℕ) (sound : Sound r) where
       let i = 16 * (k + 1) + v in
       let a : at_outcome m k + v ≡ at_action m + 1 + i = omega arith in
       let q : i / 16 ≡ k + 1 = omega arith in
-      let o = rw (q, lt-ltb m (action_count r) l, lt-leb (k + 1) (outcome_count r m) (omega arith)) at (sym (block_at r m i (omega arith)) ∙ sound_cell r sound (at_action m + 1 + i) (omega arith)) in
+      let o = rw (q, lt-ltb m (action_count r) l, lt-leb (k + 1) (outcome_count r m) (omega arith)) at (sym (block_at r m i (omega arith) (omega arith)) ∙ sound_cell r sound (at_action m + 1 + i) (omega arith)) in
       rw a (one_of (eqb (byte r (at_action m + 1 + i)) 255) false o (λ e. eqb-true (byte r (at_action m + 1 + i)) 255 e) (λ e. false_true e))
 
   pub sizes_length : length (take (variable_count r) (drop at_sizes r)) ≡ variable_count r
@@ -168,8 +175,9 @@ module _ (r : List ℕ) (sound : Sound r) where
             (λ m l.
             let e : 0 + m ≡ m = omega arith in
             let c = outcomes_right m l in
+            let w = costs_right m l in
             rw e (record {
-              weight_positive = omega arith;
+              weight_positive = w.0;
               some_outcome = some_imp (λ x h. tt) (action_of r m).outcomes (some_tabulate (λ k. cells_at r (at_outcome m k)) 0 (outcome_count r m) 0 (omega arith));
               outcomes_fit =
                   all_tabulate (λ o. T (fits_sizes (task_of r).sizes o)) (λ k. cells_at r (at_outcome m k)) 0 (outcome_count r m)

@@ -1,6 +1,6 @@
 -- What a sound record is: long enough, and every cell inside its rule. Assumes nothing.
 use Rattle.std.proofs.Common.{◌≡◌, ℕ, ◌+◌, ◌-◌, ◌<◌, ◌≤◌, true, ltb, List, length, zero-add, arith, ltb-false, le-ltb}
-use Rattle.task_record.specs.Layout.{record_size, at_sizes, at_goal, at_start, at_pattern, at_action}
+use Rattle.task_record.specs.Layout.{record_size, at_sizes, at_goal, at_start, at_pattern, at_action, at_cost}
 use Rattle.task_record.specs.Scan.{first_from}
 use Rattle.task_record.specs.Record.{cell_ok, first_bad, record_check, Sound}
 use Rattle.task_record.specs.Columns.{FrontPassed}
@@ -38,13 +38,14 @@ every-cell_sound r long all =
 
 -- The parts of a record that are passed one after the other.
 pub parts_sound : (r : List ℕ) → record_size ≤ length r → first_from (cell_ok r) 0 at_sizes ≡ at_sizes → FrontPassed r
-    → first_from (cell_ok r) (at_pattern 0) (at_action 0 - at_pattern 0) ≡ at_action 0 → first_from (cell_ok r) (at_action 0) (at_action 64 - at_action 0) ≡ at_action 64 → Sound r
+    → first_from (cell_ok r) (at_pattern 0) (at_action 0 - at_pattern 0) ≡ at_action 0 → first_from (cell_ok r) (at_action 0) (at_action 64 - at_action 0) ≡ at_action 64 → first_from (cell_ok r) (at_cost 0) (record_size - at_cost 0) ≡ record_size → Sound r
 unfolding Sound record_check first_bad
-parts_sound r long head front patterns actions =
+parts_sound r long head front patterns actions costs =
     let ok = cell_ok r in
     let a = first_on ok 0 at_sizes 16 head front.sizes in
     let b = first_on ok 0 at_goal 16 a front.goal in
     let c = first_on ok 0 at_start 16 b front.start in
     let d = first_on ok 0 (at_pattern 0) (at_action 0 - at_pattern 0) c patterns in
     let e = first_on ok 0 (at_action 0) (at_action 64 - at_action 0) d actions in
-    rw (le-ltb (length r) record_size long, e)
+    let f = first_on ok 0 (at_cost 0) (record_size - at_cost 0) e costs in
+    rw (le-ltb (length r) record_size long, f)

@@ -16,7 +16,7 @@ record_numbers checked = answer_numbers (λ u. answered 0 0 0 0) checked
 abbrev pub state_numbers : Result Unit Refusal → Numbers
 state_numbers checked = answer_numbers (λ u. answered 0 0 0 0) checked
 
--- "any record: 5, lent record below 9,464 bytes; its length".
+-- "any record: 5, lent record below 9,464 bytes; its length"; the bytes are now 9,528.
 unfoldable pub short_record : List ℕ → Numbers → Numbers
 short_record r below = refused_if (nat_lt (length r) record_size) 5 (length r) below
 

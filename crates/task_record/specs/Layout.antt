@@ -1,10 +1,10 @@
--- The record's layout, document 01, "Record": where each cell stands. Every offset is named here and nowhere else.
+-- The record's layout, document 01, "Record", and document 02, item 3: where each cell stands. Every offset is named here and nowhere else.
 -- Assumes nothing.
 use Rattle.std.specs.Prelude.{ℕ, ◌+◌, ◌*◌}
 
--- "9,464 bytes"
+-- "The record is 9,528 bytes."
 abbrev pub record_size : ℕ
-record_size = 9464
+record_size = 9528
 
 -- "0 N; 1 M; 2 P; 3 limit; 4 to 7 budget, lowest byte first"
 abbrev pub at_variables : ℕ
@@ -45,6 +45,10 @@ at_precondition m = 185 + 145 * m
 
 abbrev pub at_outcome : ℕ → ℕ → ℕ
 at_outcome m k = 201 + 145 * m + 16 * k
+
+-- "the record 64 bytes at its end": the cost of each move
+abbrev pub at_cost : ℕ → ℕ
+at_cost m = 9464 + m
 
 -- The cells of an action, and where its precondition and its outcomes start in them.
 abbrev pub action_size : ℕ

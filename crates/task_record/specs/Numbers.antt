@@ -1,6 +1,6 @@
 -- The numbers that a record holds: document 01, "Record". Assumes nothing.
 use Rattle.std.specs.Prelude.{ℕ, ◌+◌, ◌*◌, List, slice_index}
-use Rattle.task_record.specs.Layout.{at_variables, at_actions, at_patterns, at_limit, at_budget, at_sizes, at_action}
+use Rattle.task_record.specs.Layout.{at_variables, at_actions, at_patterns, at_limit, at_budget, at_sizes, at_action, at_cost}
 
 -- The cell at an offset; 0 past the end.
 abbrev pub byte : List ℕ → ℕ → ℕ
@@ -30,3 +30,7 @@ size_of r v = byte r (at_sizes + v)
 -- "184 moves (64 times 145: number of outcomes, ..)"
 abbrev pub outcome_count : List ℕ → ℕ → ℕ
 outcome_count r m = byte r (at_action m)
+
+-- "a line cost= of 1 to 255 after each need, and the record 64 bytes at its end"
+abbrev pub action_cost : List ℕ → ℕ → ℕ
+action_cost r m = byte r (at_cost m)

@@ -1,7 +1,7 @@
 -- The rule of each cell of a record, by its offset, and what the check of a record answers: document 01, "The tower as a task", "Record"
--- and "Where a call can say no", lines 5 and 6. Assumes nothing.
+-- and "Where a call can say no", lines 5 and 6, and document 02, item 3. Assumes nothing.
 use Rattle.std.specs.Prelude.{◌≡◌, ℕ, ◌-◌, ◌/◌, ◌%◌, Bool, true, cond, ◌&&◌, ◌||◌, List, length, ◌==◌, nat_le, nat_lt, Result, Ok, Err}
-use Rattle.task_record.specs.Layout.{record_size, at_variables, at_actions, at_patterns, at_limit, at_budget, at_sizes, at_goal, at_start, at_pattern, at_action, action_size, in_precondition, in_outcomes}
+use Rattle.task_record.specs.Layout.{record_size, at_variables, at_actions, at_patterns, at_limit, at_budget, at_sizes, at_goal, at_start, at_pattern, at_action, at_cost, action_size, in_precondition, in_outcomes}
 use Rattle.task_record.specs.Numbers.{byte, variable_count, action_count, pattern_count, limit_of, budget_of, size_of, outcome_count}
 use Rattle.task_record.specs.Scan.{first_from}
 use Rattle.task_record.specs.declared.refusal.Refusal.{Refusal}
@@ -10,13 +10,14 @@ use Rattle.task_record.specs.declared.refusal.Refusal.TheVariants.{ShortRecord, 
 abbrev within : ℕ → ℕ → ℕ → Bool
 within low high x = nat_le low x && nat_le x high
 
--- "N 1 to 16, .. moves M 0 to 64, patterns P 0 to 8, limit 0 to 32, budget 0 to 1,000,000"; a fault of the budget is at 4 ("budget 4").
+-- "N 1 to 16, .. moves M 0 to 64, patterns P 0 to 8, .. budget 0 to 1,000,000"; a fault of the budget is at 4 ("budget 4"). "Limit is a cost from
+-- 0 to 255": no byte is above.
 unfoldable pub head_ok : List ℕ → ℕ → Bool
 head_ok r k =
     cond (k == at_variables) (within 1 16 (variable_count r))
     (cond (k == at_actions) (nat_le (action_count r) 64)
     (cond (k == at_patterns) (nat_le (pattern_count r) 8)
-    (cond (k == at_limit) (nat_le (limit_of r) 32)
+    (cond (k == at_limit) (nat_le (limit_of r) 255)
     (cond (k == at_budget) (nat_le (budget_of r) 1000000) true))))
 
 -- "size 2 to 16"; "Unused cells: size .. 0".
@@ -50,8 +51,12 @@ action_ok r m c x =
     (cond (nat_lt c in_outcomes) (assignment_ok r (nat_lt m (action_count r)) (c - in_precondition) x)
     (assignment_ok r (nat_lt m (action_count r) && nat_lt ((c - in_outcomes) / 16) (outcome_count r m)) ((c - in_outcomes) % 16) x))
 
+-- "cost= of 1 to 255", "0 for unused moves".
+unfoldable pub cost_ok : List ℕ → ℕ → ℕ → Bool
+cost_ok r m x = cond (nat_lt m (action_count r)) (within 1 255 x) (x == 0)
+
 -- "0 N; 1 M; 2 P; 3 limit; 4 to 7 budget ..; 8 sizes (16 bytes); 24 goal (16); 40 start (16); 56 patterns (8 times 16 ..); 184 moves (64
--- times 145 ..)".
+-- times 145 ..)", and "64 bytes at its end".
 unfoldable pub cell_ok : List ℕ → ℕ → Bool
 cell_ok r k =
     cond (nat_lt k at_sizes) (head_ok r k)
@@ -59,13 +64,14 @@ cell_ok r k =
     (cond (nat_lt k at_start) (assignment_ok r true (k - at_goal) (byte r k))
     (cond (nat_lt k (at_pattern 0)) (state_ok r (k - at_start) (byte r k))
     (cond (nat_lt k (at_action 0)) (pattern_ok r ((k - at_pattern 0) / 16) ((k - at_pattern 0) % 16) (byte r k))
-    (action_ok r ((k - at_action 0) / action_size) ((k - at_action 0) % action_size) (byte r k))))))
+    (cond (nat_lt k (at_cost 0)) (action_ok r ((k - at_action 0) / action_size) ((k - at_action 0) % action_size) (byte r k))
+    (cost_ok r (k - at_cost 0) (byte r k)))))))
 
 -- "cell outside its rule": the "lowest offset", or the record's size where every cell is inside.
 unfoldable pub first_bad : List ℕ → ℕ
 first_bad r = first_from (cell_ok r) 0 record_size
 
--- "5 lent record below 9,464 bytes: its length. 6 cell outside its rule: lowest offset (budget 4)."
+-- "5 lent record below 9,464 bytes: its length. 6 cell outside its rule: lowest offset (budget 4)." The bytes are now 9,528.
 unfoldable pub record_check : List ℕ → Result Unit Refusal
 record_check r =
     cond (nat_lt (length r) record_size) (Err (ShortRecord (length r)))

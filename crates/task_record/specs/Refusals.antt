@@ -14,7 +14,7 @@ refusal_numbers (WrongForm line) = refusal 2 line
 refusal_numbers (OutOfRange line) = refusal 3 line
 -- "4: list: variable not below N, not ascending, value not below size, start not N long; line"
 refusal_numbers (WrongList line) = refusal 4 line
--- "5: lent record below 9,464 bytes; its length"
+-- "5: lent record below 9,464 bytes; its length"; the bytes are now 9,528
 refusal_numbers (ShortRecord length) = refusal 5 length
 -- "6: cell outside its rule; lowest offset (budget 4)"
 refusal_numbers (WrongCell offset) = refusal 6 offset
@@ -40,7 +40,7 @@ refusal_numbers (EarlyArrival offset) = refusal 15 offset
 refusal_numbers (TrailingBytes offset) = refusal 16 offset
 -- "17: a move after 32 moves on the path; offset"
 refusal_numbers (TooDeep offset) = refusal 17 offset
--- "18: row below 4,097, with its length"
+-- "18: row below 4,097, with its length"; "with 18 following that length": it is now 1,044,227
 refusal_numbers (ShortRow length) = refusal 18 length
 
 -- An answer in numbers, where `told` says those of an answer that is no refusal.

@@ -3,18 +3,18 @@ use Rattle.std.specs.Prelude.{ℕ, List, take, drop}
 use Rattle.planning.specs.Finite.{tabulate}
 use Rattle.planning.specs.Task.{Action, Task}
 use Rattle.task_record.specs.Layout.{at_sizes, at_goal, at_start, at_pattern, at_precondition, at_outcome}
-use Rattle.task_record.specs.Numbers.{variable_count, action_count, pattern_count, outcome_count}
+use Rattle.task_record.specs.Numbers.{variable_count, action_count, pattern_count, outcome_count, action_cost}
 
 -- The sixteen cells from an offset on.
 abbrev pub cells_at : List ℕ → ℕ → List ℕ
 cells_at r k = take 16 (drop k r)
 
--- "number of outcomes, need of 16, eight outcomes of 16"; every action weighs 1.
+-- "number of outcomes, need of 16, eight outcomes of 16"; "Costs replace the 1".
 unfoldable pub action_of : List ℕ → ℕ → Action
 action_of r m = record {
   precondition = cells_at r (at_precondition m);
   outcomes = tabulate (λ k. cells_at r (at_outcome m k)) 0 (outcome_count r m);
-  weight = 1;
+  weight = action_cost r m;
 }
 
 -- "8 sizes (16 bytes); 24 goal (16); .. 184 moves": as many sizes and actions as are used.

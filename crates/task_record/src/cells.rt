@@ -8,7 +8,7 @@ ghost use Rattle.task_record.specs.Cells.{state_cells};
 
 use crate::layout::{
     AT_ACTION_COUNT, AT_BUDGET, AT_GOAL, AT_LIMIT, AT_PATTERN_COUNT, AT_SIZES, AT_START,
-    AT_VARIABLES, UNNAMED, at_action, at_outcome, at_pattern, at_precondition,
+    AT_VARIABLES, UNNAMED, at_action, at_cost, at_outcome, at_pattern, at_precondition,
 };
 use std::array;
 
@@ -110,12 +110,12 @@ pub fn outcome_cells(rec: &[u8], m: u8, k: u8) -> &[u8]
     part(rec, at_outcome(m, k))
 }
 
-// What an action weighs: the same whichever it is, since a record says nothing of it.
+// What an action weighs: its cost.
 #[tactic(auto, unfolding(crate::specs::TaskOf::action_of))]
 pub fn action_weight(rec: &[u8], m: u8) -> u8
     ensures { result ≡ (action_of rec.now m).weight }
 {
-    1
+    cell(rec, at_cost(m))
 }
 
 // The cell of an outcome as it counts, by the cell of its action's need: to restate the very value that is demanded is no change.

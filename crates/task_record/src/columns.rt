@@ -1,8 +1,8 @@
 // Whether the parts of a record are inside their rules, without the offset of a fault. A column is the cells of one variable in several rows; it
 // answers a byte that is 0 only if all of them are right, so that sixteen columns are tried at once (`faultless`). What is not
 // found right here is looked through again by `record`, so the answer "no" promises nothing.
-ghost use Rattle.std.specs.Prelude.{◌≡◌, ℕ, ◌+◌, ◌-◌, ◌*◌, ◌<◌, ◌≤◌, true, length, replicate, ◌==◌, bit_and, slice_index};
-ghost use Rattle.task_record.specs.Layout.{action_size, at_action, at_goal, at_pattern, at_sizes, at_start, record_size};
+ghost use Rattle.std.specs.Prelude.{◌≡◌, ℕ, ◌+◌, ◌-◌, ◌*◌, ◌<◌, ◌≤◌, true, length, replicate, ◌==◌, bit_and, nat_lt, slice_index};
+ghost use Rattle.task_record.specs.Layout.{action_size, at_action, at_cost, at_goal, at_pattern, at_sizes, at_start, record_size};
 ghost use Rattle.task_record.specs.Numbers.{size_of, variable_count, action_count, pattern_count};
 ghost use Rattle.task_record.specs.Scan.{first_from};
 ghost use Rattle.task_record.specs.Window.{fits, Sixteen};
@@ -10,7 +10,7 @@ ghost use Rattle.task_record.specs.Record.{head_ok, cell_ok};
 ghost use Rattle.task_record.specs.Columns.{ActionColumn, MemberColumn, FrontPassed, Ramp};
 
 use crate::cells::{action_count, pattern_count, variable_count};
-use crate::layout::{AT_GOAL, AT_PATTERNS, AT_SIZES, AT_START, UNNAMED, at_action};
+use crate::layout::{AT_COSTS, AT_GOAL, AT_PATTERNS, AT_SIZES, AT_START, UNNAMED, at_action};
 use crate::measured::{LongRecord, Measured};
 use crate::rules::is_head_right;
 
@@ -222,4 +222,24 @@ pub(crate) fn actions_fit(record: &Measured) -> bool
         }
     }
     true
+}
+
+// An action has a cost where it is used, and nowhere else.
+fn cost_fault(used: u8, m: u8, cost: u8) -> u8
+    ensures { result ≡ 0 → nat_lt 0 cost ≡ nat_lt m used }
+{
+    u8::from((0 < cost) != (m < used))
+}
+
+// The costs. It does not stop at a fault, so that it becomes a few vector compares.
+pub(crate) fn costs_fit(record: &LongRecord) -> bool
+    ensures { result ≡ true → first_from (cell_ok record.now.cells.now) (at_cost 0) (record_size - at_cost 0) ≡ record_size }
+{
+    let rec = record.cells;
+    let used = action_count(rec);
+    let mut bad = 0u8;
+    for m in 0..64u8 {
+        bad |= cost_fault(used, m, rec[AT_COSTS + usize::from(m)]);
+    }
+    bad == 0
 }

@@ -1,9 +1,9 @@
 // The record's layout in code: the offsets of specs/Layout.antt, for this crate, for the reader, which writes a record, and for the patterns and
 // the plan check, which read sizes, goal and actions where they stand. Assumes nothing.
 ghost use Rattle.std.specs.Prelude.{◌≡◌};
-ghost use Rattle.task_record.specs.Layout.{at_pattern, at_action, at_precondition, at_outcome};
+ghost use Rattle.task_record.specs.Layout.{at_pattern, at_action, at_precondition, at_outcome, at_cost};
 
-pub const RECORD_SIZE: usize = 9464;
+pub const RECORD_SIZE: usize = 9528;
 
 pub const AT_VARIABLES: usize = 0;
 
@@ -25,6 +25,8 @@ pub const AT_PATTERNS: usize = 56;
 
 pub const AT_ACTIONS: usize = 184;
 
+pub const AT_COSTS: usize = 9464;
+
 pub const ACTION_SIZE: usize = 145;
 
 // Where an action's precondition and its outcomes begin, from the action's first cell on, which holds the number of outcomes.
@@ -38,7 +40,7 @@ pub const ROW_SIZE: usize = 16;
 // A value that is not named.
 pub const UNNAMED: u8 = 255;
 
-// Where the rows of a pattern and of an action begin, by their numbers.
+// Where the rows of a pattern and of an action begin, by their numbers, and where an action's cost stands.
 pub fn at_pattern(p: u8) -> usize
     ensures { result ≡ at_pattern p }
 {
@@ -61,4 +63,10 @@ pub fn at_outcome(m: u8, k: u8) -> usize
     ensures { result ≡ at_outcome m k }
 {
     at_action(m) + IN_OUTCOMES + ROW_SIZE * usize::from(k)
+}
+
+pub fn at_cost(m: u8) -> usize
+    ensures { result ≡ at_cost m }
+{
+    AT_COSTS + usize::from(m)
 }

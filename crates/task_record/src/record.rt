@@ -7,7 +7,7 @@ ghost use Rattle.task_record.specs.State.{judge_state, state_check};
 ghost use Rattle.task_record.specs.Answers.{record_numbers, state_numbers, record_by_lines, state_by_lines};
 
 use crate::cells::copied;
-use crate::columns::{actions_fit, front_fits, head_fits, patterns_fit, state_fits};
+use crate::columns::{actions_fit, costs_fit, front_fits, head_fits, patterns_fit, state_fits};
 use crate::layout::{AT_GOAL, AT_SIZES, RECORD_SIZE, ROW_SIZE};
 use crate::measured::{LongRecord, Measured};
 use crate::refusal::Refusal;
@@ -36,7 +36,10 @@ fn is_sound(record: &LongRecord) -> bool
     if !patterns_fit(&measured) {
         return false;
     }
-    actions_fit(&measured)
+    if !actions_fit(&measured) {
+        return false;
+    }
+    costs_fit(record)
 }
 
 // The answer of every call that is lent a record, tested before all else.

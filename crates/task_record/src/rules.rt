@@ -3,17 +3,15 @@
 ghost use Rattle.std.specs.Prelude.{◌≡◌, ◌<◌, nat_lt};
 ghost use Rattle.task_record.specs.Layout.{record_size};
 ghost use Rattle.task_record.specs.Numbers.{variable_count};
-ghost use Rattle.task_record.specs.Record.{head_ok, size_ok, assignment_ok, state_ok, pattern_ok, count_ok, action_ok, cell_ok};
+ghost use Rattle.task_record.specs.Record.{head_ok, size_ok, assignment_ok, state_ok, pattern_ok, count_ok, action_ok, cost_ok, cell_ok};
 
-use crate::cells::{
-    action_count, budget, cell, limit, outcome_count, pattern_count, variable_count,
-};
+use crate::cells::{action_count, budget, cell, outcome_count, pattern_count, variable_count};
 use crate::layout::{
-    ACTION_SIZE, AT_ACTION_COUNT, AT_ACTIONS, AT_BUDGET, AT_GOAL, AT_LIMIT, AT_PATTERN_COUNT,
+    ACTION_SIZE, AT_ACTION_COUNT, AT_ACTIONS, AT_BUDGET, AT_COSTS, AT_GOAL, AT_PATTERN_COUNT,
     AT_PATTERNS, AT_SIZES, AT_START, AT_VARIABLES, IN_OUTCOMES, IN_PRECONDITION, ROW_SIZE, UNNAMED,
 };
 
-// A fault of the budget stands at its first cell.
+// A fault of the budget stands at its first cell. Every byte is a limit.
 #[tactic(auto, unfolding(crate::specs::Record::head_ok))]
 pub(crate) fn is_head_right(rec: &[u8], k: usize) -> bool
     ensures { result ≡ head_ok rec.now k }
@@ -22,7 +20,6 @@ pub(crate) fn is_head_right(rec: &[u8], k: usize) -> bool
         AT_VARIABLES => (1..=16).contains(&variable_count(rec)),
         AT_ACTION_COUNT => action_count(rec) <= 64,
         AT_PATTERN_COUNT => pattern_count(rec) <= 8,
-        AT_LIMIT => limit(rec) <= 32,
         AT_BUDGET => budget(rec) <= 1000000,
         _ => true,
     }
@@ -100,6 +97,18 @@ fn is_action_right(rec: &[u8], m: u8, c: usize, x: u8) -> bool
     }
 }
 
+// The cost of an action that is not used is 0.
+#[tactic(auto, unfolding(crate::specs::Record::cost_ok))]
+fn is_cost_right(rec: &[u8], m: u8, x: u8) -> bool
+    ensures { result ≡ cost_ok rec.now m x }
+{
+    if m < action_count(rec) {
+        1 <= x
+    } else {
+        x == 0
+    }
+}
+
 // Stays: the bound of the offset as a clause: an action's number fits a byte by it, and a type for it would be made of the offset at every call;
 // `as`: a `usize` has no `From` into a byte, and `try_from` has a case that never happens.
 #[tactic(auto, unfolding(crate::specs::Record::cell_ok))]
@@ -117,9 +126,10 @@ pub(crate) fn is_cell_right(rec: &[u8], k: usize) -> bool
             let i = k - AT_PATTERNS;
             is_pattern_right(rec, i / ROW_SIZE, i % ROW_SIZE, x)
         }
-        _ => {
+        ..AT_COSTS => {
             let i = k - AT_ACTIONS;
             is_action_right(rec, (i / ACTION_SIZE) as u8, i % ACTION_SIZE, x)
         }
+        _ => is_cost_right(rec, (k - AT_COSTS) as u8, x),
     }
 }

@@ -13,7 +13,7 @@ const OUT_SIZE: usize = 262400;
 fn main(rt: HostRuntime) -> io::Result<()> {
     let mut input = [0u8; 65536];
     let mut plan = [0u8; 65536];
-    let mut tables = [0u16; 16384];
+    let mut tables = [0u32; 16384];
     let mut out = [0u8; OUT_SIZE];
     let n = read_full(&mut rt.stdin(), &mut input)?;
     let end = report_text(&input[..n], &mut tables, &mut plan, &mut out);

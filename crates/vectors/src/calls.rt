@@ -1,16 +1,20 @@
 // One vector: the call that its first letter tells, on the record as it then is.
+ghost use Rattle.std.specs.Prelude.{◌≤◌};
+
 use crate::lists::{as_bytes, break_lines, number_at, numbers_of};
-use crate::shown::{show_answer, show_counts, show_first};
+use crate::shown::{show_answer, show_costs, show_counts, show_first};
 use planner::estimates::{planner_additive, planner_build_tables, planner_spread, planner_value};
 use planner::plans::{planner_check_plan, planner_search};
+use planner::records::planner_upgrade_record;
 use planner::tasks::{planner_check_record, planner_check_state, planner_read_text};
 use std::io;
-use task_record::layout::{AT_PATTERNS, AT_START, RECORD_SIZE};
+use task_record::layout::{AT_COSTS, AT_PATTERNS, AT_START, RECORD_SIZE};
 
 // A record and eight bytes more.
 const RECORD_ROOM: usize = RECORD_SIZE + 8;
 
-const ROW_ROOM: usize = 4104;
+// A row and eight counts more.
+const ROW_ROOM: usize = 1044235;
 
 // The record that was read last, and how many bytes of it are lent.
 // Stays: an array beside a number, since a vector of the library forgets what a shorter `lend` hides, and the next `lend` shows it again.
@@ -35,7 +39,7 @@ impl Record {
 #[derive(Drop)]
 pub(crate) struct Lent {
     rec: Record,
-    tables: [u16; 16384],
+    tables: [u32; 16384],
 }
 
 impl Lent {
@@ -81,10 +85,14 @@ impl Lent {
         show_first(out, "tables", tables)
     }
 
-    // Into a row that holds 7 where nothing is counted.
-    // Stays: `as`, since an index has no `From` into a word; and an array for the row, since there is no heap.
-    fn spread(&mut self, out: &impl Print, numbers: &[usize]) -> io::Result<()> {
-        let mut counts = [7u32; ROW_ROOM];
+    // Into a row of these counts.
+    // Stays: `as`, since an index has no `From` into a word.
+    fn spread_into(
+        &mut self,
+        out: &impl Print,
+        numbers: &[usize],
+        counts: &mut [u32],
+    ) -> io::Result<()> {
         let rec = self.rec.as_slice();
         let pattern = number_at(numbers, 0) as u64;
         let entries = number_at(numbers, 1).min(self.tables.len());
@@ -95,6 +103,28 @@ impl Lent {
         show_answer(out, planner_spread(rec, pattern, tables, row))?;
         show_first(out, "tables", tables)?;
         show_counts(out, row)
+    }
+
+    // Into a row that holds 7 where nothing is counted.
+    // Stays: an array for the row, since there is no heap; and its length as a parameter: a proof that sees the number goes through a million counts.
+    fn spread<const N: usize>(&mut self, out: &impl Print, numbers: &[usize]) -> io::Result<()>
+        requires { N ≤ 2000000 }
+    {
+        let mut counts = [7u32; N];
+        self.spread_into(out, numbers, &mut counts)
+    }
+
+    // The record as one of the first form, into a target of bytes 7: the answer, and the target from its costs on.
+    fn upgrade(&mut self, out: &impl Print, numbers: &[usize]) -> io::Result<()> {
+        let mut target = [7u8; RECORD_ROOM];
+        let rec = self.rec.as_slice();
+        let old = number_at(numbers, 0).min(rec.len());
+        let length = number_at(numbers, 1).min(RECORD_ROOM);
+        show_answer(
+            out,
+            planner_upgrade_record(&rec[..old], &mut target[..length]),
+        )?;
+        show_costs(out, &target[AT_COSTS..])
     }
 
     fn value(&mut self, out: &impl Print, numbers: &[usize], room: &mut [u8]) -> io::Result<()> {
@@ -145,7 +175,8 @@ impl Lent {
             b's' => self.state(out, numbers, room),
             b'b' => self.build(out, numbers),
             b'f' => self.search(out, numbers, room),
-            b'h' => self.spread(out, numbers),
+            b'h' => self.spread::<ROW_ROOM>(out, numbers),
+            b'u' => self.upgrade(out, numbers),
             b'v' => self.value(out, numbers, room),
             b'p' => self.check_plan(out, numbers, room),
             _ => Ok(()),

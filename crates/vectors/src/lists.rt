@@ -12,7 +12,7 @@ pub(crate) fn break_lines(text: &mut [u8]) {
 
 // The number that a byte makes of the digits before it: what is no digit, or too much, is passed over.
 fn with_digit(x: usize, b: u8) -> usize {
-    if x < 100000 && b.is_ascii_digit() {
+    if x < 1000000 && b.is_ascii_digit() {
         return x * 10 + usize::from(b - b'0');
     }
     x
@@ -23,7 +23,7 @@ fn number_of(piece: &[u8]) -> usize {
 }
 
 // The numbers of a list.
-pub(crate) type Numbers = ArrayVec<usize, 64>;
+pub(crate) type Numbers = ArrayVec<usize, 320>;
 
 // They are parted by commas; those that find no room are passed over.
 pub(crate) fn numbers_of(list: &[u8]) -> Numbers {

@@ -11,6 +11,7 @@
 //   value NAME: N,BYTES        the value of a state, from the first N table entries
 //   find NAME: N,L             the search, with N entries and L bytes of plan lent; writes the buffer's first bytes too
 //   plan NAME: BYTES           the check of a plan, from the record's start
+//   upgrade NAME: N,L          the record, N bytes of it, as one of the first form, lengthened into L bytes; writes the target from its costs on
 #![tactic(auto)]
 
 mod calls;

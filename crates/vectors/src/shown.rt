@@ -7,7 +7,7 @@ use std::io;
 const SHOWN: usize = 10;
 
 // The place of the last count of a row, and how many are written from there on.
-const LAST: usize = 4096;
+const LAST: usize = 1044226;
 
 const LAST_SHOWN: usize = 4;
 
@@ -41,4 +41,10 @@ pub(crate) fn show_first<T: Display>(out: &impl Print, name: &str, list: &[T]) -
 pub(crate) fn show_counts(out: &impl Print, row: &[u32]) -> io::Result<()> {
     show_first(out, "row", row)?;
     show_some(out, "last", row, LAST, LAST_SHOWN)
+}
+
+// The first costs of a record, and what stands behind the last.
+pub(crate) fn show_costs(out: &impl Print, costs: &[u8]) -> io::Result<()> {
+    show_first(out, "costs", costs)?;
+    show_some(out, "behind", costs, 64, LAST_SHOWN)
 }

@@ -1,32 +1,44 @@
-//! The cost of every state of a task, abstract or not, by two methods that
-//! share nothing but the graph of the states.
+//! The cost of every state of a task, abstract or not, by three methods that
+//! share nothing but the graph of the states. Sweeps make the tables; the others
+//! are there to hold them against.
 
 use super::task::{Action, State, Task, after};
 
-/// Infinite cost; adding 1 saturates, so it stays infinite.
+/// Infinite cost; adding a cost saturates, so it stays infinite.
 pub const INFINITE: u32 = u32::MAX;
 
-/// Above this many states rounds over all of them take too long, and the
-/// tables come from growing sets instead.
-const MOST_ITERATED: usize = 300;
+/// An action where it applies: its cost and the places its outcomes lead to.
+pub struct Choice {
+    pub cost: u32,
+    pub leads_to: Vec<usize>,
+}
 
-/// The states by their places: which are goals, and for each state and each
-/// applying action the places its outcomes lead to.
+impl Choice {
+    /// The cost of the action plus the largest among its outcomes.
+    fn worst(&self, costs: &[u32]) -> u32 {
+        let largest = self.leads_to.iter().map(|&next| costs[next]).max();
+        largest.expect("an action has an outcome").saturating_add(self.cost)
+    }
+}
+
+/// The states by their places: which are goals, and for each state its applying
+/// actions.
 pub struct Graph {
     pub goals: Vec<bool>,
-    pub choices: Vec<Vec<Vec<usize>>>,
+    pub choices: Vec<Vec<Choice>>,
 }
 
 impl Graph {
     pub fn of(task: &Task) -> Self {
         let states = task.all_states();
-        let leads_to = |state: &State, action: &Action| -> Vec<usize> {
+        let choice = |state: &State, action: &Action| {
             let outcomes = action.outcomes.iter();
-            outcomes.map(|outcome| task.index(&after(state, outcome))).collect()
+            let leads_to = outcomes.map(|outcome| task.index(&after(state, outcome))).collect();
+            Choice { cost: action.cost.into(), leads_to }
         };
-        let choices = |state: &State| -> Vec<Vec<usize>> {
+        let choices = |state: &State| -> Vec<Choice> {
             let applying = task.actions.iter().filter(|action| task.applies(action, state));
-            applying.map(|action| leads_to(state, action)).collect()
+            applying.map(|action| choice(state, action)).collect()
         };
         Self {
             goals: states.iter().map(|state| task.is_goal(state)).collect(),
@@ -35,67 +47,81 @@ impl Graph {
     }
 
     /// The right side of the cost equation for one state: 0 at a goal,
-    /// infinite where nothing applies, else the least over the actions of 1
-    /// plus the largest among the outcomes.
+    /// infinite where nothing applies, else the least over the actions of their
+    /// cost plus the largest among the outcomes.
     fn backed_up(&self, state: usize, costs: &[u32]) -> u32 {
-        let worst = |leads_to: &Vec<usize>| {
-            let largest = leads_to.iter().map(|&next| costs[next]).max();
-            largest.expect("an action has an outcome").saturating_add(1)
-        };
         if self.goals[state] {
             0
         } else {
-            self.choices[state].iter().map(worst).min().unwrap_or(INFINITE)
+            let worst = self.choices[state].iter().map(|choice| choice.worst(costs));
+            worst.min().unwrap_or(INFINITE)
         }
     }
 }
 
-/// The limit of the definition, round by round from 0. Finite costs are below
-/// the number of states, since along a cheapest plan they fall one by one; so
-/// what has passed that number after one round more is infinite.
-pub fn by_value_iteration(graph: &Graph) -> Vec<u32> {
+/// Sweeps over all states from infinity: each state is given what the costs
+/// known so far say, up and down in turn, until a sweep changes nothing. The
+/// costs then solve the equation, and since every action costs something it has
+/// one solution: a finite cost falls along the path that it is the cost of.
+pub fn by_sweeps(graph: &Graph) -> Vec<u32> {
     let states = graph.goals.len();
+    let mut costs = vec![INFINITE; states];
+    let mut upwards = false;
+    loop {
+        let mut changed = false;
+        for place in 0..states {
+            let state = if upwards { place } else { states - 1 - place };
+            let next = graph.backed_up(state, &costs);
+            changed |= next != costs[state];
+            costs[state] = next;
+        }
+        if !changed {
+            return costs;
+        }
+        upwards = !upwards;
+    }
+}
+
+/// The limit of the definition, round by round from 0. A finite cost is that of
+/// a path on which no state is met twice, so what has passed the cost of as many
+/// of the dearest actions as there are other states is infinite. With costs it
+/// takes as many rounds as that: of use where there are few states.
+pub fn by_rounds_from_zero(graph: &Graph) -> Vec<u32> {
+    let states = graph.goals.len();
+    let dearest = graph.choices.iter().flatten().map(|choice| choice.cost).max().unwrap_or(0);
+    let most = dearest * (states as u32 - 1);
+    let settle = |cost: u32| if cost > most { INFINITE } else { cost };
     let mut costs = vec![0; states];
-    for _round in 0..=states {
-        let next: Vec<u32> = (0..states).map(|s| graph.backed_up(s, &costs)).collect();
+    loop {
+        let next: Vec<u32> = (0..states).map(|s| settle(graph.backed_up(s, &costs))).collect();
         if next == costs {
-            break;
+            return costs;
         }
         costs = next;
     }
-    let settle = |cost: u32| {
-        if cost as usize >= states { INFINITE } else { cost }
-    };
-    costs.into_iter().map(settle).collect()
 }
 
-/// The states that can be left for good within 0, 1, 2, ... actions, set by
-/// set, until a set equals the one before.
+/// The states that can be left for good at a cost of 0, then at the least cost
+/// that one outside has with all outcomes inside, and so on, set by set, until
+/// no state outside has one.
 pub fn by_growing_sets(graph: &Graph) -> Vec<u32> {
     let states = graph.goals.len();
     let goal = |&goal: &bool| if goal { 0 } else { INFINITE };
     let mut costs: Vec<u32> = graph.goals.iter().map(goal).collect();
-    for level in 1.. {
-        let inside = |next: &usize| costs[*next] != INFINITE;
-        let all_inside = |leads_to: &Vec<usize>| leads_to.iter().all(inside);
-        let joins = |&s: &usize| costs[s] == INFINITE && graph.choices[s].iter().any(all_inside);
-        let joining: Vec<usize> = (0..states).filter(joins).collect();
-        if joining.is_empty() {
-            break;
+    loop {
+        let outside = (0..states).filter(|&s| costs[s] == INFINITE);
+        let told: Vec<(usize, u32)> = outside.map(|s| (s, graph.backed_up(s, &costs))).collect();
+        let least = told.iter().map(|&(_, cost)| cost).min().unwrap_or(INFINITE);
+        if least == INFINITE {
+            return costs;
         }
-        for state in joining {
-            costs[state] = level;
+        for (state, _) in told.into_iter().filter(|&(_, cost)| cost == least) {
+            costs[state] = least;
         }
     }
-    costs
 }
 
 /// The cost of every state of the task, in the order of the states' places.
 pub fn costs(task: &Task) -> Vec<u32> {
-    let graph = Graph::of(task);
-    if graph.goals.len() <= MOST_ITERATED {
-        by_value_iteration(&graph)
-    } else {
-        by_growing_sets(&graph)
-    }
+    by_sweeps(&Graph::of(task))
 }

@@ -6,8 +6,8 @@ use crate::answer::{Reason, Refusal};
 
 /// The byte for arrived.
 pub const ARRIVED: u8 = 254;
-/// No path of a passed plan has more moves than this.
-pub const MOST_DEPTH: usize = 32;
+/// No path of a passed plan has more moves than this, whatever they cost.
+pub const MOST_MOVES: usize = 255;
 
 /// A plan: arrived, or an action with a plan for each of its outcomes.
 #[derive(Clone, Debug, PartialEq, Eq)]
@@ -17,11 +17,14 @@ pub enum Plan {
 }
 
 impl Plan {
-    /// The largest number of moves from root to an arrival.
-    pub fn cost(&self) -> u32 {
+    /// What the dearest path from root to an arrival costs.
+    pub fn cost(&self, task: &Task) -> u32 {
         match self {
             Plan::Arrived => 0,
-            Plan::Act(_, plans) => 1 + plans.iter().map(Plan::cost).max().unwrap_or(0),
+            Plan::Act(action, plans) => {
+                let dearest = plans.iter().map(|plan| plan.cost(task)).max().unwrap_or(0);
+                u32::from(task.actions[usize::from(*action)].cost) + dearest
+            }
         }
     }
 
@@ -42,7 +45,9 @@ struct Node {
     byte: u8,
     /// The parent's offset and the outcome of it that leads here.
     parent: Option<(usize, usize)>,
-    depth: usize,
+    /// The moves on the path before it, and what they cost together.
+    moves: usize,
+    paid: usize,
 }
 
 /// The tree, as far as the bytes spell one, and why it ends there.
@@ -75,8 +80,15 @@ impl Tree {
                     break;
                 }
             }
-            let depth = parent.map_or(0, |(above, _): (usize, usize)| nodes[above].depth + 1);
-            nodes.push(Node { byte, parent, depth });
+            let (moves, paid) = match parent {
+                None => (0, 0),
+                Some((above, _)) => {
+                    let node: &Node = &nodes[above];
+                    let cost = task.actions[usize::from(node.byte)].cost;
+                    (node.moves + 1, node.paid + usize::from(cost))
+                }
+            };
+            nodes.push(Node { byte, parent, moves, paid });
         }
         if fault.is_none() && nodes.len() < plan.len() {
             fault = Some(Refusal::new(Reason::BytesAfter, nodes.len()));
@@ -110,8 +122,7 @@ fn judge(task: &Task, node: &Node, state: &State) -> Option<Reason> {
     if node.byte == ARRIVED {
         return (!task.is_goal(state)).then_some(Reason::NotArrived);
     }
-    // The node's depth is the number of moves on the path before it.
-    if node.depth >= MOST_DEPTH {
+    if node.moves >= MOST_MOVES {
         return Some(Reason::TooDeep);
     }
     let action = &task.actions[usize::from(node.byte)];
@@ -134,7 +145,7 @@ pub fn check(task: &Task, from: State, plan: &[u8]) -> Result<Passed, Refusal> {
     match tree.fault {
         Some(fault) => Err(fault),
         None => Ok(Passed {
-            cost: tree.nodes.iter().map(|node| node.depth).max().unwrap_or(0),
+            cost: tree.nodes.iter().map(|node| node.paid).max().unwrap_or(0),
             length: plan.len(),
         }),
     }

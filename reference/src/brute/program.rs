@@ -25,9 +25,9 @@ fn lines(text: &[u8]) -> Result<Vec<String>, Refusal> {
     }];
     let count = format!("count={}", report.count);
     told.extend(match report.ending {
-        Ending::Found(plan) => {
+        Ending::Found { plan, cost } => {
             let bytes: Vec<String> = plan.bytes().iter().map(u8::to_string).collect();
-            let cost = format!("cost={}", plan.cost());
+            let cost = format!("cost={cost}");
             let plan = format!("plan={}", bytes.join(","));
             vec!["answer=found".to_owned(), cost, count, plan]
         }

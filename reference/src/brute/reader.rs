@@ -3,8 +3,7 @@
 use std::ops::RangeInclusive;
 
 use super::record::{
-    self, LENGTH, MOST_ACTIONS, MOST_BUDGET, MOST_LIMIT, MOST_OUTCOMES, MOST_PATTERNS,
-    MOST_VARIABLES,
+    self, LENGTH, MOST_ACTIONS, MOST_BUDGET, MOST_OUTCOMES, MOST_PATTERNS, MOST_VARIABLES,
 };
 use super::task::{Action, Assignment, Task};
 use crate::answer::{Reason, Refusal};
@@ -123,11 +122,21 @@ impl<'a> Lines<'a> {
         Ok((0..variables).map(|v| numbers.contains(&(v as u32))).collect())
     }
 
+    /// The cost of a move. The line may be left out, and the move then costs 1:
+    /// whatever does not begin with the key is for the next due line to judge.
+    fn cost(&mut self) -> Result<u8, Refusal> {
+        match self.lines.get(self.taken) {
+            Some(line) if line.starts_with(b"cost=") => self.small("cost", 1, u8::MAX),
+            _ => Ok(1),
+        }
+    }
+
     fn action(&mut self, sizes: &[u8]) -> Result<Action, Refusal> {
         let precondition = self.assignment("need", sizes)?;
+        let cost = self.cost()?;
         let outcomes = self.small("outcomes", 1, MOST_OUTCOMES)?;
         let outcomes = (0..outcomes).map(|_| self.assignment("eff", sizes));
-        Ok(Action { outcomes: outcomes.collect::<Result<_, _>>()?, precondition })
+        Ok(Action { outcomes: outcomes.collect::<Result<_, _>>()?, precondition, cost })
     }
 
     fn task(&mut self) -> Result<Task, Refusal> {
@@ -142,7 +151,7 @@ impl<'a> Lines<'a> {
         let patterns = self.small("patterns", 0, MOST_PATTERNS)?;
         let patterns = (0..patterns).map(|_| self.pattern(sizes.len()));
         let patterns = patterns.collect::<Result<_, _>>()?;
-        let limit = self.small("limit", 0, MOST_LIMIT)?;
+        let limit = self.small("limit", 0, u8::MAX)?;
         let budget = self.number("budget", 0..=MOST_BUDGET)?;
         Ok(Task { sizes, actions, goal, start, patterns, limit, budget })
     }

@@ -1,17 +1,19 @@
 //! The record: every cell, its rule, and the way to a task and back.
 
+use std::sync::OnceLock;
+
 use super::task::{Action, Assignment, Task};
 use crate::answer::{Reason, Refusal};
 
-pub const LENGTH: usize = 9_464;
+pub const LENGTH: usize = 9_528;
 pub const UNNAMED: u8 = 255;
 /// Cells of every row with one cell per variable.
 pub const ROW: usize = 16;
 
 const VARIABLES: usize = 0;
-const ACTIONS: usize = 1;
+pub(super) const ACTIONS: usize = 1;
 const PATTERNS: usize = 2;
-const LIMIT: usize = 3;
+pub(super) const LIMIT: usize = 3;
 const BUDGET: usize = 4;
 const SIZES: usize = 8;
 const GOAL: usize = 24;
@@ -19,12 +21,13 @@ const START: usize = 40;
 const MEMBERS: usize = 56;
 const MOVES: usize = 184;
 const MOVE: usize = 145;
+/// A cost for each of 64 moves.
+pub const COSTS: usize = 9_464;
 
 pub const MOST_VARIABLES: u8 = 16;
 pub const MOST_ACTIONS: u8 = 64;
 pub const MOST_PATTERNS: u8 = 8;
 pub const MOST_OUTCOMES: u8 = 8;
-pub const MOST_LIMIT: u8 = 32;
 pub const MOST_BUDGET: u32 = 1_000_000;
 
 /// What a cell holds.
@@ -36,18 +39,19 @@ enum Cell {
     Limit,
     Budget,
     BudgetRest,
-    Size { variable: usize },
-    Goal { variable: usize },
-    Start { variable: usize },
-    Member { pattern: usize, variable: usize },
-    Outcomes { action: usize },
-    Precondition { action: usize, variable: usize },
-    Outcome { action: usize, outcome: usize, variable: usize },
+    Size { variable: u8 },
+    Goal { variable: u8 },
+    Start { variable: u8 },
+    Member { pattern: u8, variable: u8 },
+    Outcomes { action: u8 },
+    Precondition { action: u8, variable: u8 },
+    Outcome { action: u8, outcome: u8, variable: u8 },
+    Cost { action: u8 },
 }
 
 impl Cell {
     fn at(offset: usize) -> Cell {
-        let variable = |base: usize| (offset - base) % ROW;
+        let variable = |base: usize| ((offset - base) % ROW) as u8;
         match offset {
             VARIABLES => Cell::Variables,
             ACTIONS => Cell::Actions,
@@ -59,24 +63,32 @@ impl Cell {
             GOAL..START => Cell::Goal { variable: variable(GOAL) },
             START..MEMBERS => Cell::Start { variable: variable(START) },
             MEMBERS..MOVES => {
-                Cell::Member { pattern: (offset - MEMBERS) / ROW, variable: variable(MEMBERS) }
+                let pattern = ((offset - MEMBERS) / ROW) as u8;
+                Cell::Member { pattern, variable: variable(MEMBERS) }
             }
-            _ => Cell::of_move(offset - MOVES),
+            MOVES..COSTS => Cell::of_move(offset - MOVES),
+            _ => Cell::Cost { action: (offset - COSTS) as u8 },
         }
     }
 
     fn of_move(offset: usize) -> Cell {
-        let action = offset / MOVE;
-        match offset % MOVE {
-            0 => Cell::Outcomes { action },
-            within if within <= ROW => Cell::Precondition { action, variable: within - 1 },
-            within => Cell::Outcome {
-                action,
-                outcome: (within - 1 - ROW) / ROW,
-                variable: (within - 1 - ROW) % ROW,
-            },
+        let action = (offset / MOVE) as u8;
+        let Some(within) = (offset % MOVE).checked_sub(1) else {
+            return Cell::Outcomes { action };
+        };
+        // The need's row, then those of the outcomes.
+        let variable = (within % ROW) as u8;
+        match ((within / ROW) as u8).checked_sub(1) {
+            None => Cell::Precondition { action, variable },
+            Some(outcome) => Cell::Outcome { action, outcome, variable },
         }
     }
+}
+
+/// What each cell of a record holds, told once and for all.
+fn cells() -> &'static [Cell] {
+    static CELLS: OnceLock<Vec<Cell>> = OnceLock::new();
+    CELLS.get_or_init(|| (0..LENGTH).map(Cell::at).collect())
 }
 
 fn budget(record: &[u8]) -> u32 {
@@ -88,17 +100,18 @@ fn outcomes(record: &[u8], action: usize) -> usize {
 }
 
 /// Whether a cell is within its rule, provided all cells before it are.
-fn within_rule(record: &[u8], offset: usize) -> bool {
+pub(super) fn within_rule(record: &[u8], offset: usize) -> bool {
     let held = record[offset];
-    let used_variable = |v: usize| v < usize::from(record[VARIABLES]);
-    let used_action = |a: usize| a < usize::from(record[ACTIONS]);
-    let is_value = |v: usize| held < record[SIZES + v];
-    let names = |v: usize, used: bool| held == UNNAMED || used && used_variable(v) && is_value(v);
-    match Cell::at(offset) {
+    let used_variable = |v: u8| v < record[VARIABLES];
+    let used_action = |a: u8| a < record[ACTIONS];
+    let is_value = |v: u8| held < record[SIZES + usize::from(v)];
+    let names = |v: u8, used: bool| held == UNNAMED || used && used_variable(v) && is_value(v);
+    match cells()[offset] {
         Cell::Variables => (1..=MOST_VARIABLES).contains(&held),
         Cell::Actions => held <= MOST_ACTIONS,
         Cell::Patterns => held <= MOST_PATTERNS,
-        Cell::Limit => held <= MOST_LIMIT,
+        // A cost from 0 to 255, which is every byte.
+        Cell::Limit => true,
         Cell::Budget => budget(record) <= MOST_BUDGET,
         // The four bytes are one cell, judged at its first byte.
         Cell::BudgetRest => true,
@@ -108,7 +121,7 @@ fn within_rule(record: &[u8], offset: usize) -> bool {
         Cell::Start { variable } if used_variable(variable) => is_value(variable),
         Cell::Start { .. } => held == UNNAMED,
         Cell::Member { pattern, variable } => {
-            let used = pattern < usize::from(record[PATTERNS]) && used_variable(variable);
+            let used = pattern < record[PATTERNS] && used_variable(variable);
             held <= u8::from(used)
         }
         Cell::Outcomes { action } if used_action(action) => (1..=MOST_OUTCOMES).contains(&held),
@@ -116,8 +129,10 @@ fn within_rule(record: &[u8], offset: usize) -> bool {
         Cell::Precondition { action, variable } => names(variable, used_action(action)),
         Cell::Outcome { action, outcome, variable } => {
             // The number of outcomes stands before them; unused moves have 0.
-            names(variable, outcome < outcomes(record, action))
+            names(variable, usize::from(outcome) < outcomes(record, action.into()))
         }
+        Cell::Cost { action } if used_action(action) => held != 0,
+        Cell::Cost { .. } => held == 0,
     }
 }
 
@@ -132,6 +147,7 @@ fn decode_action(record: &[u8], action: usize, variables: usize) -> Action {
     Action {
         precondition: row(record, base, variables),
         outcomes: (0..outcomes(record, action)).map(outcome).collect(),
+        cost: record[COSTS + action],
     }
 }
 
@@ -161,8 +177,8 @@ pub fn decode(record: &[u8]) -> Result<Task, Refusal> {
 }
 
 fn unused(offset: usize) -> u8 {
-    match Cell::at(offset) {
-        Cell::Size { .. } | Cell::Member { .. } | Cell::Outcomes { .. } => 0,
+    match cells()[offset] {
+        Cell::Size { .. } | Cell::Member { .. } | Cell::Outcomes { .. } | Cell::Cost { .. } => 0,
         _ => UNNAMED,
     }
 }
@@ -195,6 +211,7 @@ pub fn encode(task: &Task) -> Vec<u8> {
         for (o, outcome) in action.outcomes.iter().enumerate() {
             put(base + 1 + ROW * (1 + o), &named(outcome));
         }
+        put(COSTS + a, &[action.cost]);
     }
     record
 }

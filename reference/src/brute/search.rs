@@ -1,4 +1,5 @@
-//! The search as worded: rounds of growing depth, every examination counted.
+//! The search as worded: rounds of growing depth, from which each move takes its
+//! cost, and every examination counted.
 
 use super::task::{Action, State, Task, after};
 use super::{plan::Plan, record, tables, value};
@@ -6,7 +7,7 @@ use crate::answer::{Reason, Refusal};
 
 #[derive(Clone, Debug, PartialEq, Eq)]
 pub enum Ending {
-    Found(Plan),
+    Found { plan: Plan, cost: u32 },
     Over,
     Spent { round: u32 },
     None,
@@ -26,12 +27,12 @@ struct Spent;
 /// the index, and its table.
 struct Part<'a> {
     weights: Vec<(usize, usize)>,
-    table: &'a [u16],
+    table: &'a [u32],
 }
 
 impl Part<'_> {
     /// The entry of the state's projection; `None` is infinite.
-    fn entry(&self, state: &[u8]) -> Option<u32> {
+    fn entry(&self, state: &[u8]) -> Option<u64> {
         let index: usize = self.weights.iter().map(|&(v, w)| w * usize::from(state[v])).sum();
         let entry = self.table[index];
         (entry != tables::INFINITE_ENTRY).then_some(entry.into())
@@ -46,7 +47,7 @@ struct Estimates<'a> {
 }
 
 impl<'a> Estimates<'a> {
-    fn of(task: &'a Task, tables: &'a [u16]) -> Self {
+    fn of(task: &'a Task, tables: &'a [u32]) -> Self {
         let mut rest = tables;
         let mut parts = Vec::new();
         for pattern in &task.patterns {
@@ -64,7 +65,7 @@ impl<'a> Estimates<'a> {
     }
 
     /// The summed estimate; `None` is infinite.
-    fn value(&self, state: &[u8]) -> Option<u32> {
+    fn value(&self, state: &[u8]) -> Option<u64> {
         self.parts.iter().map(|part| part.entry(state)).sum()
     }
 }
@@ -85,14 +86,16 @@ impl Searcher<'_> {
         if task.is_goal(state) {
             return Ok(Some(Plan::Arrived));
         }
-        if self.estimates.value(state).is_none_or(|value| value > depth) || depth == 0 {
+        if self.estimates.value(state).is_none_or(|value| value > depth.into()) || depth == 0 {
             return Ok(None);
         }
         for (number, action) in task.actions.iter().enumerate() {
-            if !task.applies(action, state) {
+            let cost = u32::from(action.cost);
+            // A move dearer than the depth left is not tried.
+            if !task.applies(action, state) || cost > depth {
                 continue;
             }
-            if let Some(plans) = self.examine_outcomes(state, action, depth - 1)? {
+            if let Some(plans) = self.examine_outcomes(state, action, depth - cost)? {
                 return Ok(Some(Plan::Act(number as u8, plans)));
             }
         }
@@ -122,9 +125,10 @@ impl Searcher<'_> {
             return Ending::None;
         };
         // Without a round, where the value is above the limit, it is over.
-        for round in least..=task.limit.into() {
+        let first = u32::try_from(least).unwrap_or(u32::MAX);
+        for round in first..=task.limit.into() {
             match self.examine(&task.start, round) {
-                Ok(Some(plan)) => return Ending::Found(plan),
+                Ok(Some(plan)) => return Ending::Found { cost: plan.cost(task), plan },
                 Ok(None) => {}
                 Err(Spent) => return Ending::Spent { round },
             }
@@ -134,7 +138,7 @@ impl Searcher<'_> {
 }
 
 /// The search from the task's start with the tables of the task.
-pub fn run(task: &Task, tables: &[u16]) -> Report {
+pub fn run(task: &Task, tables: &[u32]) -> Report {
     let estimates = Estimates::of(task, tables);
     debug_assert_eq!(estimates.value(&task.start), value::sum(task, &task.start, tables));
     let mut searcher = Searcher { estimates, count: 0 };
@@ -144,14 +148,14 @@ pub fn run(task: &Task, tables: &[u16]) -> Report {
 
 /// The entry: refusals 5, 6, 7, 8, 9, 11. From refusal 11 on the slices hold
 /// the tables and, but for a plan that fits, 255.
-pub fn search(record: &[u8], lent: &mut [u16], plan: &mut [u8]) -> Result<Report, Refusal> {
+pub fn search(record: &[u8], lent: &mut [u32], plan: &mut [u8]) -> Result<Report, Refusal> {
     let task = record::decode(record)?;
     let needed = tables::entries(&task, lent.len())?;
     value::demand_additive(&task)?;
     lent[..needed].copy_from_slice(&tables::all_tables(&task));
     plan.fill(record::UNNAMED);
     let report = run(&task, &lent[..needed]);
-    if let Ending::Found(found) = &report.ending {
+    if let Ending::Found { plan: found, .. } = &report.ending {
         let bytes = found.bytes();
         if bytes.len() > plan.len() {
             return Err(Refusal::new(Reason::ShortPlan, bytes.len()));

@@ -10,6 +10,8 @@ pub type Assignment = Vec<Option<u8>>;
 pub struct Action {
     pub precondition: Assignment,
     pub outcomes: Vec<Assignment>,
+    /// What the move costs: 1 to 255.
+    pub cost: u8,
 }
 
 #[derive(Clone, Debug, PartialEq, Eq)]
@@ -50,11 +52,12 @@ impl Task {
     }
 
     /// The abstraction: the task with the variables of the pattern only. All
-    /// actions and all outcomes stay, also those that name nothing any more.
+    /// actions, their costs and all outcomes stay, also those that name nothing any more.
     pub fn projected(&self, pattern: &[bool]) -> Task {
         let project = |action: &Action| Action {
             precondition: kept(&action.precondition, pattern),
             outcomes: action.outcomes.iter().map(|o| kept(o, pattern)).collect(),
+            cost: action.cost,
         };
         Task {
             sizes: kept(&self.sizes, pattern),

@@ -54,8 +54,9 @@ pub fn demand_additive(task: &Task) -> Result<(), Refusal> {
     }
 }
 
-/// The sum of the entries of the state's projections; `None` is infinite.
-pub fn sum(task: &Task, state: &[u8], tables: &[u16]) -> Option<u32> {
+/// The sum of the entries of the state's projections; `None` is infinite. Eight
+/// lent entries may add up to more than 32 bits hold.
+pub fn sum(task: &Task, state: &[u8], tables: &[u32]) -> Option<u64> {
     let mut total = 0;
     let mut rest = tables;
     for pattern in &task.patterns {
@@ -65,7 +66,7 @@ pub fn sum(task: &Task, state: &[u8], tables: &[u16]) -> Option<u32> {
         let (table, later) = rest.split_at(abstraction.states() as usize);
         match table[abstraction.index(&projection)] {
             tables::INFINITE_ENTRY => return None,
-            entry => total += u32::from(entry),
+            entry => total += u64::from(entry),
         }
         rest = later;
     }
@@ -78,7 +79,7 @@ pub fn additive(record: &[u8]) -> Result<Verdict, Refusal> {
 }
 
 /// The entry of the value: refusals 5, 6, 7, 8, 9, 10.
-pub fn value(record: &[u8], state: &[u8], lent: &[u16]) -> Result<Option<u32>, Refusal> {
+pub fn value(record: &[u8], state: &[u8], lent: &[u32]) -> Result<Option<u64>, Refusal> {
     let task = record::decode(record)?;
     tables::entries(&task, lent.len())?;
     demand_additive(&task)?;

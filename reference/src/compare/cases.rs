@@ -2,8 +2,9 @@
 
 use super::{Call, Entry, Slices};
 use crate::brute::task::{State, Task};
+use crate::brute::upgrade::{FIRST_LENGTH, FIRST_MOST_LIMIT};
 use crate::brute::{record, search, state, tables, value};
-use crate::generate::{Random, damage, plans, rows, tasks, text};
+use crate::generate::{Random, costs, damage, plans, rows, tasks, text};
 
 /// Bytes a plan may take without being called long.
 const ROOM: usize = 64;
@@ -53,22 +54,28 @@ impl Case {
         }
     }
 
-    fn noise_tables(&mut self, length: usize) -> Vec<u16> {
+    fn noise_tables(&mut self, length: usize) -> Vec<u32> {
         let entry = |random: &mut Random| match random.below(12) {
-            0 => u16::MAX,
-            1 => random.pick(&[u16::MAX - 1, 0x7fff, 0x8000]),
-            2..=6 => random.draw() as u16,
-            _ => random.below(40) as u16,
+            0 => u32::MAX,
+            1 => random.pick(&[u32::MAX - 1, 0x7fff_ffff, 0x8000_0000, 0xffff, 0xfffe, 0x1_0000]),
+            2..=4 => random.draw() as u32,
+            5..=6 => random.below(1_044_226) as u32,
+            _ => random.below(40) as u32,
         };
         (0..length).map(|_| entry(&mut self.random)).collect()
     }
 
     fn texts(&mut self) {
-        let with_break = text::text(&self.task, true);
-        let without = text::text(&self.task, false);
-        let mut texts = vec![with_break.clone(), without.clone()];
+        // Costs of 1 left out, written, and either.
+        let either: Vec<bool> = (0..64).map(|_| self.random.once_in(2)).collect();
+        let mut texts = vec![
+            text::text(&self.task, true),
+            text::text_with(&self.task, |_| true, false),
+            text::text_with(&self.task, |number| either[number], self.random.once_in(2)),
+        ];
+        let wholes = texts.clone();
         for _ in 0..6 {
-            let whole = if self.random.once_in(2) { &with_break } else { &without };
+            let whole = &wholes[self.random.below(wholes.len())];
             let mut damaged = damage::text(&mut self.random, whole);
             if self.random.once_in(3) {
                 damaged = damage::text(&mut self.random, &damaged);
@@ -106,6 +113,23 @@ impl Case {
         }
     }
 
+    /// Stored records of the first form, and records of today's beside them.
+    fn upgrades(&mut self) {
+        let mut first = self.record[..FIRST_LENGTH].to_vec();
+        first[3] = first[3].min(FIRST_MOST_LIMIT);
+        for number in 0..5 {
+            let old = match number {
+                0 => first.clone(),
+                1 => [&first[..], &[self.random.byte(); 90][..self.random.within(1..=90)]].concat(),
+                2 => self.record.clone(),
+                _ => damage::record(&mut self.random, &first),
+            };
+            let length = damage::record_length(&mut self.random);
+            let record = vec![self.random.byte(); length];
+            self.call(Entry::UpgradeRecord, Slices { old, record, ..Slices::default() });
+        }
+    }
+
     fn tables(&mut self) {
         for _ in 0..2 {
             let record = self.any_record();
@@ -115,11 +139,15 @@ impl Case {
         }
     }
 
-    /// Spreads of every pattern, and of numbers that no pattern has.
+    /// Spreads of a pattern, or of the first number that none has, and of any
+    /// number that none has. Rows are long, so that the calls are few.
     fn spreads(&mut self) {
-        let patterns = self.task.patterns.len() as u64;
-        let far = rows::far_number(&mut self.random, patterns);
-        for pattern in (0..=patterns).chain([far]) {
+        let patterns = self.task.patterns.len();
+        let near = self.random.below(patterns + 1) as u64;
+        let near = self.random.once_in(2).then_some(near);
+        let far = rows::far_number(&mut self.random, patterns as u64);
+        let far = self.random.once_in(6).then_some(far);
+        for pattern in near.into_iter().chain(far) {
             let record = self.any_record();
             let length = self.tables_length();
             let tables = self.noise_tables(length);
@@ -152,7 +180,7 @@ impl Case {
             return None;
         }
         match search::run(&self.task, &tables::all_tables(&self.task)).ending {
-            search::Ending::Found(plan) => Some(plan.bytes()),
+            search::Ending::Found { plan, .. } => Some(plan.bytes()),
             _ => None,
         }
     }
@@ -210,11 +238,13 @@ impl Case {
 
     /// Plans about as deep as a plan may be, on a task of their own.
     fn deep_plans(&mut self) {
-        self.task = tasks::turntable(&mut self.random);
+        let task = tasks::turntable(&mut self.random);
+        self.task = costs::costly(&mut self.random, task);
         self.record = record::encode(&self.task);
         let start = self.task.start.clone();
-        for _ in 0..2 {
-            let turns = self.random.within(29..=36);
+        for near in [32, 255] {
+            // The last move comes after as many turns.
+            let turns = self.random.within(near - 4..=near + 3);
             let plan = plans::turning(&self.task, &start, turns);
             self.check_around(&start, plan);
         }
@@ -239,6 +269,7 @@ pub fn calls(seed: u64, case: u64) -> Vec<Call> {
     case.searches(found.as_ref().map_or(0, Vec::len));
     case.plans(found);
     case.spreads();
+    case.upgrades();
     case.deep_plans();
     case.calls
 }

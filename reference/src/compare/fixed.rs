@@ -1,11 +1,11 @@
 //! Calls that do not depend on a seed: the sample tower and everything near
 //! it, tried through.
 
-use super::{Call, Entry, Slices, restated, spreads};
+use super::{Call, Entry, Slices, costs, restated, spreads, upgrades};
 use crate::brute::record::{self, LENGTH, ROW};
 use crate::brute::task::Task;
 use crate::brute::{plan::ARRIVED, reader, state, tables};
-use crate::generate::{Random, damage, plans, tasks};
+use crate::generate::damage;
 use crate::sample::{self, PLAN};
 
 /// Calls made up one by one: all records at once would fill the memory.
@@ -108,6 +108,7 @@ pub(super) fn variants() -> Vec<String> {
         sample::changed("eff=1:1", "eff=0:2,1:1"),
         sample::changed("need=0:1/outcomes=2/eff=0:2", "need=0:1,1:0/outcomes=2/eff=0:2,1:0"),
         sample::changed("pattern=0/pattern=1", "pattern=0,1/pattern="),
+        costs::with_cost_3(),
     ]
 }
 
@@ -147,7 +148,7 @@ fn searches() -> Calls {
             search(&task, entries + 2, length);
             search(&task, entries.saturating_sub(1), length);
         }
-        for limit in (0..=6).chain([32]) {
+        for limit in (0..=6).chain([32, 255]) {
             for budget in 0..=60 {
                 task.limit = limit;
                 task.budget = budget;
@@ -184,29 +185,8 @@ fn plans() -> Calls {
     Box::new(all.into_iter().map(check))
 }
 
-/// Plans on both sides of the deepest that passes, with every kind of byte at
-/// the end.
-fn deep_plans() -> Calls {
-    let task = tasks::turntable(&mut Random::new(1));
-    let mut calls = Vec::new();
-    for turns in 29..=35 {
-        let whole = plans::turning(&task, &task.start, turns);
-        let mut all = vec![whole.clone(), whole[..turns].to_vec()];
-        for byte in [0, 1, 2, 3, ARRIVED, 255] {
-            all.push([&whole[..turns], &[byte]].concat());
-            all.push([&whole[..turns + 1], &[byte]].concat());
-            all.push([&whole[..], &[byte]].concat());
-        }
-        calls.extend(all.into_iter().map(|plan| {
-            let (record, state) = (record::encode(&task), state::encode(&task.start));
-            call(Entry::CheckPlan, Slices { record, state, plan, ..Slices::default() })
-        }));
-    }
-    Box::new(calls.into_iter())
-}
-
 /// The fixed calls, part by part.
-pub const PARTS: [fn() -> Calls; 11] = [
+pub const PARTS: [fn() -> Calls; 16] = [
     reads,
     records,
     states,
@@ -217,5 +197,10 @@ pub const PARTS: [fn() -> Calls; 11] = [
     searches,
     restated::near_the_sample,
     plans,
-    deep_plans,
+    costs::reads,
+    costs::records,
+    costs::near_the_sample,
+    costs::long_paths,
+    costs::dearest,
+    upgrades::upgrades,
 ];

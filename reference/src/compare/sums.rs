@@ -2,6 +2,8 @@
 //! that the same call left, with the room of the patterns taken from the bytes
 //! of the record.
 
+use std::collections::BTreeMap;
+
 use super::{Call, Entry, Made};
 use crate::brute::record::ROW;
 use crate::brute::spread::COUNTS;
@@ -20,18 +22,18 @@ fn states(record: &[u8]) -> Vec<usize> {
     members.map(|row| row.iter().zip(sizes).map(size).product()).collect()
 }
 
-/// Where an entry is counted; finite ones from 4,096 on are nowhere.
-fn place(entry: u16) -> Option<usize> {
+/// Where an entry is counted; finite ones from 1,044,226 on are nowhere.
+fn place(entry: u32) -> Option<usize> {
     match entry {
-        0..4_096 => Some(entry.into()),
-        u16::MAX => Some(4_096),
+        0..1_044_226 => Some(entry as usize),
+        u32::MAX => Some(1_044_226),
         _ => None,
     }
 }
 
 /// The counts add up to the pattern's number of states, which the answer
-/// tells, and each entry taken off its count leaves nothing. The rest of the
-/// row is as lent.
+/// tells, and each value of the table has as many as there are entries of it, so
+/// that nothing is left for any other. The rest of the row is as lent.
 pub fn check(call: &Call, made: &Made) -> Result<(), String> {
     if call.entry != Entry::Spread || made.answer.number != 0 {
         return Ok(());
@@ -45,11 +47,15 @@ pub fn check(call: &Call, made: &Made) -> Result<(), String> {
     ensure(made.answer.first == expected as u64, || format!("the pattern has {expected} states"))?;
     ensure(sum == expected as u64, || format!("counts of {sum} states, there are {expected}"))?;
     ensure(rest == &call.slices.row[COUNTS..], || "the rest of the row is touched".to_owned())?;
-    let mut left = counts.to_vec();
-    let table = made.lent_tables().iter().skip(before).take(expected);
-    for &entry in table {
-        let count = place(entry).and_then(|place| left.get_mut(place)).filter(|count| **count > 0);
-        *count.ok_or_else(|| format!("an entry {entry} is not counted"))? -= 1;
+    let mut entries = BTreeMap::new();
+    for &entry in made.lent_tables().iter().skip(before).take(expected) {
+        *entries.entry(entry).or_insert(0) += 1;
+    }
+    for (entry, times) in entries {
+        let count = place(entry).and_then(|place| counts.get(place));
+        ensure(count == Some(&times), || {
+            format!("{count:?} entries {entry} are counted, there are {times}")
+        })?;
     }
     Ok(())
 }

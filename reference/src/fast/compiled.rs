@@ -13,6 +13,8 @@ use super::record::Record;
 /// Sets of applying actions are looked up by so many bits of the state.
 const GROUP: u32 = 8;
 const GROUP_VALUES: usize = 1 << GROUP;
+/// Depths are at most the largest limit.
+const DEPTHS: usize = 256;
 
 /// A state's bits under a mask.
 #[derive(Clone, Copy, Default)]
@@ -29,12 +31,13 @@ pub struct Field {
     offset: u32,
 }
 
-/// An action: the field of the pattern it touches, and its outcomes.
+/// An action: the field of the pattern it touches, its outcomes, and its cost.
 #[derive(Clone, Copy, Default)]
 pub struct Step {
     pub field: Field,
     pub first: u16,
     pub end: u16,
+    pub cost: u32,
 }
 
 pub struct Compiled {
@@ -44,8 +47,11 @@ pub struct Compiled {
     /// None if a variable without bits has another value than the goal's.
     goal: Option<Partial>,
     /// Costs of at most 255 by the fields of the patterns, then one 0 for
-    /// actions that touch none.
+    /// actions that touch none. Larger ones and infinite ones fail alike: no
+    /// outcome is examined with a depth above 254.
     costs: Vec<u8>,
+    /// By depth: the actions that cost no more.
+    within: [u64; DEPTHS],
     /// By group of bits, and by their value: the actions they permit. Of the
     /// first group only those that the variables without bits permit too.
     permitted: Vec<[u64; GROUP_VALUES]>,
@@ -97,7 +103,7 @@ fn add_costs(
     fields: &Fields,
     space: &Space,
     record: &Record,
-    table: &[u16],
+    table: &[u32],
 ) -> Field {
     let (sizes, start) = (record.sizes(), record.start());
     let moving = space.members & fields.changed;
@@ -149,7 +155,7 @@ fn permitted(needs: &[Partial], possible: u64, bits: u32) -> Vec<[u64; GROUP_VAL
 
 impl Compiled {
     /// The task, and its start.
-    pub fn of(record: &Record, spaces: &Spaces, tables: &[u16]) -> (Self, u64) {
+    pub fn of(record: &Record, spaces: &Spaces, tables: &[u32]) -> (Self, u64) {
         let mut touching = [0; 64];
         for (set, action) in touching.iter_mut().zip(record.actions()) {
             *set = touched(&action);
@@ -168,6 +174,7 @@ impl Compiled {
         let mut outcomes = Vec::with_capacity(128);
         let mut steps = [Step::default(); 64];
         let (mut needs, mut possible) = ([Partial::default(); 64], 0);
+        let mut within = [0; DEPTHS];
         for (number, action) in record.actions().enumerate() {
             needs[number] = fields.partial(action.precondition);
             let kept = fields.kept(action.precondition, record.start());
@@ -179,13 +186,18 @@ impl Compiled {
                 let set = fields.partial(row);
                 Partial { mask: !set.mask, value: set.value }
             }));
-            steps[number] = Step { field, first, end: outcomes.len() as u16 };
+            let (end, cost) = (outcomes.len() as u16, action.cost);
+            steps[number] = Step { field, first, end, cost: cost.into() };
+            within[usize::from(cost)] |= 1 << number;
+        }
+        for depth in 1..DEPTHS {
+            within[depth] |= within[depth - 1];
         }
         let goal = fields.kept(record.goal(), record.start());
         let goal = goal.then(|| fields.partial(record.goal()));
         let permitted = permitted(&needs[..record.action_count()], possible, fields.bits);
         let start = fields.partial(record.start()).value;
-        (Self { steps, outcomes, goal, costs, permitted }, start)
+        (Self { steps, outcomes, goal, costs, within, permitted }, start)
     }
 
     /// The number of groups: 2, 4 or 8.
@@ -202,10 +214,14 @@ impl Compiled {
         self.goal.is_some_and(|goal| state & goal.mask == goal.value)
     }
 
-    /// The actions whose precondition a state meets.
+    /// The actions whose precondition a state meets and that cost no more than
+    /// the depth left.
     #[inline(always)]
-    pub fn applying<const GROUPS: usize>(&self, state: u64) -> u64 {
-        let (mut set, mut rest) = (u64::MAX, state);
+    pub fn applying<const GROUPS: usize>(&self, state: u64, depth: u8) -> u64 {
+        let (mut set, mut rest) = (self.within[usize::from(depth)], state);
+        if set == 0 {
+            return 0;
+        }
         let groups: &[[u64; GROUP_VALUES]; GROUPS] =
             self.permitted.first_chunk().expect("as many groups");
         for group in groups {

@@ -1,6 +1,6 @@
 //! Where the cells of a record are.
 
-pub const LENGTH: usize = 9_464;
+pub const LENGTH: usize = 9_528;
 /// One cell per variable.
 pub type Row = [u8; 16];
 
@@ -16,12 +16,15 @@ pub const MEMBERS: usize = 56;
 pub const MOVES: usize = 184;
 /// Number of outcomes, precondition, eight outcomes.
 pub const MOVE: usize = 145;
+/// One cell per action; the first form of a record ended before them.
+pub const COSTS: usize = 9_464;
 
 pub const MOST_VARIABLES: u8 = 16;
 pub const MOST_ACTIONS: u8 = 64;
 pub const MOST_PATTERNS: u8 = 8;
 pub const MOST_OUTCOMES: u8 = 8;
-pub const MOST_LIMIT: u8 = 32;
+/// That of the first form; today's is any byte.
+pub const FIRST_MOST_LIMIT: u8 = 32;
 pub const MOST_BUDGET: u32 = 1_000_000;
 
 /// A record without variables, actions and patterns.
@@ -39,9 +42,14 @@ const fn blank() -> [u8; LENGTH] {
         cells[at] = 0;
         at += 1;
     }
-    while at < LENGTH {
+    while at < COSTS {
         cells[at] = 0;
         at += MOVE;
+    }
+    at = COSTS;
+    while at < LENGTH {
+        cells[at] = 0;
+        at += 1;
     }
     cells
 }

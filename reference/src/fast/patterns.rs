@@ -5,7 +5,7 @@ use super::layout::Row;
 use super::record::{Action, Record};
 use crate::answer::{Reason, Refusal};
 
-pub const INFINITE: u16 = u16::MAX;
+pub const INFINITE: u32 = u32::MAX;
 const MOST_STATES: u32 = 4_096;
 
 /// The abstract states of one pattern.
@@ -64,7 +64,7 @@ impl Spaces {
     }
 
     /// The table of a pattern; a number that no pattern has gives an empty one.
-    pub fn table<'a>(&self, pattern: u64, tables: &'a [u16]) -> &'a [u16] {
+    pub fn table<'a>(&self, pattern: u64, tables: &'a [u32]) -> &'a [u32] {
         // The number is compared in all its 64 bits before it is an index.
         if pattern >= self.number as u64 {
             return &[];
@@ -74,14 +74,14 @@ impl Spaces {
     }
 
     /// The sum of the entries of the state's projections, or infinite.
-    pub fn value(&self, state: &Row, tables: &[u16]) -> Option<u32> {
+    pub fn value(&self, state: &Row, tables: &[u32]) -> Option<u64> {
         let mut sum = 0;
         for space in self.iter() {
             let place = |v: usize| usize::from(space.weights[v]) * usize::from(state[v]);
             let index: usize = members(space.members.into()).map(place).sum();
             match tables[space.offset + index] {
                 INFINITE => return None,
-                entry => sum += u32::from(entry),
+                entry => sum += u64::from(entry),
             }
         }
         Some(sum)

@@ -12,9 +12,13 @@ pub struct Record<'a> {
 pub struct Action<'a> {
     pub precondition: &'a Row,
     pub outcomes: &'a [Row],
+    pub cost: u8,
 }
 
-fn rows<const START: usize>(cells: &[u8; LENGTH]) -> &[Row] {
+/// What a record has before its costs.
+type Front = [u8; COSTS];
+
+fn rows<const START: usize, const N: usize>(cells: &[u8; N]) -> &[Row] {
     cells[START..].as_chunks().0
 }
 
@@ -28,19 +32,19 @@ impl<'a> Record<'a> {
     }
 
     pub fn sizes(&self) -> &'a Row {
-        &rows::<SIZES>(self.cells)[0]
+        &rows::<SIZES, _>(self.cells)[0]
     }
 
     pub fn goal(&self) -> &'a Row {
-        &rows::<GOAL>(self.cells)[0]
+        &rows::<GOAL, _>(self.cells)[0]
     }
 
     pub fn start(&self) -> &'a Row {
-        &rows::<START>(self.cells)[0]
+        &rows::<START, _>(self.cells)[0]
     }
 
     pub fn patterns(&self) -> &'a [Row] {
-        &rows::<MEMBERS>(self.cells)[..self.cells[PATTERNS].into()]
+        &rows::<MEMBERS, _>(self.cells)[..self.cells[PATTERNS].into()]
     }
 
     pub fn action_count(&self) -> usize {
@@ -51,7 +55,11 @@ impl<'a> Record<'a> {
         let (actions, _) = self.cells[MOVES..].as_chunks::<MOVE>();
         let [count, cells @ ..] = &actions[number];
         let (rows, _) = cells.as_chunks();
-        Action { precondition: &rows[0], outcomes: &rows[1..1 + usize::from(*count)] }
+        Action {
+            precondition: &rows[0],
+            outcomes: &rows[1..1 + usize::from(*count)],
+            cost: self.cells[COSTS + number],
+        }
     }
 
     pub fn actions(&self) -> impl Iterator<Item = Action<'a>> {
@@ -74,7 +82,7 @@ impl<'a> Record<'a> {
     }
 }
 
-fn budget(cells: &[u8; LENGTH]) -> u32 {
+fn budget<const N: usize>(cells: &[u8; N]) -> u32 {
     u32::from_le_bytes([cells[4], cells[5], cells[6], cells[7]])
 }
 
@@ -119,21 +127,21 @@ fn members_fault(patterns: &[Row], number: usize, used: &Row) -> bool {
     fault != 0
 }
 
-fn is_sound(cells: &[u8; LENGTH]) -> bool {
+/// Whether all cells before the costs are within their rules; any limit is.
+fn is_sound(cells: &Front) -> bool {
     let (variables, actions) = (cells[VARIABLES], cells[ACTIONS]);
     let head = variables.wrapping_sub(1) < MOST_VARIABLES
         && actions <= MOST_ACTIONS
         && cells[PATTERNS] <= MOST_PATTERNS
-        && cells[LIMIT] <= MOST_LIMIT
         && budget(cells) <= MOST_BUDGET;
     if !head {
         return false;
     }
     let used: Row = std::array::from_fn(|v| u8::from((v as u8) < variables));
-    let sizes = &rows::<SIZES>(cells)[0];
-    let patterns = &rows::<MEMBERS>(cells)[..8];
+    let sizes = &rows::<SIZES, _>(cells)[0];
+    let patterns = &rows::<MEMBERS, _>(cells)[..8];
     let mut faults = [0; 16];
-    gather(&mut faults, &rows::<GOAL>(cells)[0], sizes);
+    gather(&mut faults, &rows::<GOAL, _>(cells)[0], sizes);
     let (moves, _) = cells[MOVES..].as_chunks::<MOVE>();
     let mut count_fault = false;
     for [count, cells @ ..] in &moves[..actions.into()] {
@@ -146,11 +154,11 @@ fn is_sound(cells: &[u8; LENGTH]) -> bool {
     }
     let unused = MOVES + MOVE * usize::from(actions);
     !(sizes_fault(sizes, &used)
-        || state_fault(&rows::<START>(cells)[0], sizes)
+        || state_fault(&rows::<START, _>(cells)[0], sizes)
         || members_fault(patterns, cells[PATTERNS].into(), &used)
         || count_fault
         || faults != [0; 16])
-        && cells[unused..] == BLANK[unused..]
+        && cells[unused..] == BLANK[unused..COSTS]
 }
 
 /// The record, unless it is too short (5) or has a fault (6).
@@ -158,15 +166,69 @@ pub fn check(record: &[u8]) -> Result<Record<'_>, Refusal> {
     let Some(cells) = record.first_chunk() else {
         return Err(Refusal::new(Reason::ShortRecord, record.len()));
     };
-    if is_sound(cells) {
-        Ok(Record { cells })
-    } else {
-        Err(Refusal::new(Reason::Cell, lowest_fault(cells)))
+    let (front, costs) = parts(cells);
+    if is_sound(front) && !costs_fault(costs, cells[ACTIONS]) {
+        return Ok(Record { cells });
     }
+    let offset = lowest_fault(front, u8::MAX).or_else(|| lowest_cost_fault(cells));
+    Err(Refusal::new(Reason::Cell, offset.expect("the record has a fault")))
+}
+
+fn parts(cells: &[u8; LENGTH]) -> (&Front, &[u8; 64]) {
+    let (front, costs) = cells.split_first_chunk().expect("a record is longer");
+    (front, costs.first_chunk().expect("64 costs end the record"))
+}
+
+const fn numbers() -> [u8; 64] {
+    let mut numbers = [0; 64];
+    let mut at = 0;
+    while at < 64 {
+        numbers[at] = at as u8;
+        at += 1;
+    }
+    numbers
+}
+
+/// Costs are not 0 where an action is in use, and 0 elsewhere.
+fn costs_fault(costs: &[u8; 64], actions: u8) -> bool {
+    const NUMBERS: [u8; 64] = numbers();
+    let mut fault = 0;
+    for (&number, &cost) in NUMBERS.iter().zip(costs) {
+        // Both are 1 where an action is in use, and 0 elsewhere.
+        fault |= cost.min(1) ^ actions.saturating_sub(number).min(1);
+    }
+    fault != 0
+}
+
+#[cold]
+fn lowest_cost_fault(cells: &[u8; LENGTH]) -> Option<usize> {
+    let used = |number: usize| number < cells[ACTIONS].into();
+    (0..64).find(|&number| (cells[COSTS + number] == 0) == used(number)).map(|n| COSTS + n)
+}
+
+/// Makes a record of today's form of one of the first form, unless that is too
+/// short (5) or has a fault (6) by its own rules, or the target is too short (5).
+pub fn upgrade(old: &[u8], target: &mut [u8]) -> Result<(), Refusal> {
+    let Some(front) = old.first_chunk() else {
+        return Err(Refusal::new(Reason::ShortRecord, old.len()));
+    };
+    if front[LIMIT] > FIRST_MOST_LIMIT || !is_sound(front) {
+        let offset = lowest_fault(front, FIRST_MOST_LIMIT).expect("the record has a fault");
+        return Err(Refusal::new(Reason::Cell, offset));
+    }
+    let length = target.len();
+    let Some(cells) = target.first_chunk_mut::<LENGTH>() else {
+        return Err(Refusal::new(Reason::ShortRecord, length));
+    };
+    cells[..COSTS].copy_from_slice(front);
+    for (number, cost) in (0..).zip(&mut cells[COSTS..]) {
+        *cost = u8::from(number < front[ACTIONS]);
+    }
+    Ok(())
 }
 
 /// The rows of a move with their places, and whether each is in use.
-fn move_fault(cells: &[u8; LENGTH], number: usize) -> Option<usize> {
+fn move_fault(cells: &Front, number: usize) -> Option<usize> {
     let at = MOVES + MOVE * number;
     let used = number < usize::from(cells[ACTIONS]);
     let count = cells[at];
@@ -180,9 +242,9 @@ fn move_fault(cells: &[u8; LENGTH], number: usize) -> Option<usize> {
     })
 }
 
-/// The lowest cell outside its rule, of a record that is known to have one.
+/// The lowest cell before the costs that is outside its rule.
 #[cold]
-fn lowest_fault(cells: &[u8; LENGTH]) -> usize {
+fn lowest_fault(cells: &Front, most_limit: u8) -> Option<usize> {
     let used = |v: usize| v < usize::from(cells[VARIABLES]);
     let in_pattern = |at: usize| {
         let (p, v) = ((at - MEMBERS) / 16, (at - MEMBERS) % 16);
@@ -192,7 +254,7 @@ fn lowest_fault(cells: &[u8; LENGTH]) -> usize {
         VARIABLES => (1..=MOST_VARIABLES).contains(&cells[at]),
         ACTIONS => cells[at] <= MOST_ACTIONS,
         PATTERNS => cells[at] <= MOST_PATTERNS,
-        LIMIT => cells[at] <= MOST_LIMIT,
+        LIMIT => cells[at] <= most_limit,
         BUDGET => budget(cells) <= MOST_BUDGET,
         5..SIZES => true,
         SIZES..GOAL if used(at - SIZES) => (2..=16).contains(&cells[at]),
@@ -204,5 +266,4 @@ fn lowest_fault(cells: &[u8; LENGTH]) -> usize {
     (0..MOVES)
         .find(|at| !good(at))
         .or_else(|| (0..MOST_ACTIONS.into()).find_map(|number| move_fault(cells, number)))
-        .expect("the record has a fault")
 }

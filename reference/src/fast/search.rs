@@ -9,8 +9,6 @@ use super::results::{Known, Results};
 use super::write::Writer;
 use crate::answer::{Reason, Refusal};
 
-const MOST_DEPTH: usize = 32;
-
 pub enum Ending {
     Found { cost: u8, length: usize },
     Over,
@@ -19,22 +17,23 @@ pub enum Ending {
 }
 
 /// A state under way: the actions not yet tried, what was left of the budget
-/// before it was examined, its value; then the action and the outcome being
-/// tried, and the length of the plan so far.
+/// before it was examined, its value and its depth; then the action and the
+/// outcome being tried, and the length of the plan so far.
 #[derive(Clone, Copy, Default)]
 struct Node {
     state: u64,
     untried: u64,
     left: u32,
     length: u32,
-    value: u8,
-    action: u8,
     outcome: u16,
+    value: u8,
+    depth: u8,
+    action: u8,
 }
 
 impl Node {
-    fn of(state: u64, untried: u64, left: u32, value: u8) -> Self {
-        Self { state, untried, left, value, ..Self::default() }
+    fn of(state: u64, untried: u64, left: u32, value: u8, depth: u8) -> Self {
+        Self { state, untried, left, value, depth, ..Self::default() }
     }
 
     /// Takes the lowest action not yet tried, at its first outcome.
@@ -56,40 +55,40 @@ enum Round {
     Spent,
 }
 
-/// The nodes that wait for the one above them, and the depth of the outcomes
-/// of that one.
-struct Path {
-    nodes: [Node; MOST_DEPTH],
-    number: usize,
-    depth: u32,
+/// Room for paths: each action takes 1 or more off a depth of at most 255.
+const ROOM: usize = 256;
+
+/// The nodes that wait for the one above them.
+struct Path<'a> {
+    nodes: &'a mut [Node; ROOM],
+    number: u8,
 }
 
-impl Path {
+impl Path<'_> {
     #[inline(always)]
     fn push(&mut self, node: Node) {
-        self.nodes[self.number] = node;
+        self.nodes[usize::from(self.number)] = node;
         self.number += 1;
-        self.depth -= 1;
     }
 
     #[inline(always)]
     fn pop(&mut self) -> Option<Node> {
         self.number = self.number.checked_sub(1)?;
-        self.depth += 1;
-        Some(self.nodes[self.number])
+        Some(self.nodes[usize::from(self.number)])
     }
 }
 
 pub struct Search<'a> {
     pub task: &'a Compiled,
     results: Results,
+    nodes: Box<[Node; ROOM]>,
     budget: u32,
     left: u32,
 }
 
 impl Search<'_> {
     /// Examines the start, whose value is at most the depth.
-    fn round(&mut self, start: u64, value: u8, depth: u32) -> Round {
+    fn round(&mut self, start: u64, value: u8, depth: u8) -> Round {
         if self.left == 0 {
             return Round::Spent;
         }
@@ -117,33 +116,9 @@ impl Search<'_> {
             return known.first;
         }
         self.left = self.budget;
-        match self.round(state, value as u8, depth) {
+        match self.round(state, value as u8, depth as u8) {
             Round::Found(_, first) => first,
             Round::Failed | Round::Spent => unreachable!("the state succeeded before"),
-        }
-    }
-
-    /// The next outcome after one that succeeded, of the action or of one it
-    /// was tried for; else how the round ends.
-    #[inline(always)]
-    fn go_on(
-        &mut self,
-        mut node: Node,
-        path: &mut Path,
-        length: u32,
-        left: u32,
-    ) -> Result<Node, Round> {
-        let mut length = length;
-        loop {
-            node.length += length;
-            node.outcome += 1;
-            if node.outcome < self.task.step(node.action).end {
-                return Ok(node);
-            }
-            length = node.length;
-            let (examinations, first) = (node.left - left, node.action);
-            self.results.note(node.state, path.depth + 1, Known { examinations, length, first });
-            node = path.pop().ok_or(Round::Found(length, first))?;
         }
     }
 
@@ -153,22 +128,24 @@ impl Search<'_> {
         &mut self,
         start: u64,
         value: u8,
-        depth: u32,
+        depth: u8,
     ) -> Round {
-        let task = self.task;
+        let Self { task, results, nodes, .. } = self;
+        let mut path = Path { nodes, number: 0 };
         let cost = |field, state| if VALUED { task.cost(field, state) } else { 0 };
-        let mut path = Path { nodes: [Node::default(); MOST_DEPTH], number: 0, depth: depth - 1 };
         let mut left = self.left;
-        let mut node = Node::of(start, task.applying::<GROUPS>(start), left + 1, value);
+        let untried = task.applying::<GROUPS>(start, depth);
+        let mut node = Node::of(start, untried, left + 1, value, depth);
         let round = 'node: loop {
             if node.untried == 0 {
                 let failure = Known { examinations: node.left - left, ..Known::default() };
-                self.results.note(node.state, path.depth + 1, failure);
+                results.note(node.state, node.depth.into(), failure);
                 let Some(below) = path.pop() else { break Round::Failed };
                 node = below;
                 continue;
             }
             let mut step = node.take(task);
+            let mut depth = u32::from(node.depth) - step.cost;
             // Until an outcome fails at once.
             loop {
                 if left == 0 {
@@ -179,20 +156,20 @@ impl Search<'_> {
                 let state = task.after(node.state, node.outcome);
                 let rest = u32::from(node.value) - cost(step.field, node.state);
                 let value = rest + cost(step.field, state);
-                if value > path.depth {
+                if value > depth {
                     break;
                 }
                 let mut length = 1;
                 // Only a state of value 0 is a goal.
                 if value != 0 || !task.is_goal(state) {
-                    let untried = if path.depth == 0 { 0 } else { task.applying::<GROUPS>(state) };
+                    let untried = task.applying::<GROUPS>(state, depth as u8);
                     if untried == 0 {
                         break;
                     }
-                    let known = self.results.known(state, path.depth);
+                    let known = results.known(state, depth);
                     let Some(known) = known.filter(|known| known.examinations <= before) else {
                         path.push(node);
-                        node = Node::of(state, untried, before, value as u8);
+                        node = Node::of(state, untried, before, value as u8, depth as u8);
                         continue 'node;
                     };
                     left = before - known.examinations;
@@ -201,10 +178,11 @@ impl Search<'_> {
                         break;
                     }
                 }
-                match self.go_on(node, &mut path, length, left) {
+                match go_on(task, results, &mut path, node, length, left) {
                     Ok(next) => (node, step) = (next, task.step(next.action)),
                     Err(round) => break 'node round,
                 }
+                depth = u32::from(node.depth) - step.cost;
             }
         };
         self.left = left;
@@ -212,10 +190,34 @@ impl Search<'_> {
     }
 }
 
+/// The next outcome after one that succeeded, of the action or of one it was
+/// tried for; else how the round ends.
+#[inline(always)]
+fn go_on(
+    task: &Compiled,
+    results: &mut Results,
+    path: &mut Path,
+    mut node: Node,
+    mut length: u32,
+    left: u32,
+) -> Result<Node, Round> {
+    loop {
+        node.length += length;
+        node.outcome += 1;
+        if node.outcome < task.step(node.action).end {
+            return Ok(node);
+        }
+        length = node.length;
+        let (examinations, first) = (node.left - left, node.action);
+        results.note(node.state, node.depth.into(), Known { examinations, length, first });
+        node = path.pop().ok_or(Round::Found(length, first))?;
+    }
+}
+
 /// The rounds, with a larger memory as soon as one has filled the small one.
 fn rounds(search: &mut Search, start: u64, value: u8, limit: u8) -> Ending {
     for depth in value..=limit {
-        match search.round(start, value, depth.into()) {
+        match search.round(start, value, depth) {
             Round::Found(length, _) => {
                 return Ending::Found { cost: depth, length: length as usize };
             }
@@ -230,7 +232,7 @@ fn rounds(search: &mut Search, start: u64, value: u8, limit: u8) -> Ending {
 pub fn run(
     record: &Record,
     spaces: &Spaces,
-    tables: &[u16],
+    tables: &[u32],
     plan: &mut [u8],
 ) -> Result<(Ending, u32), Refusal> {
     let budget = record.budget();
@@ -240,7 +242,8 @@ pub fn run(
         return Ok((if value.is_none() { Ending::None } else { Ending::Over }, 0));
     };
     let (task, start) = Compiled::of(record, spaces, tables);
-    let mut search = Search { task: &task, results: Results::few(), budget, left: budget };
+    let (results, nodes) = (Results::few(), Box::new([Node::default(); ROOM]));
+    let mut search = Search { task: &task, results, nodes, budget, left: budget };
     let ending = rounds(&mut search, start, value as u8, record.limit());
     let count = budget - search.left;
     let mut written = 0;
@@ -249,7 +252,7 @@ pub fn run(
             plan.fill(255);
             return Err(Refusal::new(Reason::ShortPlan, length));
         }
-        written = Writer::of(plan).write(&mut search, start, value, cost.into(), 0);
+        written = Writer::of(plan).write(&mut search, start, value as u32, cost.into(), 0);
     }
     plan[written..].fill(255);
     Ok((ending, count))

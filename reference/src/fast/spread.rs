@@ -5,7 +5,7 @@ use super::patterns::INFINITE;
 use crate::answer::{Reason, Refusal};
 
 /// Where the infinite states are counted, behind the values.
-const LAST: u16 = 4_096;
+const LAST: u32 = 1_044_226;
 const COUNTS: usize = LAST as usize + 1;
 
 /// The counts at the start of a row, or refusal 18.
@@ -15,13 +15,13 @@ pub fn counts(row: &mut [u32]) -> Result<&mut [u32; COUNTS], Refusal> {
 }
 
 /// Counts the states of a table and answers how many they are.
-pub fn count(table: &[u16], row: &mut [u32; COUNTS]) -> usize {
+pub fn count(table: &[u32], row: &mut [u32; COUNTS]) -> usize {
     row.fill(0);
     for &entry in table {
-        // Finite entries are below 4,096, so that this moves the infinite
-        // ones alone, and no index has to be tested.
+        // Finite entries are below the last place, so that this moves the
+        // infinite ones alone, and no index has to be tested.
         debug_assert!(entry < LAST || entry == INFINITE);
-        row[usize::from(entry.min(LAST))] += 1;
+        row[entry.min(LAST) as usize] += 1;
     }
     table.len()
 }

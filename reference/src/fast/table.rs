@@ -5,9 +5,12 @@
 //! for the state's lower and one for its upper variables. An action with
 //! several outcomes has a counter at every state of those not yet settled;
 //! since states are settled in the order of their costs, the outcome that
-//! brings a counter to 0 is the worst one.
+//! brings a counter to 0 is the worst one. An outcome that could not lower the
+//! cost known of a state need not be counted there, for the ones after it could
+//! not either.
 
 use super::bits::{members, named};
+use super::front::{Buckets, Front, Node, OPEN, Queue, edges_of, only_cost};
 use super::layout::Row;
 use super::patterns::{INFINITE, Space, Spaces};
 use super::record::{Action, Record};
@@ -54,44 +57,32 @@ struct Known {
     range: (u32, u32),
 }
 
-/// What is used again from pattern to pattern.
+/// The edges of a pattern's abstraction.
 #[derive(Default)]
-struct Workshop {
+struct Edges {
     edges: Vec<Edge>,
     /// What each edge adds to a state's place to give the lowest state that it
-    /// leads from, and the edges that lead from that state alone and have no
-    /// counters.
+    /// leads from, what it costs, and the edges that lead from that state alone
+    /// and have no counters.
     backs: Vec<u16>,
+    weights: Vec<u8>,
     plain: [u64; WORDS],
     counters: Vec<u8>,
     offsets: Vec<u16>,
     known: Vec<Known>,
-    costs: Vec<u16>,
-    queue: Vec<u16>,
     /// The edges that may lead to a state, by its lower and upper variables.
     lower: Vec<u64>,
     upper: Vec<u64>,
 }
 
-/// The costs known so far, and the states whose cost is known in its order.
-struct Front<'a> {
-    costs: &'a mut [u16],
-    queue: &'a mut [u16],
-    tail: usize,
-}
-
-impl Front<'_> {
-    #[inline(always)]
-    fn is_open(&self, place: u16) -> bool {
-        self.costs[usize::from(place)] == INFINITE
-    }
-
-    #[inline(always)]
-    fn settle(&mut self, place: u16, cost: u16) {
-        self.costs[usize::from(place)] = cost;
-        self.queue[self.tail] = place;
-        self.tail += 1;
-    }
+/// What is used again from pattern to pattern.
+#[derive(Default)]
+struct Workshop {
+    edges: Edges,
+    queue: Vec<u16>,
+    levels: Vec<u16>,
+    costs: Vec<u32>,
+    nodes: Vec<Node>,
 }
 
 impl Edge {
@@ -178,7 +169,7 @@ fn sets(out: &mut Vec<u64>, edges: &[Edge], variables: u16, sizes: &Row, words: 
     }
 }
 
-impl Workshop {
+impl Edges {
     /// The places of all values of a set of variables.
     fn offsets_of(&mut self, set: u16, grid: &Grid, sizes: &Row) -> (u32, u32) {
         if let Some(known) = self.known.iter().find(|known| known.set == set) {
@@ -212,6 +203,7 @@ impl Workshop {
             if set & !needed == 0 && from == to {
                 self.edges.truncate(begin);
                 self.backs.truncate(begin);
+                self.weights.truncate(begin);
                 return;
             }
             let distinct = self.edges.len() - begin;
@@ -225,6 +217,7 @@ impl Workshop {
                 *value = if name == 255 { *value } else { name };
             }
             self.backs.push(from.wrapping_sub(to));
+            self.weights.push(action.cost);
             self.edges.push(Edge { free, counters: SINGLE, leads_to });
         }
         self.number_edges(begin, grid);
@@ -245,74 +238,40 @@ impl Workshop {
     fn clear(&mut self) {
         self.edges.clear();
         self.backs.clear();
+        self.weights.clear();
         self.plain = [0; WORDS];
         self.counters.clear();
         self.offsets.clear();
         self.known.clear();
-        self.costs.clear();
-        self.queue.clear();
     }
 
-    fn build(&mut self, record: &Record, names: &[Names], space: &Space, table: &mut [u16]) {
-        let sizes = record.sizes();
-        let grid = Grid::of(space, sizes);
-        self.clear();
-        for (number, names) in names.iter().enumerate() {
-            if names.touched & space.members != 0 {
-                self.add_action(&record.action(number), names, &grid, sizes);
-            }
-        }
-        self.costs.resize(grid.places, INFINITE);
-        self.queue.resize(space.states, 0);
-        let fixed = named(record.goal()) & space.members;
-        let lowest = grid.place(record.goal(), fixed);
-        let (from, to) = self.offsets_of(space.members & !fixed, &grid, sizes);
-        let goals = &self.offsets[from as usize..to as usize];
-        for (place, offset) in self.queue.iter_mut().zip(goals) {
-            *place = lowest + offset;
-            self.costs[usize::from(*place)] = 0;
-        }
-        let goals = goals.len();
-        if !self.edges.is_empty() && goals < space.states {
-            let words = self.edges.len().div_ceil(64);
-            sets(&mut self.lower, &self.edges, grid.lower, sizes, words);
-            sets(&mut self.upper, &self.edges, grid.members & !grid.lower, sizes, words);
-            self.settle(&grid, words, goals);
-        }
-        let rows = self.costs.chunks_exact(1 << grid.shift);
-        for (entries, costs) in table.chunks_exact_mut(grid.width).zip(rows) {
-            entries.copy_from_slice(&costs[..grid.width]);
-        }
-    }
-
-    /// Settles the states that lead to those in the queue, until it is empty
+    /// Settles the states that lead to those of the front, until there is none
     /// or every state is settled.
-    fn settle(&mut self, grid: &Grid, words: usize, goals: usize) {
+    #[inline(always)]
+    fn settle(&mut self, grid: &Grid, sizes: &Row, mut front: impl Front) {
+        let words = self.edges.len().div_ceil(64);
+        sets(&mut self.lower, &self.edges, grid.lower, sizes, words);
+        sets(&mut self.upper, &self.edges, grid.members & !grid.lower, sizes, words);
         let Self { edges, backs, plain, counters, offsets, .. } = self;
-        let mut front = Front { costs: &mut self.costs, queue: &mut self.queue, tail: goals };
-        let mut head = 0;
-        while head < front.tail && front.tail < front.queue.len() {
-            let place = front.queue[head];
-            head += 1;
-            let cost = front.costs[usize::from(place)] + 1;
+        while let Some(place) = front.take() {
             let (above, below) = (place >> grid.shift, place & ((1 << grid.shift) - 1));
             let lower = &self.lower[usize::from(below) * words..][..words];
             let upper = &self.upper[usize::from(above) * words..][..words];
             for word in 0..words {
                 let set = lower[word] & upper[word];
-                for bit in members(set & plain[word]) {
-                    let before = place.wrapping_add(backs[64 * word + bit]);
-                    if front.is_open(before) {
-                        front.settle(before, cost);
+                for number in edges_of(word, set & plain[word]) {
+                    let before = place.wrapping_add(backs[number]);
+                    if front.lowers(number, before) {
+                        front.lower(number, before);
                     }
                 }
-                for bit in members(set & !plain[word]) {
-                    let edge = &edges[64 * word + bit];
-                    let base = place.wrapping_add(backs[64 * word + bit]);
+                for number in edges_of(word, set & !plain[word]) {
+                    let edge = &edges[number];
+                    let base = place.wrapping_add(backs[number]);
                     for &offset in &offsets[edge.free.0 as usize..edge.free.1 as usize] {
                         let before = base.wrapping_add(offset);
-                        if front.is_open(before) && edge.is_last(counters, before) {
-                            front.settle(before, cost);
+                        if front.lowers(number, before) && edge.is_last(counters, before) {
+                            front.lower(number, before);
                         }
                     }
                 }
@@ -321,8 +280,73 @@ impl Workshop {
     }
 }
 
+/// The entries of a row of levels.
+#[inline(always)]
+fn tell(entries: &mut [u32], levels: &[u16], cost: impl Fn(u32) -> u32) {
+    for (entry, &level) in entries.iter_mut().zip(levels) {
+        *entry = if level == OPEN { INFINITE } else { cost(level.into()) };
+    }
+}
+
+impl Workshop {
+    fn build(&mut self, record: &Record, names: &[Names], space: &Space, table: &mut [u32]) {
+        let sizes = record.sizes();
+        let grid = Grid::of(space, sizes);
+        self.edges.clear();
+        for (number, names) in names.iter().enumerate() {
+            if names.touched & space.members != 0 {
+                self.edges.add_action(&record.action(number), names, &grid, sizes);
+            }
+        }
+        let fixed = named(record.goal()) & space.members;
+        let lowest = grid.place(record.goal(), fixed);
+        let (from, to) = self.edges.offsets_of(space.members & !fixed, &grid, sizes);
+        let goals = &self.edges.offsets[from as usize..to as usize];
+        self.queue.clear();
+        self.queue.extend(goals.iter().map(|offset| lowest + offset));
+        match only_cost(&self.edges.weights) {
+            _ if self.queue.len() == space.states => table.fill(0),
+            None if !self.edges.weights.is_empty() => self.by_costs(&grid, sizes, table),
+            cost => self.by_levels(&grid, sizes, cost, table),
+        }
+    }
+
+    /// All actions cost the same, or there are none.
+    fn by_levels(&mut self, grid: &Grid, sizes: &Row, cost: Option<u8>, table: &mut [u32]) {
+        self.levels.clear();
+        self.levels.resize(grid.places, OPEN);
+        self.queue.iter().for_each(|&place| self.levels[usize::from(place)] = 0);
+        if cost.is_some() {
+            let goals = self.queue.len();
+            self.queue.resize(table.len(), 0);
+            let queue = Queue::of(&mut self.levels, &mut self.queue, goals);
+            self.edges.settle(grid, sizes, queue);
+        }
+        let rows = self.levels.chunks_exact(1 << grid.shift);
+        let rows = table.chunks_exact_mut(grid.width).zip(rows);
+        match u32::from(cost.unwrap_or(1)) {
+            1 => rows.for_each(|(entries, levels)| tell(entries, levels, |level| level)),
+            cost => rows.for_each(|(entries, levels)| tell(entries, levels, |level| level * cost)),
+        }
+    }
+
+    fn by_costs(&mut self, grid: &Grid, sizes: &Row, table: &mut [u32]) {
+        self.costs.clear();
+        self.costs.resize(grid.places, INFINITE);
+        let weights = std::mem::take(&mut self.edges.weights);
+        let (nodes, goals) = (&mut self.nodes, &self.queue);
+        let buckets = Buckets::of(&mut self.costs, &weights, nodes, goals, table.len());
+        self.edges.settle(grid, sizes, buckets);
+        self.edges.weights = weights;
+        let rows = self.costs.chunks_exact(1 << grid.shift);
+        for (entries, costs) in table.chunks_exact_mut(grid.width).zip(rows) {
+            entries.copy_from_slice(&costs[..grid.width]);
+        }
+    }
+}
+
 /// Builds the tables of all patterns; there is room for them.
-pub fn build(record: &Record, spaces: &Spaces, tables: &mut [u16]) {
+pub fn build(record: &Record, spaces: &Spaces, tables: &mut [u32]) {
     if spaces.iter().next().is_none() {
         return;
     }

@@ -89,6 +89,16 @@ impl Lines<'_> {
         None
     }
 
+    /// The cost of an action, 1 where the line is left out.
+    #[inline(always)]
+    fn cost(&mut self) -> Result<u8, Refusal> {
+        const KEY: &[u8] = b"cost=";
+        match self.text.get(self.at..) {
+            Some(rest) if rest.starts_with(KEY) => Ok(self.number(KEY, 1, 255)? as u8),
+            _ => Ok(1),
+        }
+    }
+
     /// Pairs of ascending variables and values below their sizes; sizes are 0
     /// beyond the variables.
     #[inline(always)]
@@ -237,10 +247,12 @@ fn fill(text: &[u8], cells: &mut [u8; LENGTH]) -> Result<(), Refusal> {
     *row::<SIZES>(cells) = sizes;
     let actions = lines.number(b"moves=", 0, MOST_ACTIONS.into())? as usize;
     cells[ACTIONS] = actions as u8;
-    let (moves, _) = cells[MOVES..].as_chunks_mut::<MOVE>();
-    for [count, cells @ ..] in &mut moves[..actions] {
+    let (moves, costs) = cells[MOVES..].split_at_mut(COSTS - MOVES);
+    let (moves, _) = moves.as_chunks_mut::<MOVE>();
+    for ([count, cells @ ..], cost) in moves[..actions].iter_mut().zip(costs) {
         let (rows, _) = cells.as_chunks_mut::<16>();
         lines.pairs(b"need=", &sizes, &mut rows[0])?;
+        *cost = lines.cost()?;
         *count = lines.number(b"outcomes=", 1, MOST_OUTCOMES.into())? as u8;
         for outcome in &mut rows[1..1 + usize::from(*count)] {
             lines.pairs(b"eff=", &sizes, outcome)?;
@@ -254,7 +266,7 @@ fn fill(text: &[u8], cells: &mut [u8; LENGTH]) -> Result<(), Refusal> {
     for members in &mut rows[..patterns] {
         lines.members(variables, members)?;
     }
-    cells[LIMIT] = lines.number(b"limit=", 0, MOST_LIMIT.into())? as u8;
+    cells[LIMIT] = lines.number(b"limit=", 0, u8::MAX.into())? as u8;
     let budget = lines.number(b"budget=", 0, MOST_BUDGET)?;
     cells[BUDGET..SIZES].copy_from_slice(&budget.to_le_bytes());
     match text.len() {

@@ -56,7 +56,7 @@ impl<'a> Writer<'a> {
         for outcome in step.first..step.end {
             let after = search.task.after(state, outcome);
             let value = rest + search.task.cost(step.field, after);
-            end = self.write(search, after, value, depth - 1, end);
+            end = self.write(search, after, value, depth - step.cost, end);
         }
         self.written[slot] = Written { state, depth, begin: at as u32, end: end as u32 };
         end

@@ -1,7 +1,7 @@
 //! Damaged texts, records and states.
 
 use super::Random;
-use crate::brute::record::{LENGTH, ROW};
+use crate::brute::record::{COSTS, LENGTH, ROW};
 
 /// Bytes that mean something in a text, and some that never do.
 const TEXT_BYTES: &[u8] = b"0123456789,:=\n\r +-.sveg\0\xff";
@@ -23,7 +23,12 @@ pub const NUMBERS: &[&str] = &[
     "33",
     "64",
     "65",
+    "254",
+    "255",
     "256",
+    "257",
+    "511",
+    "512",
     "1000000",
     "1000001",
     "9999999",
@@ -107,7 +112,7 @@ fn split(text: &[u8]) -> Vec<Vec<u8>> {
 fn damaged_lines(random: &mut Random, text: &[u8]) -> Vec<u8> {
     let mut lines = split(text);
     let line = random.below(lines.len());
-    match random.below(8) {
+    match random.below(10) {
         0 => {
             lines.remove(line);
         }
@@ -119,9 +124,26 @@ fn damaged_lines(random: &mut Random, text: &[u8]) -> Vec<u8> {
             let other = random.below(lines.len());
             lines.swap(line, other);
         }
+        3 => lines.insert(line, cost_line(random)),
+        4 => {
+            let behind = behind_a_need(random, &lines);
+            lines.insert(behind, cost_line(random));
+        }
         _ => give_value(random, &mut lines[line]),
     }
     lines.join(&b'\n')
+}
+
+/// A line with a cost, which is mostly none that a move can have.
+fn cost_line(random: &mut Random) -> Vec<u8> {
+    [b"cost=", random.pick(NUMBERS).as_bytes()].concat()
+}
+
+/// A place where a cost may stand: behind one of the needs, if there is any.
+fn behind_a_need(random: &mut Random, lines: &[Vec<u8>]) -> usize {
+    let is_need = |&line: &usize| lines[line].starts_with(b"need=");
+    let needs: Vec<usize> = (0..lines.len()).filter(is_need).collect();
+    if needs.is_empty() { random.below(lines.len()) } else { 1 + random.pick(&needs) }
 }
 
 /// Gives a line another value, mostly one of the kind that is due there.
@@ -163,10 +185,12 @@ pub fn text(random: &mut Random, text: &[u8]) -> Vec<u8> {
 
 /// A length other than the right one.
 fn wrong_length(random: &mut Random, right: usize) -> usize {
-    match random.below(4) {
+    match random.below(5) {
         0 => right - 1,
         1 => random.below(right),
         2 => 0,
+        // As long as the costs of a record, for that is where one form ends.
+        3 => right.saturating_sub(random.within(1..=64)),
         _ => right + random.within(1..=40),
     }
 }
@@ -180,24 +204,31 @@ fn resize(random: &mut Random, bytes: &mut Vec<u8>, length: usize) {
 
 /// An offset of the record; the crowded cells in front come up more often.
 fn offset(random: &mut Random) -> usize {
-    match random.below(4) {
+    match random.below(6) {
         0 => random.below(8),
         1 => random.below(200),
         2 => random.within(184..=184 + 4 * 145),
+        3 => random.within(COSTS..=COSTS + 8),
+        4 => random.within(COSTS..=LENGTH - 1),
         _ => random.below(LENGTH),
     }
 }
 
-/// A record with one to three cells changed, or of another length.
+/// A record of either form with one to three cells changed, or of another length.
 pub fn record(random: &mut Random, record: &[u8]) -> Vec<u8> {
     let mut damaged = record.to_vec();
     if random.once_in(6) {
-        let length = wrong_length(random, LENGTH);
+        let length = wrong_length(random, record.len());
         resize(random, &mut damaged, length);
         return damaged;
     }
+    if damaged.len() == LENGTH && random.once_in(8) {
+        let cost = &mut damaged[COSTS + random.below(LENGTH - COSTS)];
+        *cost = if *cost == 0 { random.within(1..=255) as u8 } else { 0 };
+        return damaged;
+    }
     for _ in 0..random.within(1..=3) {
-        let place = offset(random);
+        let place = offset(random) % damaged.len();
         damaged[place] = if random.once_in(4) { random.byte() } else { random.pick(CELL_BYTES) };
     }
     damaged

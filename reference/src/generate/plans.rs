@@ -3,7 +3,7 @@
 use super::Random;
 use crate::brute::costs::{self, INFINITE};
 use crate::brute::plan::{ARRIVED, Plan};
-use crate::brute::task::{State, Task, after};
+use crate::brute::task::{Action, State, Task, after};
 
 /// No generated plan is longer than about this.
 const MOST_BYTES: usize = 400;
@@ -66,45 +66,74 @@ pub fn damaged(random: &mut Random, task: &Task, plan: &[u8]) -> Vec<u8> {
     damaged
 }
 
-/// A cheapest plan from a state of finite cost, by the exact costs: at each
-/// state an action whose worst outcome costs 1 less.
+/// The action that a cheapest plan takes at a state of finite cost that is no
+/// goal, by the exact costs: with its worst outcome it costs as much as the state.
+fn cheapest_action(task: &Task, costs: &[u32], from: &State) -> usize {
+    let is_cheapest = |action: &Action| {
+        let cost = |outcome| costs[task.index(&after(from, outcome))];
+        let worst = action.outcomes.iter().map(cost).max().unwrap_or(INFINITE);
+        let whole = worst.saturating_add(action.cost.into());
+        task.applies(action, from) && whole == costs[task.index(from)]
+    };
+    task.actions.iter().position(is_cheapest).expect("a finite cost is that of an action")
+}
+
+/// A cheapest plan from a state, unless its cost is infinite.
 pub fn cheapest(task: &Task, costs: &[u32], from: &State) -> Option<Plan> {
-    let cost = costs[task.index(from)];
     if task.is_goal(from) {
         return Some(Plan::Arrived);
     }
-    if cost == INFINITE {
+    if costs[task.index(from)] == INFINITE {
         return None;
     }
-    task.actions.iter().enumerate().find_map(|(number, action)| {
-        let next = |outcome| after(from, outcome);
-        let cheaper = |outcome| costs[task.index(&next(outcome))] < cost;
-        if !task.applies(action, from) || !action.outcomes.iter().all(cheaper) {
-            return None;
-        }
-        let plans = action.outcomes.iter().map(|o| cheapest(task, costs, &next(o)));
-        Some(Plan::Act(number as u8, plans.collect::<Option<_>>()?))
-    })
+    let number = cheapest_action(task, costs, from);
+    let outcomes = task.actions[number].outcomes.iter();
+    let plans = outcomes.map(|outcome| cheapest(task, costs, &after(from, outcome)));
+    Some(Plan::Act(number as u8, plans.collect::<Option<_>>()?))
 }
 
-/// A cheapest plan's bytes, for tasks with few states and plans not too deep.
+/// The bytes that the cheapest plans of all states take, as far as they can be
+/// counted; those of states without a plan count as none.
+fn lengths(task: &Task, costs: &[u32]) -> Vec<u32> {
+    let mut states: Vec<(usize, State)> = task.all_states().into_iter().enumerate().collect();
+    states.sort_by_key(|&(place, _)| costs[place]);
+    let mut lengths = vec![0; costs.len()];
+    for (place, state) in states {
+        if costs[place] == INFINITE {
+            break;
+        }
+        lengths[place] = 1;
+        if task.is_goal(&state) {
+            continue;
+        }
+        for outcome in &task.actions[cheapest_action(task, costs, &state)].outcomes {
+            let next: u32 = lengths[task.index(&after(&state, outcome))];
+            lengths[place] = next.saturating_add(lengths[place]);
+        }
+    }
+    lengths
+}
+
+/// The bytes that a cheapest plan of a state takes, unless its cost is infinite.
+pub fn cheapest_length(task: &Task, costs: &[u32], from: &State) -> Option<u32> {
+    let place = task.index(from);
+    (costs[place] != INFINITE).then(|| lengths(task, costs)[place])
+}
+
+/// A cheapest plan's bytes, for tasks with few states and plans not too bushy.
+/// It may be too deep to pass: a path has up to one move for each other state.
 pub fn cheapest_bytes(task: &Task, from: &State) -> Option<Vec<u8>> {
-    if task.states() > 256 {
+    if task.states() > 400 {
         return None;
     }
     let costs = costs::costs(task);
-    // A tree of that depth has at most 4,096 arrivals; a path may pass 32.
-    let outcomes = task.actions.iter().map(|a| a.outcomes.len()).max().unwrap_or(1);
-    let most = if outcomes == 1 { 40 } else { 4_096_usize.ilog(outcomes) };
-    if costs[task.index(from)] > most {
-        return None;
-    }
+    cheapest_length(task, &costs, from).filter(|&length| length <= 8_192)?;
     cheapest(task, &costs, from).map(|plan| plan.bytes())
 }
 
 /// A plan for the turntable with as many turns as told before it ends.
 pub fn turning(task: &Task, from: &State, turns: usize) -> Vec<u8> {
-    let turn = |number: usize| (from[0] + number as u8) % 2;
+    let turn = |number: usize| (usize::from(from[0]) + number) as u8 % 2;
     let mut plan: Vec<u8> = (0..turns).map(turn).collect();
     plan.push(2);
     plan.extend(vec![ARRIVED; task.actions[2].outcomes.len()]);

@@ -2,6 +2,7 @@
 
 use super::Random;
 use crate::brute::spread::COUNTS;
+use crate::compare::counts::Counts;
 
 /// Numbers that are those of the first pattern, or just not, to anyone who
 /// keeps only 3, 8, 16, 32 or 63 bits of them.
@@ -26,7 +27,7 @@ pub fn far_number(random: &mut Random, patterns: u64) -> u64 {
 /// A length of rows: mostly enough, exactly or with some to spare.
 fn row_length(random: &mut Random) -> usize {
     match random.below(16) {
-        0 => 0,
+        0 => random.pick(&[0, 4_097]),
         1 => COUNTS - 1,
         2 => random.below(COUNTS),
         3..=6 => COUNTS + 1,
@@ -37,7 +38,7 @@ fn row_length(random: &mut Random) -> usize {
 
 /// A row with one number throughout, so that it prints short. It is mostly
 /// no count, so that one that is not written shows.
-pub fn row(random: &mut Random) -> Vec<u32> {
+pub fn row(random: &mut Random) -> Counts {
     let held = random.draw() as u32;
-    vec![held; row_length(random)]
+    Counts::filled(held, row_length(random))
 }

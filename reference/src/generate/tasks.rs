@@ -2,7 +2,7 @@
 
 use std::ops::RangeInclusive;
 
-use super::{Random, restating};
+use super::{Random, costs, restating};
 use crate::brute::tables::MOST_STATES;
 use crate::brute::task::{Action, Assignment, State, Task};
 
@@ -123,6 +123,7 @@ fn loose_action(random: &mut Random, task: &Task, may: &[bool], outcomes: usize)
             let often = random.within(1..=5);
             assignment(random, &task.sizes, often)
         },
+        cost: 1,
     }
 }
 
@@ -150,7 +151,7 @@ fn step_action(random: &mut Random, task: &Task, may: &[bool], outcomes: usize) 
         names
     };
     let outcomes = (0..outcomes).map(&mut outcome).collect();
-    Action { precondition, outcomes }
+    Action { precondition, outcomes, cost: 1 }
 }
 
 /// An action that brings one variable nearer to its value in the goal. Its
@@ -185,7 +186,7 @@ fn nearing_action(
         names
     };
     let outcomes = (0..outcomes).map(&mut outcome).collect();
-    Action { precondition, outcomes }
+    Action { precondition, outcomes, cost: 1 }
 }
 
 /// The variables of the goal with each distance from it, in any order.
@@ -260,6 +261,7 @@ fn actions(random: &mut Random, task: &Task, shape: &Shape) -> Vec<Action> {
     }
 }
 
+/// A limit in reach of moves that cost 1.
 fn limit(random: &mut Random) -> u8 {
     if random.once_in(3) { 32 } else { random.within(0..=32) as u8 }
 }
@@ -325,7 +327,7 @@ pub fn corridors(random: &mut Random) -> Task {
             if random.once_in(6) {
                 outcomes.push(names(value(random, size)));
             }
-            actions.push(Action { precondition: names(from), outcomes });
+            actions.push(Action { precondition: names(from), outcomes, cost: 1 });
         }
     }
     let own = |v: usize| (0..variables).map(|other| other == v).collect();
@@ -350,6 +352,7 @@ pub fn counter(random: &mut Random, variables: usize) -> Task {
         Action {
             precondition: (0..variables).map(precondition).collect(),
             outcomes: vec![(0..variables).map(outcome).collect()],
+            cost: 1,
         }
     };
     let sizes = vec![2; variables];
@@ -370,10 +373,12 @@ pub fn turntable(random: &mut Random) -> Task {
     let turn = |from: u8| Action {
         precondition: vec![Some(from), None],
         outcomes: vec![vec![Some(1 - from), None]],
+        cost: 1,
     };
     let end = Action {
         precondition: vec![None, None],
         outcomes: vec![vec![None, Some(1)]; random.within(1..=3)],
+        cost: 1,
     };
     Task {
         sizes: vec![2, 2],
@@ -398,7 +403,7 @@ fn wide(random: &mut Random) -> Task {
 
 /// A task with few enough states for the exact cost of each.
 pub fn small(random: &mut Random) -> Task {
-    match random.below(24) {
+    let task = match random.below(24) {
         0 => turntable(random),
         1 => {
             let variables = random.within(1..=7);
@@ -409,12 +414,14 @@ pub fn small(random: &mut Random) -> Task {
             restating::restated(random, task)
         }
         _ => task(random, &SMALL),
-    }
+    };
+    costs::costly(random, task)
 }
 
-/// A task of any kind; the counter is rare, for its tables take long.
-pub fn any(random: &mut Random) -> Task {
-    match random.below(40) {
+/// A task of any kind but the small ones, with costs of 1; the counter is rare,
+/// for its tables take long.
+fn larger_kind(random: &mut Random) -> Task {
+    match random.below(9) {
         0 => {
             let longest = random.once_in(40);
             let variables = if longest { 12 } else { random.within(8..=10) };
@@ -426,11 +433,19 @@ pub fn any(random: &mut Random) -> Task {
             let task = task(random, &LARGE);
             restating::restated(random, task)
         }
-        5..=7 => corridors(random),
         8 => {
             let task = corridors(random);
             restating::restated(random, task)
         }
-        _ => small(random),
+        _ => corridors(random),
     }
+}
+
+/// A task of any kind.
+pub fn any(random: &mut Random) -> Task {
+    if random.below(40) >= 9 {
+        return small(random);
+    }
+    let task = larger_kind(random);
+    costs::costly(random, task)
 }

@@ -1,8 +1,10 @@
 //! What several test files need. Each of them uses a part of it.
 #![allow(dead_code)]
 
+pub mod cost_faults;
 pub mod restating_faults;
 pub mod spread_faults;
+pub mod upgrade_faults;
 
 use reference::answer::Answer;
 use reference::brute::record::LENGTH;
@@ -35,7 +37,7 @@ pub fn refused(number: u64, at: u64) -> Answer {
     Answer { number, first, ..Answer::default() }
 }
 
-pub fn build(text: &str) -> Vec<u16> {
+pub fn build(text: &str) -> Vec<u32> {
     let mut tables = vec![0; 40_000];
     let answer = Brute.build_tables(&record(text), &mut tables);
     assert_eq!(answer.number, 0);

@@ -18,12 +18,14 @@ pub enum SpreadFault {
     TestsTheRowFirst,
     BuildsBeforeTheRowIsTested,
     LeavesTablesAsLent,
+    CountsAsBeforeCosts,
+    KeepsSixteenBitsOfTheValue,
 }
 
 use SpreadFault::*;
 
 impl SpreadFault {
-    pub const ALL: [SpreadFault; 11] = [
+    pub const ALL: [SpreadFault; 13] = [
         KeepsEightBitsOfTheNumber,
         KeepsThirtyTwoBitsOfTheNumber,
         RefusesANumberWithoutPattern,
@@ -35,13 +37,15 @@ impl SpreadFault {
         TestsTheRowFirst,
         BuildsBeforeTheRowIsTested,
         LeavesTablesAsLent,
+        CountsAsBeforeCosts,
+        KeepsSixteenBitsOfTheValue,
     ];
 
     pub fn spread(
         self,
         record: &[u8],
         pattern: u64,
-        tables: &mut [u16],
+        tables: &mut [u32],
         row: &mut [u32],
     ) -> Answer {
         let found = row.to_vec();
@@ -77,6 +81,17 @@ impl SpreadFault {
             }
             ClearsTheWholeRow => row[COUNTS..].fill(0),
             LosesInfiniteStates => row[COUNTS - 1] = 0,
+            // Values from 0 to 4,095, then the infinite states.
+            CountsAsBeforeCosts => {
+                row[4_096] = row[COUNTS - 1];
+                row[4_097..].copy_from_slice(&found[4_097..]);
+            }
+            KeepsSixteenBitsOfTheValue => {
+                for value in 65_536..COUNTS - 1 {
+                    let count = std::mem::take(&mut row[value]);
+                    row[value % 65_536] += count;
+                }
+            }
             _ => {}
         }
         answer

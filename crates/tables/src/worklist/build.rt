@@ -10,7 +10,7 @@ use crate::worklist::edge::NO_EDGE;
 use crate::worklist::edges::edge_count;
 use crate::worklist::goals::put_goals;
 use crate::worklist::parts::parts_of;
-use crate::worklist::queue::Ring;
+use crate::worklist::queue::WaitingStates;
 use crate::worklist::settle::{Room, settle};
 use crate::worklist::states::States;
 use patterns::entry::Entry;
@@ -51,8 +51,8 @@ fn build_goals<const STATES: usize>(pattern: &Pattern, entries: &mut [Entry])
     ensures { (words : List ℕ) → WordsOf pattern.now words → entries.new ≡ started pattern.now.task pattern.now.mask words (length entries.old) }
 {
     let weights = weights_of(pattern);
-    let mut ring: Ring<STATES> = Ring::new(entries.len());
-    put_goals(pattern, &weights, entries, &mut ring);
+    let mut queue: WaitingStates<STATES, 1> = WaitingStates::new(entries.len(), 0);
+    put_goals(pattern, &weights, entries, &mut queue);
 }
 
 // The table of a pattern of few states and edges. Each size has a number of states of its own, and the functions that go by it are compiled for that size

@@ -104,6 +104,7 @@ fn way_back(gain: usize, loss: usize) -> u16
 
 // The edge of outcome o of action m, unless an earlier outcome does the same; it does not know yet which are the edges of the action.
 fn edge_of(states: &States, m: ActionNumber, o: OutcomeNumber) -> Option<Edge>
+    requires { m.number < states.now.pattern.now.actions }
     ensures some { IfSome result (EdgeFor states.now.pattern.now.task states.now.pattern.now.mask states.now.weights.now states.now.pattern.now.sizes m.number o.number) }
     ensures none { IfNone result ((p : ℕ) × (p < o.number) × Same states.now.pattern.now.task states.now.pattern.now.mask m.number p o.number) }
 {
@@ -124,7 +125,7 @@ fn edge_of(states: &States, m: ActionNumber, o: OutcomeNumber) -> Option<Edge>
         index_of_few(weights, value & names),
         index_of_few(weights, sets),
     );
-    let weight = weight(task, m).min(u64::from(u16::MAX)) as u16;
+    let weight = weight(task, m) as u16;
     let one = lane_of(weights, sizes, names - (need & names));
     let two = lane_of(weights, sizes, one.rest);
     Some(Edge {

@@ -1,28 +1,51 @@
 // The worklist: the goals have 0 and wait; a state that waits is taken, and the actions that lead to it are asked about the states before it; an
 // entry that falls waits. It ends when no state waits, or none that waits can lower an entry. The order in which states are taken carries no proof.
-ghost use Rattle.std.specs.Prelude.{◌≡◌, ◌/◌, ◌<◌, ◌≤◌, true, length, slice_index};
+ghost use Rattle.std.specs.Prelude.{◌≡◌, ℕ, ◌/◌, ◌<◌, ◌≤◌, true, length, slice_index};
 ghost use Rattle.tables.specs.Steps.{started, Settled};
 ghost use Rattle.tables.specs.Waiting.{Kept};
+ghost use Rattle.tables.specs.Edges.{edge_weight};
 ghost use Rattle.tables.specs.Incoming.{Row};
 ghost use Rattle.tables.specs.Patterned.{states_of};
 ghost use Rattle.tables.specs.Listed.{SplitAt, Roomy, space_in};
-ghost use Rattle.tables.specs.Visits.{RowDone, Visited, Level};
+ghost use Rattle.tables.specs.Visits.{RowDone, Visited, Level, Weighing};
 
 use crate::worklist::edge::Edge;
 use crate::worklist::edges::{Graph, fill_edges};
 use crate::worklist::goals::put_goals;
 use crate::worklist::incoming::{Halves, edges_into, fill_sets, upper_part};
 use crate::worklist::parts::Parts;
-use crate::worklist::queue::Ring;
+use crate::worklist::queue::WaitingStates;
 use crate::worklist::states::States;
 use crate::worklist::visits::{Worklist, is_plain};
 use packed_task::sets::Members;
 use patterns::entry::{Entry, INFINITE};
 
-// Whether no state that waits can lower an entry: none is more than 1 above the least that waits.
-fn is_level(entries: &[Entry], marks: &[bool]) -> bool
+// The least and the largest weight of some edges.
+#[derive(Clone, Copy)]
+struct Weights {
+    least: u16,
+    most: u16,
+}
+
+// Those of the first k edges.
+fn weights_among(edges: &[Edge], k: usize) -> Weights
+    requires { k ≤ length edges.now }
+    ensures { (e : ℕ) → e < k → result.least ≤ edge_weight edges.now e }
+{
+    let mut least = u16::MAX;
+    let mut most = 0u16;
+    for e in 0..k {
+        let weight = edges[e].weight;
+        least = least.min(weight);
+        most = most.max(weight);
+    }
+    Weights { least, most }
+}
+
+// Whether no state that waits can lower an entry, where an action weighs at least so much: none is more than that above the least that waits.
+fn is_level(entries: &[Entry], marks: &[bool], weight: u16) -> bool
     requires { length entries.now ≤ length marks.now }
-    ensures { result ≡ true → Level entries.now marks.now }
+    ensures { result ≡ true → Level entries.now marks.now weight }
 {
     let mut most = 0u64;
     let mut least = u64::from(INFINITE);
@@ -33,10 +56,10 @@ fn is_level(entries: &[Entry], marks: &[bool]) -> bool
             least = least.min(e);
         }
     }
-    most <= least + 1
+    most <= least + u64::from(weight)
 }
 
-impl<'a, const N: usize> Worklist<'a, N> {
+impl<'a, const N: usize, const L: usize> Worklist<'a, N, L> {
     ghost use Rattle.tables.specs.Worklist.{Goes};
 
     // The edges of a set, of the 64 from 64 * c on, without those below number `from` of these.
@@ -97,25 +120,25 @@ impl<'a, const N: usize> Worklist<'a, N> {
         self.visit_set(j, entry, 0, set);
     }
 
-    // Takes the waiting states one by one. When as many were taken or wait as there are states, each is likely to have its entry, and one look at all
-    // of them may show that no other can fall; that look is made once for as many states.
-    fn run(&mut self)
-        requires { Kept self.old.graph.now.space self.old.entries.now self.old.entries.now self.old.ring.now.marks }
+    // Takes the waiting states one by one; an action weighs at least `least`. When as many were taken or wait as there are states, each is likely to have
+    // its entry, and one look at all of them may show that no other can fall; that look is made once for as many states.
+    fn run(&mut self, least: u16)
+        requires { (Kept self.old.graph.now.space self.old.entries.now self.old.entries.now self.old.queue.now.marks) × Weighing self.old.graph.now.space least }
         ensures same_entries { self.new.entries.ghost_name ≡ self.old.entries.ghost_name }
-        ensures same_ring { self.new.ring.ghost_name ≡ self.old.ring.ghost_name }
+        ensures same_queue { self.new.queue.ghost_name ≡ self.old.queue.ghost_name }
         ensures settled { Settled self.old.graph.now.space self.old.entries.now self.new.entries.now }
     {
         let graph = self.graph;
         let n = graph.n;
         let mut since = 0usize;
-        // Stays: no iterator: the loop goes on while the ring is not empty, and puts states back into it.
-        while let Some(j) = self.ring.take() {
+        // Stays: no iterator: the loop goes on while states wait, and makes states wait again.
+        while let Some(j) = self.queue.take() {
             self.visit(j);
             since += 1;
-            if since + self.ring.count >= n {
+            if since + self.queue.count >= n {
                 let entries = &mut *self.entries;
-                let ring = &mut *self.ring;
-                if is_level(entries, &ring.marks) {
+                let queue = &mut *self.queue;
+                if is_level(entries, &queue.marks, least) {
                     return;
                 }
                 since = 0;
@@ -124,19 +147,52 @@ impl<'a, const N: usize> Worklist<'a, N> {
     }
 }
 
-// The goals are 0 and wait first, and then what can be lowered is.
+// The goals are 0 and wait first, and then what can be lowered is. Where the weights differ, L is N, else 1.
+// Like `build_within` it is compiled into no other, so that a table of equal weights touches no page of the lists.
+#[inline(never)]
+fn settle_by<const N: usize, const L: usize>(
+    states: &States,
+    graph: &Graph,
+    entries: &mut [Entry],
+    weights: Weights,
+)
+    requires { (graph.now.space ≡ space_in states.now.pattern.now states.now.weights.now states.now.words.now) × (graph.now.number ≡ length entries.old) × (length entries.old ≡ states_of states.now.pattern.now) × (length entries.old ≤ N) × (1 ≤ N) × (N ≤ 4096) × (1 ≤ L) × (L ≤ 4096) × Weighing graph.now.space weights.least }
+    ensures { Settled graph.now.space (started graph.now.space.task graph.now.space.mask graph.now.space.states (length entries.old)) entries.new }
+{
+    let mut queue: WaitingStates<N, L> = WaitingStates::new(graph.n, weights.most);
+    put_goals(states.pattern, states.weights, entries, &mut queue);
+    let mut work = Worklist {
+        graph,
+        entries,
+        queue: &mut queue,
+    };
+    work.run(weights.least);
+}
+
+// The same with the lists of an order by entry, in few sizes: the code of the worklist is there once for each.
+fn settle_listed(states: &States, graph: &Graph, entries: &mut [Entry], weights: Weights)
+    requires { (graph.now.space ≡ space_in states.now.pattern.now states.now.weights.now states.now.words.now) × (graph.now.number ≡ length entries.old) × (length entries.old ≡ states_of states.now.pattern.now) × (length entries.old ≤ 4096) × Weighing graph.now.space weights.least }
+    ensures { Settled graph.now.space (started graph.now.space.task graph.now.space.mask graph.now.space.states (length entries.old)) entries.new }
+{
+    if entries.len() <= 64 {
+        return settle_by::<64, 64>(states, graph, entries, weights);
+    }
+    if entries.len() <= 1024 {
+        return settle_by::<1024, 1024>(states, graph, entries, weights);
+    }
+    settle_by::<4096, 4096>(states, graph, entries, weights)
+}
+
+// The same, with lists only where the weights differ.
 fn settle_started<const N: usize>(states: &States, graph: &Graph, entries: &mut [Entry])
     requires { (graph.now.space ≡ space_in states.now.pattern.now states.now.weights.now states.now.words.now) × (graph.now.number ≡ length entries.old) × (length entries.old ≡ states_of states.now.pattern.now) × (length entries.old ≤ N) × (1 ≤ N) × (N ≤ 4096) }
     ensures { Settled graph.now.space (started graph.now.space.task graph.now.space.mask graph.now.space.states (length entries.old)) entries.new }
 {
-    let mut ring: Ring<N> = Ring::new(graph.n);
-    put_goals(states.pattern, states.weights, entries, &mut ring);
-    let mut work = Worklist {
-        graph,
-        entries,
-        ring: &mut ring,
-    };
-    work.run();
+    let weights = weights_among(graph.edges, graph.k);
+    if weights.least < weights.most {
+        return settle_listed(states, graph, entries, weights);
+    }
+    settle_by::<N, 1>(states, graph, entries, weights)
 }
 
 // The arrays that a table takes: for the edges, and for their sets.

@@ -1,5 +1,5 @@
 // The states before a state: the actions that lead to it are asked about them, and an entry above an action's Bellman value is lowered and waits.
-// Stays: `as`: an index has no `From` into what is narrower, nor a `u32` into an index, and `try_from` has a case that never happens.
+// Stays: `as`: an index has no `From` into what is narrower, and `try_from` has a case that never happens.
 ghost use Rattle.std.specs.Prelude.{◌≡◌, ℕ, ◌+◌, ◌-◌, ◌*◌, ◌^◌, ◌<◌, ◌≤◌, true, length, drop, slice_index};
 ghost use Rattle.planning.specs.Table.{infinite_entry};
 ghost use Rattle.tables.specs.Steps.{weigh, permitted_at};
@@ -9,26 +9,26 @@ ghost use Rattle.tables.specs.Visits.{above, way_forward, BellmanValue, Lowers, 
 use crate::steps::{raise, times};
 use crate::worklist::edge::Edge;
 use crate::worklist::edges::Graph;
-use crate::worklist::queue::Ring;
+use crate::worklist::queue::WaitingStates;
 use packed_task::numbers::ActionNumber;
 use packed_task::within::permits;
 use patterns::entry::{Entry, INFINITE, entry_at};
 
-// What goes on while states wait: the graph, the entries of its states so far, and the ring of those that wait.
+// What goes on while states wait: the graph, the entries of its states so far, and those that wait.
 #[derive(Drop)]
-pub(crate) struct Worklist<'a, const N: usize> {
+pub(crate) struct Worklist<'a, const N: usize, const L: usize> {
     pub(crate) graph: &'a Graph<'a>,
     pub(crate) entries: &'a mut [Entry],
-    pub(crate) ring: &'a mut Ring<N>,
+    pub(crate) queue: &'a mut WaitingStates<N, L>,
     ghost all: { graph.now.number ≡ length entries.now },
-    ghost ring_states: { ring.now.states ≡ length entries.now },
+    ghost queue_states: { queue.now.states ≡ length entries.now },
 }
 
 // Edge e into state j, whose entry is `entry`.
 // Stays: numbers narrower than an index: with fields of a `usize` there is a gap that is cleared for each edge, and going along one takes up to 1.18.
 #[derive(Clone, Copy)]
 struct Arrival {
-    e: u32,
+    e: u16,
     j: u16,
     entry: Entry,
 }
@@ -111,9 +111,15 @@ fn bellman_value_along(
 // each store, and tables of 16^3 states take 1.06 times the instructions. The bounds of e, i and j, here and below, are each of a single number that
 // an index needs.
 #[inline(never)]
-fn ask<const N: usize>(graph: &Graph, entries: &mut [Entry], ring: &mut Ring<N>, e: usize, i: usize)
-    requires { (e < graph.now.edge_number) × (i < length entries.old) × (graph.now.number ≡ length entries.old) × (ring.old.states ≡ length entries.old) }
-    ensures { (Asked graph.now.space (edge_action graph.now.edges e) i entries.old ring.old.marks ring.old.count entries.new ring.new.indices ring.new.marks ring.old.head ring.new.count) × (ring.new.states ≡ ring.old.states) × (ring.new.head ≡ ring.old.head) }
+fn ask<const N: usize, const L: usize>(
+    graph: &Graph,
+    entries: &mut [Entry],
+    queue: &mut WaitingStates<N, L>,
+    e: usize,
+    i: usize,
+)
+    requires { (e < graph.now.edge_number) × (i < length entries.old) × (graph.now.number ≡ length entries.old) × (queue.old.states ≡ length entries.old) }
+    ensures { (Asked graph.now.space (edge_action graph.now.edges e) i entries.old queue.old.marks queue.old.count entries.new queue.new.marks queue.new.count) × (queue.new.states ≡ queue.old.states) }
 {
     let states = graph.states;
     let edge = graph.edges[e];
@@ -123,27 +129,27 @@ fn ask<const N: usize>(graph: &Graph, entries: &mut [Entry], ring: &mut Ring<N>,
     if !permits(graph.task, graph.mask, action, states[i]) {
         return;
     }
-    let v = bellman_value_along(graph, entries, &ring.marks, e, i);
+    let v = bellman_value_along(graph, entries, &queue.marks, e, i);
     if v >= entries[i] {
         return;
     }
     entries[i] = v;
-    ring.put(i);
+    queue.put(i, v);
 }
 
 // The action of edge e, which has no other edge and leads from state i on, is asked about i: entry i falls to the value along the
 // edge, if the action is permitted.
 #[inline(always)]
-fn ask_only<const N: usize>(
+fn ask_only<const N: usize, const L: usize>(
     graph: &Graph,
     entries: &mut [Entry],
-    ring: &mut Ring<N>,
+    queue: &mut WaitingStates<N, L>,
     e: usize,
     i: usize,
     value: u64,
 )
-    requires { (e < graph.now.edge_number) × (i < length entries.old) × (graph.now.number ≡ length entries.old) × (ring.old.states ≡ length entries.old) × (Only graph.now.space graph.now.edges entries.old e i value) }
-    ensures { (Asked graph.now.space (edge_action graph.now.edges e) i entries.old ring.old.marks ring.old.count entries.new ring.new.indices ring.new.marks ring.old.head ring.new.count) × (ring.new.states ≡ ring.old.states) × (ring.new.head ≡ ring.old.head) }
+    requires { (e < graph.now.edge_number) × (i < length entries.old) × (graph.now.number ≡ length entries.old) × (queue.old.states ≡ length entries.old) × (Only graph.now.space graph.now.edges entries.old e i value) }
+    ensures { (Asked graph.now.space (edge_action graph.now.edges e) i entries.old queue.old.marks queue.old.count entries.new queue.new.marks queue.new.count) × (queue.new.states ≡ queue.old.states) }
 {
     let states = graph.states;
     let edge = graph.edges[e];
@@ -154,33 +160,33 @@ fn ask_only<const N: usize>(
         return;
     }
     entries[i] = value as Entry;
-    ring.put(i);
+    queue.put(i, entries[i]);
 }
 
 // The action of edge e, which leaves no digit free but that of its first lane, is asked about the state i, whose entry is above the value
 // along the edge, if that leads from i to j.
 #[inline(always)]
-fn ask_from<const N: usize>(
+fn ask_from<const N: usize, const L: usize>(
     graph: &Graph,
     entries: &mut [Entry],
-    ring: &mut Ring<N>,
+    queue: &mut WaitingStates<N, L>,
     e: usize,
     j: usize,
     i: usize,
     value: u64,
 )
-    requires { (e < graph.now.edge_number) × (i < length entries.old) × (graph.now.number ≡ length entries.old) × (ring.old.states ≡ length entries.old) × (Lowers graph.now.edges entries.old e i j value) × (Single graph.now.edges e) }
-    ensures { (AskedFrom graph.now.space graph.now.edges e j i entries.old ring.old.marks ring.old.count entries.new ring.new.indices ring.new.marks ring.old.head ring.new.count) × (ring.new.states ≡ ring.old.states) × (ring.new.head ≡ ring.old.head) }
+    requires { (e < graph.now.edge_number) × (i < length entries.old) × (graph.now.number ≡ length entries.old) × (queue.old.states ≡ length entries.old) × (Lowers graph.now.edges entries.old e i j value) × (Single graph.now.edges e) }
+    ensures { (AskedFrom graph.now.space graph.now.edges e j i entries.old queue.old.marks queue.old.count entries.new queue.new.marks queue.new.count) × (queue.new.states ≡ queue.old.states) }
 {
     let states = graph.states;
     let edge = graph.edges[e];
     if !edge.is_only() {
-        ask(graph, entries, ring, e, i);
+        ask(graph, entries, queue, e, i);
         return;
     }
     let at = (j + usize::from(edge.back)) % 65536;
     if at + edge.one().sum(states[i]) == i {
-        ask_only(graph, entries, ring, e, i, value);
+        ask_only(graph, entries, queue, e, i, value);
     }
 }
 
@@ -223,7 +229,7 @@ fn values_of(free: u64, size: u8) -> u64
     u64::from(size).min(16)
 }
 
-impl<'a, const N: usize> Worklist<'a, N> {
+impl<'a, const N: usize, const L: usize> Worklist<'a, N, L> {
     ghost use Rattle.tables.specs.Worklist.{Goes};
 
     // The action of an edge is asked about the states whose index is `at` and any values of its two lanes.
@@ -234,8 +240,8 @@ impl<'a, const N: usize> Worklist<'a, N> {
     {
         let graph = self.graph;
         let entries = &mut *self.entries;
-        let ring = &mut *self.ring;
-        let e = by.e as usize;
+        let queue = &mut *self.queue;
+        let e = usize::from(by.e);
         let edge = graph.edges[e];
         let value = u64::from(by.entry) + u64::from(edge.weight);
         let one = usize::from(edge.one().weight());
@@ -248,7 +254,7 @@ impl<'a, const N: usize> Worklist<'a, N> {
             let mut i = row;
             for x in 0..ones {
                 if is_above(entries, i, value) {
-                    ask(graph, entries, ring, e, i);
+                    ask(graph, entries, queue, e, i);
                 }
                 i += one;
             }
@@ -287,7 +293,7 @@ impl<'a, const N: usize> Worklist<'a, N> {
         let graph = self.graph;
         let edges = graph.edges;
         let entries = &mut *self.entries;
-        let ring = &mut *self.ring;
+        let queue = &mut *self.queue;
         let edge = edges[e];
         let at = (j + usize::from(edge.back)) % 65536;
         let value = u64::from(entry) + u64::from(edge.weight);
@@ -295,10 +301,10 @@ impl<'a, const N: usize> Worklist<'a, N> {
             return;
         }
         if edge.is_only() {
-            ask_only(graph, entries, ring, e, at, value);
+            ask_only(graph, entries, queue, e, at, value);
             return;
         }
-        ask(graph, entries, ring, e, at);
+        ask(graph, entries, queue, e, at);
     }
 
     // The action of edge e, which leaves no digit free but that of its first lane, is asked about the states from which the edge leads to j.
@@ -310,7 +316,7 @@ impl<'a, const N: usize> Worklist<'a, N> {
         let graph = self.graph;
         let edges = graph.edges;
         let entries = &mut *self.entries;
-        let ring = &mut *self.ring;
+        let queue = &mut *self.queue;
         let edge = edges[e];
         let value = u64::from(entry) + u64::from(edge.weight);
         let one = usize::from(edge.one().weight());
@@ -319,7 +325,7 @@ impl<'a, const N: usize> Worklist<'a, N> {
         let mut i = at;
         for x in 0..values {
             if is_above(entries, i, value) {
-                ask_from(graph, entries, ring, e, j, i, value);
+                ask_from(graph, entries, queue, e, j, i, value);
             }
             i += one;
         }
@@ -338,7 +344,7 @@ impl<'a, const N: usize> Worklist<'a, N> {
         let at = (j + usize::from(edge.back)) % 65536;
         let free = edge.free;
         let by = Arrival {
-            e: e as u32,
+            e: e as u16,
             j: j as u16,
             entry,
         };

@@ -21,24 +21,30 @@ extern "Rust" fn bench_counted_call(planner: &dyn Planner, lent: &mut Lent, oper
     lent.call(planner, operation);
 }
 
-/// Theirs, then ours, each after a call that is not counted.
+/// A call that is counted, after one that is not.
+pub fn counted_call(planner: &dyn Planner, lent: &Lent, operation: Operation) {
+    let mut lent = lent.clone();
+    lent.call(planner, operation);
+    bench_counted_call(planner, &mut lent, operation);
+}
+
+/// Theirs, then ours.
 pub fn counted_calls(lent: &Lent, operation: Operation) {
     let theirs: Option<&dyn Planner> = Some(&reference::fast::Fast);
     for planner in [theirs, ours(operation)].into_iter().flatten() {
-        let mut lent = lent.clone();
-        lent.call(planner, operation);
-        bench_counted_call(planner, &mut lent, operation);
+        counted_call(planner, lent, operation);
     }
 }
 
-fn run_counted(options: &Options, out: &Path) -> Result<(), String> {
+/// Runs the bench under valgrind, with the option that tells what is counted.
+fn run_counted(options: &Options, counted: &str, out: &Path) -> Result<(), String> {
     let own = std::env::current_exe().map_err(|error| error.to_string())?;
     let status = Command::new("valgrind")
         .args(["--tool=callgrind", "--collect-atstart=no"])
         .args(["--toggle-collect=bench_counted_call", "--dump-after=bench_counted_call"])
         .arg(format!("--callgrind-out-file={}", out.display()))
         .arg(own)
-        .args([COUNTED, "--seed", &options.seed.to_string(), "--only", &options.only])
+        .args([counted, "--seed", &options.seed.to_string(), "--only", &options.only])
         .stderr(Stdio::null())
         .status()
         .map_err(|error| format!("valgrind: {error}"))?;
@@ -46,7 +52,7 @@ fn run_counted(options: &Options, out: &Path) -> Result<(), String> {
 }
 
 /// The instructions of the call with this number, from 1.
-fn count(out: &Path, number: usize) -> Result<u64, String> {
+pub fn count(out: &Path, number: usize) -> Result<u64, String> {
     let mut name = out.as_os_str().to_owned();
     name.push(format!(".{number}"));
     let told = fs::read_to_string(&name).map_err(|error| format!("{name:?}: {error}"))?;
@@ -55,15 +61,24 @@ fn count(out: &Path, number: usize) -> Result<u64, String> {
     total.and_then(|total| total.parse().ok()).ok_or(format!("{name:?} has no totals"))
 }
 
-/// Prints the counts of every operation for both makes.
-pub fn report(options: &Options) -> Result<(), String> {
+/// Counts as the option tells, and hands what was counted on.
+pub fn counted<T>(
+    options: &Options,
+    counted: &str,
+    told: impl FnOnce(&Path) -> Result<T, String>,
+) -> Result<T, String> {
     let name = format!("bench-callgrind-{}", std::process::id());
     let directory: PathBuf = std::env::temp_dir().join(name);
     fs::create_dir_all(&directory).map_err(|error| error.to_string())?;
     let out = directory.join("out");
-    let told = run_counted(options, &out).and_then(|()| table(options, &out));
+    let told = run_counted(options, counted, &out).and_then(|()| told(&out));
     fs::remove_dir_all(&directory).map_err(|error| error.to_string())?;
     told
+}
+
+/// Prints the counts of every operation for both makes.
+pub fn report(options: &Options) -> Result<(), String> {
+    counted(options, COUNTED, |out| table(options, out))
 }
 
 fn table(options: &Options, out: &Path) -> Result<(), String> {

@@ -3,6 +3,7 @@
 use reference::brute::reader;
 use reference::brute::record;
 use reference::brute::task::{Action, Assignment, Task};
+use reference::brute::upgrade::{FIRST_LENGTH, FIRST_MOST_LIMIT};
 use reference::generate::{Random, tasks, text};
 use reference::sample;
 
@@ -25,6 +26,14 @@ impl Instance {
 
     pub fn record(&self) -> Vec<u8> {
         record::encode(&self.task)
+    }
+
+    /// The record in its first form, with a limit that was good then.
+    pub fn stored(&self) -> Vec<u8> {
+        let mut stored = self.record();
+        stored.truncate(FIRST_LENGTH);
+        stored[3] = stored[3].min(FIRST_MOST_LIMIT);
+        stored
     }
 }
 
@@ -49,6 +58,7 @@ fn action(variables: usize, needed: Named, outcomes: &[Named]) -> Action {
     Action {
         precondition: names(variables, needed),
         outcomes: outcomes.iter().map(|outcome| names(variables, outcome)).collect(),
+        cost: 1,
     }
 }
 
@@ -266,7 +276,7 @@ pub fn dials(seed: u64) -> Task {
 /// leave as it is. It is additive as it was, by the rule on restated values
 /// alone, with the same tables and the same search.
 pub fn restated(mut task: Task) -> Task {
-    for Action { precondition, outcomes } in &mut task.actions {
+    for Action { precondition, outcomes, .. } in &mut task.actions {
         for outcome in outcomes {
             for (name, &need) in outcome.iter_mut().zip(precondition.iter()) {
                 *name = name.or(need);
@@ -344,6 +354,7 @@ pub fn broad(seed: u64) -> Task {
     let mut act = |number: usize| Action {
         precondition: names(DIALS, &[(0, (number % 2) as u8)]),
         outcomes: (0..8).map(|_| outcome()).collect(),
+        cost: 1,
     };
     Task {
         sizes: vec![2; DIALS],
@@ -359,7 +370,7 @@ pub fn broad(seed: u64) -> Task {
 /// The task of the largest text, 53,301 bytes.
 pub fn largest() -> Task {
     let all = vec![Some(15); 16];
-    let action = Action { precondition: all.clone(), outcomes: vec![all.clone(); 8] };
+    let action = Action { precondition: all.clone(), outcomes: vec![all.clone(); 8], cost: 1 };
     Task {
         sizes: vec![16; 16],
         actions: vec![action; 64],
@@ -369,6 +380,105 @@ pub fn largest() -> Task {
         limit: 32,
         budget: 1_000_000,
     }
+}
+
+/// The task with the cost of each action as told by its number, and the highest
+/// limit.
+fn costly(mut task: Task, cost: impl FnMut(usize) -> u8) -> Task {
+    let costs: Vec<u8> = (0..task.actions.len()).map(cost).collect();
+    task.actions.iter_mut().zip(costs).for_each(|(action, cost)| action.cost = cost);
+    task.limit = u8::MAX;
+    task
+}
+
+/// The task with random costs from 1 up to the most.
+fn random_costs(seed: u64, task: Task, most: usize) -> Task {
+    let mut random = Random::new(seed);
+    costly(task, |_| random.within(1..=most) as u8)
+}
+
+/// A binary counter that may also jump: bit k by itself from 0 to 1, for k from
+/// 1 to 7. A step costs 1, and a jump nearly twice the steps that it spares, so
+/// that the cheapest way from a state is the longest there is: who settles
+/// states in another order than that of their costs lowers them over and over.
+fn jumping_counter(variables: usize) -> Task {
+    const JUMPS: usize = 7;
+    let mut task = counter(variables);
+    task.actions.extend((1..=JUMPS).map(|k| Action {
+        cost: (2_usize.pow(k as u32 + 1) - 1) as u8,
+        ..action(variables, &[(k, 0)], &[&[(k, 1)]])
+    }));
+    task.limit = u8::MAX;
+    task
+}
+
+/// A task with costs whose table is built, as it is and with each action at the
+/// same cost.
+pub struct Twins {
+    pub name: &'static str,
+    pub weighted: Task,
+}
+
+impl Twins {
+    /// What the weighted task is held against.
+    pub fn equal(&self) -> Task {
+        costly(self.weighted.clone(), |_| 1)
+    }
+}
+
+/// The tables that tell how well an order by cost is kept.
+pub fn weighted_tables(seed: u64) -> Vec<Twins> {
+    let random = |task| random_costs(seed, task, 255);
+    let twins = |name, weighted| Twins { name, weighted };
+    // From 1 for the variable that turns most often to 255 for the last.
+    let by_variable = |action: usize| (1 + 254 * (action / 2) / 10) as u8;
+    vec![
+        twins("counter, 12 variables, costs 255", costly(counter(12), |_| 255)),
+        twins("Gray code, 11 variables, costs by variable", costly(gray(11), by_variable)),
+        twins("counter with jumps, 12 variables", jumping_counter(12)),
+        twins("table of 2^12, 64 actions, costs", random(large(seed, 2, 1, 64))),
+        twins("8 tables of 2^12, 64 actions, costs", random(large(seed, 2, 8, 64))),
+        twins("table of 2^12, 512 edges, costs", random(broad(seed))),
+        twins("dials, 2 tables of 4,096, costs to 255", random(dials(seed))),
+        twins("rooms, 6, place and doors, costs", random(rooms(6, true))),
+    ]
+}
+
+/// Tasks with costs. Where there is one of the same name without, the row differs
+/// by them.
+fn costs(seed: u64) -> Vec<Instance> {
+    let few = |task, most| random_costs(seed, task, most);
+    let three_digits = |task| costly(task, |action| 100 + (action * 31 % 156) as u8);
+    let search = |name: &str, task| Instance::of(name, task, &SEARCHES);
+    let read = |name: &str, task| Instance::of(name, task, &[ReadText, CheckRecord]);
+    let stored = |name: &str, task| Instance::of(name, task, &[UpgradeRecord]);
+    let mut all = vec![
+        stored("sample, stored", sample_task()),
+        stored("largest text, stored", largest()),
+        Instance::of("coins, 10, costs to 9", few(coins(10), 9), &ALL),
+        Instance::of("rooms, 5, place and visits, costs to 4", few(rooms(5, false), 4), &ALL),
+        Instance::of("tower, 7 pallets, costs to 4", few(tower(7, 8), 4), &ALL),
+        read("tower, 7 pallets, costs from 100", three_digits(tower(7, 8))),
+        read("rings, 48 actions, costs from 100", three_digits(rings(seed + 5, 48, true, 1_000))),
+        read("largest text, costs from 100", three_digits(largest())),
+        search("dials, 2 tables of 4,096, costs to 3", few(dials(seed), 3)),
+        search("rings, 48 actions, costs to 3", few(rings(seed + 5, 48, true, 1_000_000), 3)),
+        search("rings, 48 actions, costs to 20", few(rings(seed + 5, 48, true, 1_000_000), 20)),
+        search(
+            "rings, 48 actions, no patterns, costs to 3",
+            few(rings(seed + 5, 48, false, 1_000_000), 3),
+        ),
+        search("wandering, 64 actions, costs to 9", few(wandering(seed + 2, 64, 1), 9)),
+        search("tower, 5 of 7 pallets in patterns, costs to 4", few(tower(7, 5), 4)),
+        search("scattering, 4,096 states, costs to 3", few(scattering(32, 6, 0, 255), 3)),
+    ];
+    // With equal costs the build of these ends when the states next to the goals
+    // are settled, for those are all of them; so they tell nothing of the order.
+    let wide = random_costs(seed, large(seed, 16, 8, 64), 255);
+    all.push(Instance::of("8 tables of 16^3, 64 actions, costs", wide, &[BuildTables]));
+    let built = weighted_tables(seed).into_iter();
+    all.extend(built.map(|twins| Instance::of(twins.name, twins.weighted, &[BuildTables])));
+    all
 }
 
 /// The sample without patterns: a spread clears the row and does no more.
@@ -439,6 +549,7 @@ pub fn instances(seed: u64) -> Vec<Instance> {
     ];
     all.extend(restating(seed));
     all.extend(heavy(seed));
+    all.extend(costs(seed));
     let mut random = Random::new(seed);
     let sparse = |number| {
         let task = tasks::task(&mut random, &tasks::LARGE);

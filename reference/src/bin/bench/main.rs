@@ -5,6 +5,7 @@ mod added;
 mod callgrind;
 mod instances;
 mod operations;
+mod order;
 mod report;
 mod series;
 mod svg;
@@ -17,12 +18,15 @@ use reference::planner::Planner;
 use operations::{Lent, Operation};
 use report::Row;
 
-const USAGE: &str = "bench [--seed S] [--samples N] [--only TEXT] [--callgrind] [--svg DIR]
+const USAGE: &str =
+    "bench [--seed S] [--samples N] [--only TEXT] [--callgrind] [--order] [--svg DIR]
 
   --seed S     seed of the random instances (default 1)
   --samples N  samples of each make for a median (default 31)
   --only TEXT  only instances or operations whose name has the text
   --callgrind  instruction counts instead of times, by valgrind
+  --order      the instructions of tables with costs against those of the same
+               with equal costs; ends with 1 where they are too many
   --svg DIR    also write plots to the directory";
 
 pub struct Options {
@@ -30,8 +34,10 @@ pub struct Options {
     samples: usize,
     only: String,
     callgrind: bool,
-    /// The run under valgrind that is to be counted.
+    order: bool,
+    /// The run under valgrind that is to be counted, of either kind.
     counted: bool,
+    counted_order: bool,
     svg: Option<String>,
 }
 
@@ -41,7 +47,9 @@ fn options() -> Result<Options, String> {
         samples: 31,
         only: String::new(),
         callgrind: false,
+        order: false,
         counted: false,
+        counted_order: false,
         svg: None,
     };
     let mut arguments = std::env::args().skip(1);
@@ -51,6 +59,8 @@ fn options() -> Result<Options, String> {
         match argument.as_str() {
             "--callgrind" => options.callgrind = true,
             callgrind::COUNTED => options.counted = true,
+            "--order" => options.order = true,
+            order::COUNTED => options.counted_order = true,
             "--seed" => options.seed = number(value()?)?,
             "--samples" => options.samples = number(value()?)?.max(1) as usize,
             "--only" => options.only = value()?,
@@ -93,14 +103,21 @@ fn each(options: &Options, mut act: impl FnMut(Row, &Lent, Operation)) {
     }
 }
 
-fn run(options: &Options) -> Result<(), String> {
+fn run(options: &Options) -> Result<ExitCode, String> {
     if options.counted {
         each(options, |_, lent, operation| callgrind::counted_calls(lent, operation));
-        return Ok(());
+        return Ok(ExitCode::SUCCESS);
+    }
+    if options.counted_order {
+        order::counted_calls(options);
+        return Ok(ExitCode::SUCCESS);
     }
     report::head(options);
+    if options.order {
+        return order::report(options);
+    }
     if options.callgrind {
-        return callgrind::report(options);
+        return callgrind::report(options).map(|()| ExitCode::SUCCESS);
     }
     let mut rows = Vec::new();
     each(options, |row, lent, operation| {
@@ -110,14 +127,15 @@ fn run(options: &Options) -> Result<(), String> {
     });
     report::times(&rows);
     match &options.svg {
-        Some(directory) => series::plots(directory, options).map_err(|error| error.to_string()),
-        None => Ok(()),
+        Some(directory) => series::plots(directory, options).map_err(|error| error.to_string())?,
+        None => {}
     }
+    Ok(ExitCode::SUCCESS)
 }
 
 fn main() -> ExitCode {
     match options().and_then(|options| run(&options)) {
-        Ok(()) => ExitCode::SUCCESS,
+        Ok(code) => code,
         Err(fault) => {
             eprintln!("{fault}\n{USAGE}");
             ExitCode::from(2)

@@ -19,6 +19,7 @@ pub enum Operation {
     Value,
     Search,
     CheckPlan,
+    UpgradeRecord,
 }
 
 impl Operation {
@@ -32,6 +33,7 @@ impl Operation {
             Operation::Value => "value",
             Operation::Search => "search",
             Operation::CheckPlan => "check_plan",
+            Operation::UpgradeRecord => "upgrade_record",
         }
     }
 }
@@ -39,20 +41,22 @@ impl Operation {
 /// The plan buffer, the table entries and the row that are lent.
 const BUFFER: usize = 65_536;
 const ENTRIES: usize = 32_768;
-const COUNTS: usize = 4_097;
+const COUNTS: usize = 1_044_227;
 
 /// What a call is lent to read, and to write.
 #[derive(Clone, PartialEq, Eq)]
 pub struct Lent {
     text: Vec<u8>,
     record: Vec<u8>,
+    /// The record in its first form.
+    old: Vec<u8>,
     start: Vec<u8>,
     plan: Vec<u8>,
     /// The pattern whose spread is asked for: the last, or none.
     pattern: u64,
-    built: Vec<u16>,
+    built: Vec<u32>,
     written_record: Vec<u8>,
-    written_tables: Vec<u16>,
+    written_tables: Vec<u32>,
     written_row: Vec<u32>,
     written_plan: Vec<u8>,
 }
@@ -64,6 +68,7 @@ impl Lent {
         let mut lent = Self {
             text: instance.text(),
             record: instance.record(),
+            old: instance.stored(),
             start: state::encode(&instance.task.start),
             plan: Vec::new(),
             pattern: instance.task.patterns.len().saturating_sub(1) as u64,
@@ -107,6 +112,7 @@ impl Lent {
                 planner.search(&lent.record, &mut lent.written_tables, &mut lent.written_plan)
             }
             Operation::CheckPlan => planner.check_plan(&lent.record, &lent.start, &lent.plan),
+            Operation::UpgradeRecord => planner.upgrade_record(&lent.old, &mut lent.written_record),
         })
     }
 }

@@ -36,7 +36,9 @@ impl Row {
         let actions = instance.task.actions.len();
         let size = match operation {
             Operation::ReadText => format!("{} bytes", lent.text_length()),
-            Operation::CheckRecord | Operation::Search => format!("{actions} actions"),
+            Operation::CheckRecord | Operation::UpgradeRecord | Operation::Search => {
+                format!("{actions} actions")
+            }
             Operation::BuildTables => format!("{} states, {actions} actions", states(instance)),
             Operation::Spread => format!("{} states", counted(instance)),
             Operation::Additive => {

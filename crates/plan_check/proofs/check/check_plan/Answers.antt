@@ -55,5 +55,5 @@ returns c =
     let good = passed _ _ _ (sym c.new.ensures ∙ c.in_ok-checked.was) (sym c.check_state.ensures ∙ c.in_ok-check_state.was) in
     let whole = (checked_good _ _ good.1).1.whole in
     let same = c.cells_at.ensures ∙ take_all 16 c.args.state.now (omega arith) in
-    let e = (rw (same, ← good.0) at c.check_bytes.ensures) ∙ read_after _ _ c.args.plan.now good.1 in
+    let e = (rw (same, ← good.0) at c.check_from.ensures) ∙ read_after _ _ c.args.plan.now good.1 in
     record { value = e; numbers = told _ _ _ _ e }

@@ -1,4 +1,4 @@
--- `reader::quick_lines::quick_number_line` meets its contract: the key, a number of one or two digits, the line break, the range. Assumes nothing.
+-- `reader::quick_lines::quick_number_line` meets its contract: the key, a number of up to three digits, the line break, the range. Assumes nothing.
 use native.Mathlib.Omega.{arith}
 use Rattle.task_record.proofs.Rest.{part_rest}
 use Rattle.reader.proofs.QuickLines.{number_at}

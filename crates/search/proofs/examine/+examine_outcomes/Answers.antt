@@ -2,15 +2,14 @@
 -- actions: those left, from the count so far, are the whole examination (`Examining`). Invariant of the loop over outcomes: the result of the
 -- outcomes left makes that of the whole row (`Following`). Both keep a memory that is true. The depth falls by the action's weight from
 -- `outcomes` to `examine`. Assumes nothing.
-use Rattle.std.proofs.Common.{length, sym, refl, ap, ◌∙◌, arith, ltb-false, ltb-true}
-use Rattle.packed_task.specs.Packed.{action_weight}
+use Rattle.std.proofs.Common.{length, refl, ap, ◌∙◌, arith}
 use Rattle.search.proofs.Looking.{seen_decided, seen_open}
-use Rattle.search.proofs.Examining.{examining_begins, action_known, action_asks, action_stops, action_fails, win_counted, action_wins, examining_ends, action_refused, following_begins, outcome_examinable, outcome_stops, outcome_fails, outcome_small, outcome_succeeds, following_ends}
+use Rattle.search.proofs.Examining.{examining_begins, action_known, action_asks, action_stops, action_fails, win_counted, action_wins, examining_ends, following_begins, outcome_examinable, outcome_stops, outcome_fails, outcome_small, outcome_succeeds, following_ends}
 use Rattle.search.proofs.examine.+examine_outcomes.Goals.{outcomes-in-Some-Succeeded, outcomes-in-None+in-Succeeded}
 use Rattle.search.proofs.examine.+examine_outcomes.Goals as goal
 
 pub examine-loop-m-init : goal.examine-loop-m-init
-examine-loop-m-init t c = (rw c.into_iter-m-iterator.ensures.into_iter_gives (examining_begins c.requires c.applying-set.ensures), refl)
+examine-loop-m-init t c = (rw c.into_iter-m-iterator.ensures.into_iter_gives (examining_begins c.requires (rw c.applying.ensures refl)), refl)
 
 pub examine-outcomes-requires : goal.examine-outcomes-requires
 examine-outcomes-requires t c = (omega (arith, c.decreases), action_asks c.requires c.loop-m.invariant.0 c.in-Some.ensures.steps.0 c.in-Some.ensures.steps.1)
@@ -49,11 +48,8 @@ examine-note-requires-2 t c = let x = c.requires.examinable in let i = c.loop-m.
 pub examine-returns : goal.examine-returns
 examine-returns t c = examining_ends c.requires c.loop-m.invariant.0 c.in-None.ensures.steps c.note-2.ensures
 
-pub outcomes-returns-then-is_beyond : goal.outcomes-returns-then-is_beyond
-outcomes-returns-then-is_beyond t c = action_refused c.requires (ltb-true _ _ (sym c.is_beyond.ensures ∙ c.if-is_beyond.true))
-
 pub outcomes-loop-k-init : goal.outcomes-loop-k-init
-outcomes-loop-k-init t c = (following_begins c.requires c.left_after-left.ensures c.outcome_count-k-end.ensures (ltb-false _ _ (sym c.is_beyond.ensures ∙ c.if-is_beyond.false)), refl)
+outcomes-loop-k-init t c = (following_begins c.requires c.left_after-left.ensures c.outcome_count-k-end.ensures, refl)
 
 pub outcomes-look-requires : goal.outcomes-look-requires
 outcomes-look-requires t c = outcome_examinable c.requires c.left_after-left.ensures c.outcome_count-k-end.ensures c.loop-k.invariant.0 c.loop-k-test.true c.successor-s.ensures c.rest_of-rest.ensures.0 c.sum_with.ensures
@@ -69,7 +65,7 @@ outcomes-overflow_add-n t c = omega (arith, outcome_small c.requires c.left_afte
 
 pub outcomes-examine-requires : goal.outcomes-examine-requires
 outcomes-examine-requires t c = let y = c.args in let p = c.requires in
-    (omega (arith, c.left_after-left.ensures, y.instance.now.matching.ready.weights y.m p.1, ltb-false y.v.d (action_weight y.instance.now.task.now y.m) (sym c.is_beyond.ensures ∙ c.if-is_beyond.false), c.decreases), seen_open (outcome_examinable c.requires c.left_after-left.ensures c.outcome_count-k-end.ensures c.loop-k.invariant.0 c.loop-k-test.true c.successor-s.ensures c.rest_of-rest.ensures.0 c.sum_with.ensures) c.look.ensures c.in-None.is)
+    (omega (arith, c.left_after-left.ensures, y.instance.now.matching.ready.weights y.m p.1, p.3, c.decreases), seen_open (outcome_examinable c.requires c.left_after-left.ensures c.outcome_count-k-end.ensures c.loop-k.invariant.0 c.loop-k-test.true c.successor-s.ensures c.rest_of-rest.ensures.0 c.sum_with.ensures) c.look.ensures c.in-None.is)
 
 pub outcomes-returns-in-Stopped : goal.outcomes-returns-in-Stopped
 outcomes-returns-in-Stopped t c = outcome_stops c.requires c.left_after-left.ensures c.outcome_count-k-end.ensures c.loop-k.invariant.0 c.loop-k-test.true c.successor-s.ensures (c.examine.ensures) _ c.in-Stopped.is

@@ -3,6 +3,7 @@ use Rattle.std.proofs.Common.{◌≡◌, ℕ, ◌+◌, ◌-◌, ◌<◌, ◌≤�
 use Rattle.planning.specs.Table.{state_count}
 use Rattle.planning.specs.Spread.{spread}
 use Rattle.task_record.specs.Numbers.{pattern_count}
+use Rattle.task_record.specs.Record.{Sound}
 use Rattle.task_record.specs.TaskOf.{task_of, patterns_of}
 use Rattle.patterns.specs.Space.{entries_needed}
 use Rattle.tables.proofs.Spreading.{cleared, states_of_pattern, pattern_ends, part_costs, part_few, part_bounded, states_named_lem, none_named, no_states}
@@ -24,6 +25,9 @@ module _ (c : After-part_of-part) where
   below : number < pattern_count rec
   below = omega (arith, c.if-p-patterns.false, rw c.record.view_is at c.pattern_count-patterns.ensures)
 
+  sound : Sound rec
+  sound = rw c.record.view_is at c.record.invariant
+
   begins : c.part_of-part.result.start ≡ entries_needed (task_of rec).sizes (take number (patterns_of rec))
   begins = c.part_of-part.ensures.0
 
@@ -34,10 +38,10 @@ module _ (c : After-part_of-part) where
   ends-known = c.part_of-part.ensures.1
 
   ends : c.part_of-part.result.end ≡ c.part_of-part.result.start + states
-  ends = ends-known ∙ states_of_pattern rec tabs c.requires.0 c.requires.1 number below ∙ ap (λ k. k + states) (sym begins)
+  ends = ends-known ∙ states_of_pattern rec tabs sound c.requires.0 c.requires.1 number below ∙ ap (λ k. k + states) (sym begins)
 
   inside : c.part_of-part.result.end ≤ length tabs
-  inside = let h = pattern_ends rec tabs c.requires.0 c.requires.1 number below in let e = ends-known in omega arith
+  inside = let h = pattern_ends rec tabs sound c.requires.0 c.requires.1 number below in let e = ends-known in omega arith
 
   abbrev part : List ℕ
   part = take (c.part_of-part.result.end - c.part_of-part.result.start) (drop c.part_of-part.result.start tabs)
@@ -59,7 +63,7 @@ slice_bounds-count_entries-end c = let w = (goal.at.slice_bounds-count_entries-e
 
 pub count_entries-requires : goal.count_entries-requires
 count_entries-requires c = let w = (goal.at.count_entries-requires c).After-part_of-part in let p = c.requires in let l = below w in
-    (part_few (rec w) (tabs w) p.0 p.1 (number w) l (part w) (part-is w), part_bounded (rec w) (tabs w) p.0 p.1 (number w) l (part w) (part-is w), cleared c.args.row.now _ p.2 (c.fill.ensures.after (λ y e. e)))
+    (part_few (rec w) (tabs w) (sound w) p.0 p.1 (number w) l (part w) (part-is w), part_bounded (rec w) (tabs w) (sound w) p.0 p.1 (number w) l (part w) (part-is w), cleared c.args.row.now _ p.2 (c.fill.ensures.after (λ y e. e)))
 
 pub overflow_sub-result : goal.overflow_sub-result
 overflow_sub-result c = let w = (goal.at.overflow_sub-result c).After-part_of-part in let e = ends w in omega arith
@@ -75,4 +79,4 @@ returns-then-p-patterns c = let l : pattern_count c.args.record.now ≤ c.args.p
 pub returns : goal.returns
 returns c = let w = (goal.at.returns c).After-part_of-part in let p = c.requires in let l = below w in let e = ends w in
     rw (← c.in-Ok.ensures.1)
-    (omega (arith, states_named_lem (rec w) (tabs w) p.0 p.1 (number w) l), c.count_entries.ensures ∙ ap spread (part_costs (rec w) (tabs w) p.0 p.1 (number w) l (part w) (part-is w)))
+    (omega (arith, states_named_lem (rec w) (tabs w) (sound w) p.0 p.1 (number w) l), c.count_entries.ensures ∙ ap spread (part_costs (rec w) (tabs w) (sound w) p.0 p.1 (number w) l (part w) (part-is w)))

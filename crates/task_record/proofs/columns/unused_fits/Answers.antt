@@ -15,5 +15,5 @@ returns c =
     let p = c.args.record.now.passed in
     let r = c.args.record.now.rec.now in let m = c.args.m in
     let empty : get_or r c.at_action-a.result 0 ≡ 0 = omega (arith, c.if-record-a-ne0.false) in
-    λ t. action_passes r p.byte p.right m 0 (no_rows r m c.requires.0 (rw c.at_action-a.ensures at empty))
+    λ t. action_passes r p.byte p.right m 0 c.requires.1 (no_rows r m c.requires.1 c.requires.0 (rw c.at_action-a.ensures at empty))
     (λ v l. rw (c.at_action-a.ensures, p.read.cell v l) at (c.nine_fit.ensures t v l))

@@ -13,4 +13,4 @@ returns c =
     let args = c.args in
     let rows_fit = c.rows_fit in
     λ t. let f = rw c.at_action-a.ensures at (rows_fit.ensures t) in
-    action_told args.record.now.rec.now args.record.now.sizes args.record.now.passed.byte args.record.now.passed args.m pre.0 f.0 f.1 f.2
+    action_told args.record.now.rec.now args.record.now.sizes args.record.now.passed.byte args.record.now.passed args.m pre.1 pre.0 f.0 f.1 f.2

@@ -1,4 +1,4 @@
--- `is_sound`: head, front, patterns and actions passed in a row. Assumes nothing.
+-- `is_sound`: head, front, patterns, actions and costs passed in a row. Assumes nothing.
 use Rattle.std.proofs.Common.{◌≡◌, ℕ, arith}
 use borrow.Author.Tests.{not-false}
 use Rattle.task_record.proofs.Parts.{head_passes, head_actions, head_variables}
@@ -20,8 +20,11 @@ returns-then-not-patterns_fit c = λ t. let z : ◌≡◌ {A = ℕ} 0 1 = cc in 
 pub actions_fit-requires : goal.actions_fit-requires
 actions_fit-requires c = head_actions c.args.record.now.cells.now (c.head_fits.ensures (not-false _ c.if-not-head_fits.false-raw))
 
+pub returns-then-not-actions_fit : goal.returns-then-not-actions_fit
+returns-then-not-actions_fit c = λ t. let z : ◌≡◌ {A = ℕ} 0 1 = cc in absurd (omega arith)
+
 pub returns : goal.returns
 returns c =
     let r = c.args.record.now in
     λ t. parts_sound r.cells.now r.long (head_passes r.cells.now (c.head_fits.ensures (not-false _ c.if-not-head_fits.false-raw))) (c.front_fits.ensures (not-false _ c.if-not-front_fits.false-raw))
-    (c.patterns_fit.ensures (not-false _ c.if-not-patterns_fit.false-raw)) (c.actions_fit.ensures t)
+    (c.patterns_fit.ensures (not-false _ c.if-not-patterns_fit.false-raw)) (c.actions_fit.ensures (not-false _ c.if-not-actions_fit.false-raw)) (c.costs_fit.ensures t)

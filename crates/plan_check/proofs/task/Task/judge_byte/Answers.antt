@@ -7,10 +7,10 @@ use Rattle.plan_check.proofs.Tower.{tower_actions, tower_goal}
 use Rattle.plan_check.proofs.task.Task.judge_byte.Goals.{then-not-action_met-via-then-not-action_met, then-not-action_met-via-else-not-action_met+then-met}
 use Rattle.plan_check.proofs.task.Task.judge_byte.Goals as goal
 
-pub returns-then-depth-ge-MOST_MOVES : goal.returns-then-depth-ge-MOST_MOVES
+pub returns-then-most-depth : goal.returns-then-most-depth
 unfolding byte_judged
-returns-then-depth-ge-MOST_MOVES c =
-    rw (← c.self.view_is, tower_actions, ← c.self.invariant.1) (simp (lt-ltb _ _ c.if-b-self.true, le-leb _ _ c.if-depth-ge-MOST_MOVES.true))
+returns-then-most-depth c =
+    rw (← c.self.view_is, tower_actions, ← c.self.invariant.1) (simp (lt-ltb _ _ c.if-b-self.true, le-leb _ _ c.if-most-depth.true))
 
 pub action_met-requires : goal.action_met-requires
 action_met-requires c = rw (← c.self.view_is, ← c.self.invariant.1) c.if-b-self.true
@@ -20,7 +20,7 @@ unfolding byte_judged applies
 returns-then-not-action_met c =
     let t = c.self.invariant in
     let l = lt-ltb _ _ c.if-b-self.true in
-    let k = lt-leb _ _ c.if-depth-ge-MOST_MOVES.false in
+    let k = lt-leb _ _ c.if-most-depth.false in
     elim c.then-not-action_met.branch [
       | then-not-action_met-via-then-not-action_met w ↦
           let p = rw (← c.self.view_is) at (sym c.action_met.ensures ∙ w.if-not-action_met.true) in
@@ -37,7 +37,7 @@ returns-then-b-self c =
     let t = c.self.invariant in
     let p = rw (← c.self.view_is) at (sym c.action_met.ensures ∙ c.if-not-action_met.false) in
     let g = sym (tower_goal _ t.0 _) ∙ (rw t.2 at (sym c.met.ensures ∙ c.if-met.false)) in
-    rw (← c.self.view_is, tower_actions, ← t.1, lt-ltb _ _ c.if-b-self.true, lt-leb _ _ c.if-depth-ge-MOST_MOVES.false, p, g)
+    rw (← c.self.view_is, tower_actions, ← t.1, lt-ltb _ _ c.if-b-self.true, lt-leb _ _ c.if-most-depth.false, p, g)
 
 pub returns-then-b-ne-ARRIVED : goal.returns-then-b-ne-ARRIVED
 unfolding byte_judged

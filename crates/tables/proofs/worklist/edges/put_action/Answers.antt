@@ -14,6 +14,9 @@ loop-o-init c = (rw (← c.pattern.view_is) c.outcome_count-n.ensures, acting_no
 pub invariant_of-edge_of : goal.invariant_of-edge_of
 invariant_of-edge_of c = let p = rw (← c.pattern.view_is) at c.requires in let r = c.pattern.invariant.readable in record { below = omega (arith, c.loop-o-test.true, c.outcome_count-n.ensures, r.outcomes_few _ p.0) }
 
+pub edge_of-requires : goal.edge_of-requires
+edge_of-requires c = c.requires.0
+
 pub loop-o-preserved : goal.loop-o-preserved
 loop-o-preserved c = let v = c.loop-o.invariant in elim c.match-edge_of.branch [
   | in-Some w ↦ rw (w.edges-is, w.e-is) (v.0, acting_new v.1 (edge_put _ _ _ (omega (arith, c.loop-o-test.true, v.0, v.1.most, c.requires.2, v.1.untouched.long))) w.in-Some.ensures.some)

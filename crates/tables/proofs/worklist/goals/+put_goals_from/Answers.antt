@@ -16,12 +16,12 @@ returns-then-free-eq0-2 g t c = let e = c.put_goals_from.ensures in (entered_ski
 pub loop-d-preserved : goal.loop-d-preserved
 loop-d-preserved g t c = let v = c.loop-d.invariant in let d = c.loop-d-test.true in let m = c.min-end.ensures in let o = c.from.ensures in
     elim c.if-free-lt16.branch [
-      | then-free-lt16 w ↦ (let e = w.put_goal-then-free-lt16.ensures in rw (w.entries-is, w.ring-is) (
+      | then-free-lt16 w ↦ (let e = w.put_goal-then-free-lt16.ensures in rw (w.entries-is, w.queue-is) (
         through_next v.0 _ (omega (arith, c.times.ensures.0)) c.if-free-eq0-2.false (omega (arith, d, m)) (omega (arith, d, m, o)) (entered_one (omega arith) (inl (omega (arith, w.if-free-lt16.true))) e.0),
         omega (arith, d),
         e.1,
       ))
-      | else-free-lt16 w ↦ (let e = w.put_goals_from-else-free-lt16.ensures in rw (w.entries-is, w.ring-is) (
+      | else-free-lt16 w ↦ (let e = w.put_goals_from-else-free-lt16.ensures in rw (w.entries-is, w.queue-is) (
         through_next v.0 _ (omega (arith, c.times.ensures.0)) c.if-free-eq0-2.false (omega (arith, d, m)) (omega (arith, d, m, o)) e.0,
         omega (arith, d),
         e.1,

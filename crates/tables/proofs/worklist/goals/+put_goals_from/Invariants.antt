@@ -8,7 +8,7 @@ abbrev pub decreases-put_goals_from : goal.decreases-put_goals_from
 decreases-put_goals_from g l = l.free
 
 abbrev pub invariant-loop-d : goal.invariant-loop-d
-invariant-loop-d g l = Through l.weights l.sizes l.v l.free l.at l.d l.fn.entries l.entries × (l.d ≤ l.end) × Held l.entries l.ring.states l.ring.indices l.ring.marks l.ring.head l.ring.count
+invariant-loop-d g l = Through l.weights l.sizes l.v l.free l.at l.d l.fn.entries l.entries × (l.d ≤ l.end) × Held l.entries l.queue.states l.queue.marks l.queue.count
 
 abbrev pub decreases-loop-d : goal.decreases-loop-d
 decreases-loop-d g l = l.end - l.d

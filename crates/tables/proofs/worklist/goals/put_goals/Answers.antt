@@ -7,8 +7,8 @@ use Rattle.tables.proofs.worklist.goals.put_goals.Goals as goal
 pub put_goals_from-requires : goal.put_goals_from-requires
 put_goals_from-requires g c = let p = rw (← c.pattern.view_is) at c.requires in let i = c.pattern.invariant in let b = first_near i.walkable i.bounded c.args.weights.now p.0 in
     let f = c.fill.ensures.after (λ y e. e) in (
-      omega (arith, c.args.ring.now.small),
-      (omega arith, rw (c.index_of_few-at.ensures, c.goal_value.ensures) (omega (arith, b)), rw f (held_none c.args.ring.now.waits p.2 p.3 p.4)),
+      omega (arith, c.args.queue.now.small),
+      (omega arith, rw (c.index_of_few-at.ensures, c.goal_value.ensures) (omega (arith, b)), rw f (held_none c.args.queue.now.waits p.2)),
     )
 
 pub returns-clause-started : goal.returns-clause-started

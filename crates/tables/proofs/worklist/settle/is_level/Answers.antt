@@ -19,4 +19,4 @@ pub overflow_add-result : goal.overflow_add-result
 overflow_add-result c = omega (arith, c.loop-i.invariant.few)
 
 pub returns : goal.returns
-returns c = λ e. seen_level c.loop-i.invariant c.loop-i-test.false (leb-true _ _ e)
+returns c = λ e. seen_level c.loop-i.invariant c.loop-i-test.false (let l = leb-true _ _ e in omega (arith, l, c.from.ensures))

@@ -14,9 +14,8 @@ unfolding way_back
 returns-then-not-is_above g c = let p = rw (← c.graph.view_is) at c.requires in
     record {
       same_entries = refl;
-      same_ring = refl;
+      same_queue = refl;
       same_graph = refl;
-      same_head = refl;
       done = rw (← c.graph.view_is) (passed_plain (omega (arith, c.from.ensures)) p.3 (going_none (queue_of c.args.self.now))
           (λ b f z. heard_not_above _ _ _ _ _ _ _ _ _ (c.graph.invariant.edges_of.weight _ p.0) (omega (arith, c.from-2.ensures, c.from-3.ensures)) p.1 b p.2 (sym c.is_above.ensures.0 ∙ c.if-not-is_above.true) c.is_above.ensures.1 z));
     }
@@ -26,12 +25,12 @@ unfolding way_back
 ask_only-requires g c = let w = c.args.self.now in let p = rw (← c.graph.view_is) at c.requires in let t = sym c.is_above.ensures.0 ∙ c.if-not-is_above.false in
     let f = few_here c.graph.invariant (rw (← c.graph.view_is) at w.all) in let v = c.graph.inside in
     rw (← c.graph.view_is) (
-      omega (arith, w.ring.now.small),
+      omega (arith, w.queue.now.small),
       (
         p.0,
         above_inside _ _ _ t,
         rw (← c.graph.view_is) at w.all,
-        w.ring_states,
+        w.queue_states,
         record {
           after = c.args.j;
           lowers = record { near = p.1; value_is = omega (arith, c.from-2.ensures, c.from-3.ensures, p.2); less = above_less _ _ _ t; small = c.is_above.ensures.1 };
@@ -46,23 +45,21 @@ unfolding way_back
 returns-then-is_only g c = let p = rw (← c.graph.view_is) at c.requires in let a = rw (← c.graph.view_is) at c.ask_only.ensures in let t = sym c.is_above.ensures.0 ∙ c.if-not-is_above.false in
     record {
       same_entries = refl;
-      same_ring = refl;
+      same_queue = refl;
       same_graph = refl;
-      same_head = a.2;
       done = rw (← c.graph.view_is) (passed_plain (omega (arith, c.from.ensures)) p.3 (a.0.going c.args.j (less_other _ _ _ c.from-3.result _ (omega (arith, c.from-2.ensures, p.2)) (above_less _ _ _ t))) (λ b f z. a.0.heard f));
     }
 
 pub ask-requires : goal.ask-requires
-ask-requires g c = let w = c.args.self.now in (omega (arith, w.ring.now.small), (c.requires.0, above_inside _ _ _ (sym c.is_above.ensures.0 ∙ c.if-not-is_above.false), w.all, w.ring_states))
+ask-requires g c = let w = c.args.self.now in (omega (arith, w.queue.now.small), (c.requires.0, above_inside _ _ _ (sym c.is_above.ensures.0 ∙ c.if-not-is_above.false), w.all, w.queue_states))
 
 pub returns : goal.returns
 unfolding way_back
 returns g c = let p = rw (← c.graph.view_is) at c.requires in let a = rw (← c.graph.view_is) at c.ask.ensures in let t = sym c.is_above.ensures.0 ∙ c.if-not-is_above.false in
     record {
       same_entries = refl;
-      same_ring = refl;
+      same_queue = refl;
       same_graph = refl;
-      same_head = a.2;
       done = rw (← c.graph.view_is) (passed_plain (omega (arith, c.from.ensures)) p.3 (a.0.going c.args.j (less_other _ _ _ c.from-3.result _ (omega (arith, c.from-2.ensures, p.2)) (above_less _ _ _ t))) (λ b f z. a.0.heard f));
     }
 

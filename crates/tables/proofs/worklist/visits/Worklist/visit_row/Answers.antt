@@ -17,7 +17,7 @@ overflow_add-c g c = let s = c.in-Some.ensures.steps in let k = row_known refl c
 
 pub visit_edge-requires : goal.visit_edge-requires
 visit_edge-requires g c = let p = c.requires in let v = c.loop-q.invariant in let s = c.in-Some.ensures.steps in let k = row_known refl v.done s.0 in let m = v.done.going in
-    (omega (arith, c.args.self.now.ring.now.small), (rw (v.same_graph, s.1) k.1, omega (arith, p.0, m.moved.long), m.stays ∙ p.1))
+    (omega (arith, c.args.self.now.queue.now.small), (rw (v.same_graph, s.1) k.1, omega (arith, p.0, m.moved.long), m.stays ∙ p.1))
 
 pub loop-q-preserved : goal.loop-q-preserved
 loop-q-preserved g c = let v = c.loop-q.invariant in let s = c.in-Some.ensures.steps in rw s.2 (goes_then v (rw s.1 at c.visit_edge.ensures) (row_next refl v.done s.0))

@@ -13,7 +13,7 @@ edges_into-set-requires g c = let p = rw (← c.graph.view_is) at c.requires in 
 
 pub visit_set-requires : goal.visit_set-requires
 visit_set-requires g c = let p = c.requires in let v = c.loop-c.invariant in let m = v.0.done.going in
-    (omega (arith, c.args.self.now.ring.now.small), (omega (arith, p.0, m.moved.long), m.stays ∙ p.1, rw v.0.same_graph c.edges_into-set.ensures, omega (arith, v.1)))
+    (omega (arith, c.args.self.now.queue.now.small), (omega (arith, p.0, m.moved.long), m.stays ∙ p.1, rw v.0.same_graph c.edges_into-set.ensures, omega (arith, v.1)))
 
 pub loop-c-preserved : goal.loop-c-preserved
 loop-c-preserved g c = let f : c.graph.inside.k ≤ 512 = c.graph.invariant.edges_of.few in let v = c.loop-c.invariant in

@@ -19,14 +19,14 @@ is_plain-requires g c = let s = c.in-Some.ensures.steps in let k = row_known ref
 
 pub visit_row-requires : goal.visit_row-requires
 visit_row-requires g c = let p = c.requires in let v = c.loop-q.invariant in let s = c.in-Some.ensures.steps in let k = row_known refl v.done s.0 in let m = v.done.going in
-    (omega (arith, c.args.self.now.ring.now.small), (omega (arith, p.0, m.moved.long), m.stays ∙ p.1, rw v.same_graph p.2, p.3, omega (arith, k.0, s.1)))
+    (omega (arith, c.args.self.now.queue.now.small), (omega (arith, p.0, m.moved.long), m.stays ∙ p.1, rw v.same_graph p.2, p.3, omega (arith, k.0, s.1)))
 
 pub returns-then-not-is_plain : goal.returns-then-not-is_plain
 returns-then-not-is_plain g c = let v = c.loop-q.invariant in let s = c.in-Some.ensures.steps in goes_then v (rw s.1 at c.visit_row.ensures) (row_rest refl v.done s.0)
 
 pub visit_plain-requires : goal.visit_plain-requires
 visit_plain-requires g c = let p = c.requires in let v = c.loop-q.invariant in let s = c.in-Some.ensures.steps in let k = row_known refl v.done s.0 in let m = v.done.going in
-    (omega (arith, c.args.self.now.ring.now.small), (rw (v.same_graph, s.1) k.1, omega (arith, p.0, m.moved.long), m.stays ∙ p.1, rw (v.same_graph, ← c.graph.view_is) (c.is_plain.ensures c.if-not-is_plain.false)))
+    (omega (arith, c.args.self.now.queue.now.small), (rw (v.same_graph, s.1) k.1, omega (arith, p.0, m.moved.long), m.stays ∙ p.1, rw (v.same_graph, ← c.graph.view_is) (c.is_plain.ensures c.if-not-is_plain.false)))
 
 pub loop-q-preserved : goal.loop-q-preserved
 loop-q-preserved g c = let v = c.loop-q.invariant in let s = c.in-Some.ensures.steps in rw s.2 (goes_then v (rw s.1 at c.visit_plain.ensures) (row_next refl v.done s.0))

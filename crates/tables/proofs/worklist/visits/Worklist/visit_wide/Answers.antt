@@ -7,7 +7,7 @@ use Rattle.tables.proofs.Goes.{goes_as}
 use Rattle.tables.proofs.worklist.visits.Worklist.visit_wide.Goals as goal
 
 pub visit_lanes-requires : goal.visit_lanes-requires
-visit_lanes-requires g c = let p = c.requires in (omega (arith, c.args.self.now.ring.now.small), (p.0, p.1, p.2, omega arith))
+visit_lanes-requires g c = let p = c.requires in (omega (arith, c.args.self.now.queue.now.small), (p.0, p.1, p.2, omega arith))
 
 pub returns-then-free-eq0 : goal.returns-then-free-eq0
 unfolding way_back
@@ -16,7 +16,7 @@ returns-then-free-eq0 g c =
 
 pub visit_free-requires : goal.visit_free-requires
 visit_free-requires g c = let p = rw (← c.graph.view_is) at c.requires in
-    rw (← c.graph.view_is) (omega (arith, c.args.self.now.ring.now.small), (p.0, p.1, p.2, (edges_here c.graph.invariant (rw (← c.graph.view_is) at c.args.self.now.all)).free _ p.0, omega arith, omega arith))
+    rw (← c.graph.view_is) (omega (arith, c.args.self.now.queue.now.small), (p.0, p.1, p.2, (edges_here c.graph.invariant (rw (← c.graph.view_is) at c.args.self.now.all)).free _ p.0, omega arith, omega arith))
 
 pub returns : goal.returns
 unfolding way_back

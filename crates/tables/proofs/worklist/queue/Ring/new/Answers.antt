@@ -1,7 +1,0 @@
--- `Ring::new`: no state waits. Assumes nothing.
-use Rattle.std.proofs.Common.{arith}
-use Rattle.tables.proofs.Starting.{queue_empty}
-use Rattle.tables.proofs.worklist.queue.Ring.new.Goals as goal
-
-pub invariant_of-result : goal.invariant_of-result
-invariant_of-result g c = let p = c.requires in record { small = p.1; waits = queue_empty _ _ _ p.0 p.0 (omega (arith, p.0, p.1)) p.2 }
