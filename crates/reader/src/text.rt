@@ -2,7 +2,7 @@
 ghost use Rattle.std.specs.Prelude.{◌≡◌, ◌≤◌, length};
 ghost use Rattle.task_record.specs.Layout.{record_size};
 ghost use Rattle.reader.specs.Text.{lines_of};
-ghost use Rattle.reader.specs.Grammar.{read_from, whole_of, read_answer, read_leaves};
+ghost use Rattle.reader.specs.Grammar.{read_from, read_whole, whole_of, read_answer, read_leaves};
 ghost use Rattle.reader.specs.Answers.{read_numbers, text_by_lines};
 
 use crate::blank::{Record, clear_record};
@@ -36,20 +36,18 @@ fn read_lines(text: &[u8], rec: &mut [u8]) -> Result<(), Refusal>
     Err(Refusal::UnexpectedLine(line))
 }
 
-// The same, into a lent record that has room. The record is filled apart, in `local`, and copied out once the whole text is good, so a refusal leaves
-// the lent one as found. A function of its own when compiled, so that the quick pass keeps the registers.
+// The same, from a blank record on. A function of its own when compiled, so that the quick pass keeps the registers.
 #[inline(never)]
-fn read_slowly(text: &[u8], local: &mut Record, record: &mut [u8]) -> Result<(), Refusal>
-    requires { record_size ≤ length «record».old }
-    ensures { (result ≡ read_answer text.now «record».old) × («record».new ≡ read_leaves text.now «record».old) }
+fn read_slowly(text: &[u8], local: &mut Record) -> Result<(), Refusal>
+    ensures { read_whole text.now ≡ whole_of result local.new }
 {
     clear_record(local);
-    read_lines(text, local)?;
-    put_cells(record, 0, local);
-    Ok(())
+    read_lines(text, local)
 }
 
-// Reads a text into a record: at once where every line is as most texts write it, else line by line from the start, which tells what is wrong.
+// Reads a text into a record: at once where every line is as most texts write it, else line by line from the start, which tells what is wrong. The
+// record is filled apart, and copied out once the whole text is good, so a refusal leaves the lent one as found. It is copied in this function, where it
+// was made: of two records that are both lent the library's copy is the C library's memmove, and the archive asks for memcpy and memset alone.
 // Stays: `as` at the record's length, since an index has no `From` into a word, and `try_from` would have a case that never comes.
 pub fn read_text(text: &[u8], record: &mut [u8]) -> Result<(), Refusal>
     ensures value { (result ≡ read_answer text.now «record».old) × («record».new ≡ read_leaves text.now «record».old) }
@@ -67,5 +65,8 @@ pub fn read_text(text: &[u8], record: &mut [u8]) -> Result<(), Refusal>
         put_cells(record, 0, &draft.cells);
         return Ok(());
     }
-    read_slowly(text, &mut draft.cells, record)
+    let local = &mut draft.cells;
+    read_slowly(text, local)?;
+    put_cells(record, 0, local);
+    Ok(())
 }

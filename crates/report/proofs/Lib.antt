@@ -16,5 +16,7 @@ pub mod StartValues
 pub mod Reports
 -- The examples from the text to the printed bytes, by computation.
 pub mod Sample
+-- What reading into a buffer leaves there.
+pub mod Reading
 -- What program `records` writes for a stored record.
 pub mod UpgradedRecords

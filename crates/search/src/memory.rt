@@ -76,8 +76,10 @@ pub(crate) fn note(memory: &mut [Slot], s: u64, d: u32, k: u32, n: u32, b: u8)
     memory[slot_of(s, d, memory.len())] = Slot { state: s, word };
 }
 
-// Whether most of some slots are taken; so are the others then, since the products spread the states.
-fn is_crowded(memory: &[Slot]) -> bool {
+// Whether most of some slots are taken; so are the others then, since the products spread the states. Each counts once.
+fn is_crowded(memory: &[Slot]) -> bool
+    ensures { result ≡ true → 7 ≤ length memory.now }
+{
     memory.iter().take(8).filter(|slot| slot.word != 0).count() > 6
 }
 

@@ -22,11 +22,22 @@ fn added_costs(stored: &[u8]) -> [u8; 64]
     costs
 }
 
+// Stays: a loop: of two slices that are both lent the library's copy_from_slice is the C library's memmove, and the archive asks for memcpy and memset
+// alone.
+fn copy_cells(cells: &[u8], target: &mut [u8])
+    requires { length cells.now ≡ length target.old }
+    ensures { target.new ≡ cells.now }
+{
+    for (i, x) in target.iter_mut().enumerate() {
+        *x = cells[i];
+    }
+}
+
 fn write_upgraded(stored: &[u8], target: &mut [u8])
     requires { (first_check stored.now ≡ Ok tt) × (record_size ≤ length target.old) }
     ensures { target.new ≡ upgraded stored.now ++ drop record_size target.old }
 {
-    target[..FIRST_SIZE].copy_from_slice(&stored[..FIRST_SIZE]);
+    copy_cells(&stored[..FIRST_SIZE], &mut target[..FIRST_SIZE]);
     target[AT_COSTS..RECORD_SIZE].copy_from_slice(&added_costs(stored));
 }
 

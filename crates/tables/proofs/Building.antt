@@ -12,6 +12,7 @@ use Rattle.tables.specs.Built.{Built}
 use Rattle.tables.proofs.Spacing.{weigh-index, weigh_padded}
 use Rattle.tables.proofs.Settled.{Stands, steps_length, settled_is_table}
 use Rattle.packed_task.proofs.SetWords.{left_all, none_left}
+use Rattle.task_record.proofs.Sixteens.{zeros}
 use Rattle.task_record.proofs.Tests.{false_true}
 
 -- Where every action may leave each state as it is, the start is the table.
@@ -20,6 +21,10 @@ settled_idle x t effective e z = record { steps = none; stable = record { low = 
   where
     idle : (m : ℕ) → m < x.actions → not (idles x.task x.mask m) ≡ false
     idle m l = none_left (λ m. not (idles x.task x.mask m)) 0 x.actions effective (left_all (λ m. not (idles x.task x.mask m)) x.actions effective e) z m (omega arith) l
+
+-- Where every entry is 0 none can fall.
+pub settled_free : (x : Space) (t : List ℕ) (n : ℕ) → t ≡ replicate n 0 → Settled x t t
+settled_free x t n z = record { steps = none; stable = record { low = λ m i l b q h. let e : get_or t i 0 ≡ 0 = rw z (zeros n i) in omega (arith, e) } }
 
 module _ (a : List ℕ) (actions n mask : ℕ) (sizes p weights states new : List ℕ)
     (m : mask ≡ pack_by picking p) (w : weights ≡ weights_from 1 (take n sizes) p ++ replicate (16 - n) 0)

@@ -22,7 +22,7 @@ use Rattle.tables.proofs.Digits.{lowest, next_digit, sub_mod, sub_div}
 use Rattle.tables.proofs.PackedDigits.{digit_none}
 use Rattle.task_record.proofs.Tests.{false_true}
 use Rattle.tables.proofs.Spacing.{count_positive}
-use Rattle.tables.proofs.Building.{settled_idle, parts_settled}
+use Rattle.tables.proofs.Building.{settled_idle, settled_free, parts_settled}
 
 -- Words are the same if their digits are.
 power_more : (y d : ℕ) → y < 16 ^ (y + d)
@@ -150,6 +150,12 @@ module _ (k need value : ℕ) (p : PlainMask k) (n : PlainNeed need value) where
         either u (spare e g h) = let a = and_all (digit s u) (omega arith) in rw (h, e, g) (omega (arith, a))
         either u (named e g) = let a = and_all (digit s u) (omega arith) in let b : digit s u ≡ bit_and (digit value u) 15 = sym a ∙ rw (e, g) at (met_digit u) in let z = and_zero_r (digit s u) in rw (e, g) (omega (arith, b, z))
 
+-- Entries that are 0 at the goals and infinite elsewhere are those of the start.
+pub started_is : (a : List ℕ) (k : ℕ) (states new : List ℕ) (n : ℕ) → length new ≡ n → ((i : ℕ) → i < n → get_or new i 0 ≡ cond (is_goal a k (get_or states i 0)) 0 infinite_entry) → new ≡ started a k states n
+unfolding started
+started_is a k states new n long entry = let f : ℕ → ℕ = λ i. cond (is_goal a k (get_or states i 0)) 0 infinite_entry in
+    ext_get_or 0 new _ (long ∙ sym (length-tabulate f 0 n)) (λ i l. let b : i < n = omega (arith, l, long) in let z : 0 + i ≡ i = omega arith in entry i b ∙ sym (get_or_tabulate f 0 n i 0 b ∙ ap f z))
+
 -- The entries are 0 at the goals, and infinite elsewhere.
 module _ {x : Space} {sizes : List ℕ} {n : ℕ} (r : Regular x sizes n) where
   abbrev needed : ℕ
@@ -192,10 +198,18 @@ module _ {x : Space} {sizes : List ℕ} {n : ℕ} (r : Regular x sizes n) where
       below u q = let s = get_or x.states i 0 in ⊎_elim (λ e. absurd (q (free_digit u x.mask needed ∙ free_outside _ _ e)))
           (λ e. let b = r.below i u l e in let a = and_le_l (digit s u) (digit (free_of x.mask needed) u) in rw (and_digit s (free_of x.mask needed) u) (omega (arith, a, b))) (r.mask_plain u)
 
+  -- A goal that names no variable of the pattern is met by every word.
+  free_goal : bit_and needed x.mask ≡ 0 → (s : ℕ) → is_goal x.task x.mask s ≡ true
+  unfolding is_goal
+  free_goal z s = let e = rw (z, and_zero_r (bit_and named_value x.mask + 0)) at (sum_met x.mask needed named_value r.mask_plain r.goal_plain 0 (λ u q. digit_none u)) in
+      rw (z, and_zero_r s, sym e) (eq-eqb 0 0 refl)
+
+  pub free_started : bit_and needed x.mask ≡ 0 → replicate n 0 ≡ started x.task x.mask x.states n
+  free_started z = started_is x.task x.mask x.states (replicate n 0) n (length-replicate {A = ℕ} n 0)
+      (λ i l. let g = free_goal z (get_or x.states i 0) in get_or-replicate n i 0 0 l ∙ rw g)
+
   pub entered_started : (new : List ℕ) → Entered x.weights sizes 0 (free_of x.mask needed) (weigh x.weights (bit_and named_value x.mask)) (replicate n infinite_entry) new → new ≡ started x.task x.mask x.states n
-  unfolding started
-  entered_started new w = ext_get_or 0 new _ (long ∙ sym (length-tabulate {A = ℕ} (λ i. cond (is_goal x.task x.mask (get_or x.states i 0)) 0 infinite_entry) 0 n)) (λ i l. let b : i < n = omega (arith, l, long) in
-      let z : 0 + i ≡ i = omega arith in entry i b ∙ sym (get_or_tabulate (λ i. cond (is_goal x.task x.mask (get_or x.states i 0)) 0 infinite_entry) 0 n i 0 b ∙ rw z))
+  entered_started new w = started_is x.task x.mask x.states new n long entry
     where
       long : length new ≡ n
       long = w.long ∙ length-replicate {A = ℕ} n infinite_entry
@@ -226,3 +240,9 @@ pub goals_table : (p : Patterned) (new : List ℕ) → Ready p → p.effective �
 goals_table p new k z s = let ws = weights_from 1 (take p.variables p.sizes) p.picked ++ replicate (16 - p.variables) 0 in let words = listed (take p.variables p.sizes) p.picked in
     let h = listed_at (take p.variables p.sizes) p.picked in
     parts_settled p.task p.actions p.variables p.mask p.sizes p.picked ws words new k.masked refl h new (s words h) (settled_idle (space p.task p.mask ws words p.actions) new p.effective k.effective_is z)
+
+-- Where the goal names no variable of the pattern the table has 0 alone.
+pub free_table : (p : Patterned) (new : List ℕ) → Ready p → bit_and (goal_mask p.task) p.mask ≡ 0 → new ≡ replicate (states_of p) 0 → TableOf p new
+free_table p new k z s = let ws = weights_from 1 (take p.variables p.sizes) p.picked ++ replicate (16 - p.variables) 0 in let words = listed (take p.variables p.sizes) p.picked in
+    let h = listed_at (take p.variables p.sizes) p.picked in
+    parts_settled p.task p.actions p.variables p.mask p.sizes p.picked ws words new k.masked refl h new (s ∙ free_started (k.walkable.regular ws words refl h) z) (settled_free (space p.task p.mask ws words p.actions) new (states_of p) s)

@@ -6,7 +6,7 @@ use Rattle.task_record.specs.Layout.{record_size}
 use Rattle.task_record.specs.Record.{first_bad, record_check}
 use Rattle.task_record.specs.State.{first_bad_value, judge_state, state_check}
 use Rattle.task_record.specs.Refusals.{refusal_numbers, answer_numbers, after}
-use Rattle.task_record.specs.Answers.{short_record, bad_cell, bad_state, record_by_lines}
+use Rattle.task_record.specs.Answers.{short_record, bad_cell, bad_state, record_by_lines, judged_by_lines}
 use Rattle.task_record.specs.declared.refusal.Refusal.{Refusal}
 use Rattle.task_record.specs.declared.refusal.Refusal.TheVariants.{ShortRecord, WrongCell, WrongState}
 
@@ -56,6 +56,10 @@ told_alone f (Err e) = refl
 pub record_told : (r : List ℕ) → record_by_lines r ≡ answer_numbers (λ u. answered 0 0 0 0) (record_check r)
 unfolding record_by_lines
 record_told r = sym (told_alone _ (record_check r) ∙ after_record_lem (λ u. answered 0 0 0 0) r (λ u. Ok tt))
+
+pub judged_told : (r s : List ℕ) → judged_by_lines r s ≡ answer_numbers (λ u. answered 0 0 0 0) (judge_state r s)
+unfolding judged_by_lines
+judged_told r s = sym (told_alone _ (judge_state r s) ∙ after_state_lem (λ u. answered 0 0 0 0) r s (λ u. Ok tt))
 
 pub state_told : (r s : List ℕ) → short_record r (bad_cell r (bad_state r s (answered 0 0 0 0))) ≡ answer_numbers (λ u. answered 0 0 0 0) (state_check r s)
 state_told r s = sym (told_alone _ (state_check r s) ∙ after_check (λ u. answered 0 0 0 0) r s (λ u. Ok tt))

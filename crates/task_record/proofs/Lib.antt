@@ -26,7 +26,7 @@ pub mod SoundTask
 pub mod States
 -- What a call says in numbers, by the lines 5, 6 and 10 of "Where a call can say no".
 pub mod ByLines
--- A longer record is judged by its first 9,464 bytes.
+-- A longer record is judged by its first 9,528 bytes.
 pub mod LongerRecords
 -- What is left of a list from an index on.
 pub mod Rest

@@ -12,6 +12,10 @@ use Rattle.task_record.specs.declared.refusal.Refusal.{Refusal}
 abbrev pub record_numbers : Result Unit Refusal → Numbers
 record_numbers checked = answer_numbers (λ u. answered 0 0 0 0) checked
 
+-- Kind 0: the record is sound, and may be had as one that was checked.
+abbrev pub sound_numbers : Result (List ℕ) Refusal → Numbers
+sound_numbers checked = answer_numbers (λ cells. answered 0 0 0 0) checked
+
 -- Kind 0: the state is one of the record's task.
 abbrev pub state_numbers : Result Unit Refusal → Numbers
 state_numbers checked = answer_numbers (λ u. answered 0 0 0 0) checked
@@ -31,6 +35,10 @@ bad_state r s below = refused_if (not (length s == 16)) 10 16 (refused_if (nat_l
 -- The lines that concern the check of a record, and of a state.
 unfoldable pub record_by_lines : List ℕ → Numbers
 record_by_lines r = short_record r (bad_cell r (answered 0 0 0 0))
+
+-- The line that concerns the check of a state, where the record was checked before.
+unfoldable pub judged_by_lines : List ℕ → List ℕ → Numbers
+judged_by_lines r s = bad_state r s (answered 0 0 0 0)
 
 unfoldable pub state_by_lines : List ℕ → List ℕ → Numbers
 state_by_lines r s = short_record r (bad_cell r (bad_state r s (answered 0 0 0 0)))

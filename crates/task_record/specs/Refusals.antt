@@ -38,7 +38,7 @@ refusal_numbers (Inapplicable offset) = refusal 14 offset
 refusal_numbers (EarlyArrival offset) = refusal 15 offset
 -- "16: bytes after the plan; offset"
 refusal_numbers (TrailingBytes offset) = refusal 16 offset
--- "17: a move after 32 moves on the path; offset"
+-- "17: a move after 32 moves on the path; offset"; it is after 255 moves now
 refusal_numbers (TooDeep offset) = refusal 17 offset
 -- "18: row below 4,097, with its length"; "with 18 following that length": it is now 1,044,227
 refusal_numbers (ShortRow length) = refusal 18 length

@@ -2,6 +2,7 @@
 ghost use Rattle.std.specs.Prelude.{◌≡◌, ℕ, List};
 ghost use Rattle.task_record.specs.Record.{Sound};
 ghost use Rattle.task_record.specs.State.{judge_state};
+ghost use Rattle.task_record.specs.Answers.{state_numbers, judged_by_lines};
 
 use crate::record::{check_record, judge_state};
 use crate::refusal::Refusal;
@@ -22,10 +23,12 @@ impl<'a> Model for SoundRecord<'a> {
 
 impl<'a> SoundRecord<'a> {
     ghost use Rattle.task_record.specs.SoundRecord.{sound_record};
+    ghost use Rattle.task_record.specs.Answers.{sound_numbers, record_by_lines};
 
     // Tested before all else by each call that is lent a record.
     pub fn new(rec: &'a [u8]) -> Result<SoundRecord<'a>, Refusal>
-        ensures { result ≡ sound_record rec.now }
+        ensures value { result ≡ sound_record rec.now }
+        ensures numbers { sound_numbers result ≡ record_by_lines rec.now }
     {
         check_record(rec)?;
         Ok(SoundRecord { cells: rec })
@@ -33,7 +36,8 @@ impl<'a> SoundRecord<'a> {
 
     // Whether `state` is a state of the record's task.
     pub fn check_state(&self, state: &[u8]) -> Result<(), Refusal>
-        ensures { result ≡ judge_state self.now state.now }
+        ensures value { result ≡ judge_state self.now state.now }
+        ensures numbers { state_numbers result ≡ judged_by_lines self.now state.now }
     {
         judge_state(self.cells, state)
     }

@@ -40,6 +40,7 @@ impl Record {
 pub(crate) struct Lent {
     rec: Record,
     tables: [u32; 16384],
+    first: usize,
 }
 
 impl Lent {
@@ -50,7 +51,13 @@ impl Lent {
                 lent: RECORD_ROOM,
             },
             tables: [0; 16384],
+            first: 0,
         }
+    }
+
+    // The first number of a list; of an empty one that of the last list which was not empty.
+    fn first_of(&self, numbers: &[usize]) -> usize {
+        numbers.first().copied().unwrap_or(self.first)
     }
 
     fn read(&mut self, out: &impl Print, text: &mut [u8]) -> io::Result<()> {
@@ -107,6 +114,8 @@ impl Lent {
 
     // Into a row that holds 7 where nothing is counted.
     // Stays: an array for the row, since there is no heap; and its length as a parameter: a proof that sees the number goes through a million counts.
+    // Compiled into no other function, which would make room for the row at every line.
+    #[inline(never)]
     fn spread<const N: usize>(&mut self, out: &impl Print, numbers: &[usize]) -> io::Result<()>
         requires { N ≤ 2000000 }
     {
@@ -128,7 +137,7 @@ impl Lent {
     }
 
     fn value(&mut self, out: &impl Print, numbers: &[usize], room: &mut [u8]) -> io::Result<()> {
-        let entries = number_at(numbers, 0).min(self.tables.len());
+        let entries = self.first_of(numbers).min(self.tables.len());
         let from = numbers.len().min(1);
         let state = as_bytes(&numbers[from..], room);
         let tables = &self.tables[..entries];
@@ -179,8 +188,10 @@ impl Lent {
             b'u' => self.upgrade(out, numbers),
             b'v' => self.value(out, numbers, room),
             b'p' => self.check_plan(out, numbers, room),
-            _ => Ok(()),
-        }
+            _ => return Ok(()),
+        }?;
+        self.first = self.first_of(numbers);
+        Ok(())
     }
 
     pub(crate) fn run_line(
@@ -195,14 +206,19 @@ impl Lent {
         let name = line.iter().position(|&b| b == b':').unwrap_or(line.len());
         let list = (name + 2).min(line.len());
         if letter == b'l' {
-            self.rec.lent = number_at(&numbers_of(&line[list..]), 0);
+            let numbers = numbers_of(&line[list..], self.first);
+            self.rec.lent = number_at(&numbers, 0);
+            self.first = self.first_of(&numbers);
             return Ok(());
         }
         out.write_all(&line[..name])?;
         match letter {
             b'r' => self.read(out, &mut line[list..])?,
             b'a' => show_answer(out, planner_additive(self.rec.as_slice()))?,
-            _ => self.call(out, letter, &numbers_of(&line[list..]), room)?,
+            _ => {
+                let numbers = numbers_of(&line[list..], self.first);
+                self.call(out, letter, &numbers, room)?
+            }
         }
         println!(out)
     }

@@ -25,13 +25,15 @@ fn number_of(piece: &[u8]) -> usize {
 // The numbers of a list.
 pub(crate) type Numbers = ArrayVec<usize, 320>;
 
-// They are parted by commas; those that find no room are passed over.
-pub(crate) fn numbers_of(list: &[u8]) -> Numbers {
+// They are parted by commas; those that find no room are passed over. Where nothing stands before the first comma, the number is `first`.
+pub(crate) fn numbers_of(list: &[u8], first: usize) -> Numbers {
     let mut numbers = Numbers::new();
-    if !list.is_empty() {
-        for piece in list.split(|&b| b == b',') {
-            let _ = numbers.try_push(number_of(piece));
-        }
+    if list.is_empty() {
+        return numbers;
+    }
+    for (k, piece) in list.split(|&b| b == b',').enumerate() {
+        let is_left_out = k == 0 && piece.is_empty();
+        let _ = numbers.try_push(if is_left_out { first } else { number_of(piece) });
     }
     numbers
 }

@@ -1,5 +1,6 @@
 // The table of one pattern. Arrays are cleared, which is most of what a small table costs: there are several sizes of them.
-ghost use Rattle.std.specs.Prelude.{◌≡◌, ℕ, ◌≤◌, List, length};
+ghost use Rattle.std.specs.Prelude.{◌≡◌, ℕ, ◌≤◌, List, length, cond, bit_and, ◌==◌};
+ghost use Rattle.planning.specs.Table.{infinite_entry};
 ghost use Rattle.tables.specs.Patterned.{states_of, TableOf};
 ghost use Rattle.tables.specs.Steps.{started};
 ghost use Rattle.tables.specs.Listed.{RoomFor, WordsOf, edges_most};
@@ -13,7 +14,8 @@ use crate::worklist::parts::parts_of;
 use crate::worklist::queue::WaitingStates;
 use crate::worklist::settle::{Room, settle};
 use crate::worklist::states::States;
-use patterns::entry::Entry;
+use packed_task::compiled_task::{goal_need, goal_value};
+use patterns::entry::{Entry, INFINITE};
 
 // The table, with room for so many states, edges and sets; with no room for sets the edges are tested one by one.
 // A function makes room for all its arrays where it begins, those of functions compiled into it among them: this one is compiled into no other, so
@@ -44,12 +46,50 @@ fn build_within<const STATES: usize, const EDGES: usize, const SETS: usize>(
     settle::<STATES>(&listed, parts, room, entries);
 }
 
-// The entries with the goals alone.
+// 0 where a state meets the goal within the pattern, else infinite.
+fn entry_at_start(state: u64, need: u64, value: u64) -> Entry
+    ensures { result ≡ cond (bit_and state need == value) 0 infinite_entry }
+{
+    if state & need == value { 0 } else { INFINITE }
+}
+
+// Whether the goals are many: more than a sixteenth of the states. How many they are carries no proof.
+fn has_many_goals(pattern: &Pattern) -> bool {
+    let need = goal_need(pattern.task) & pattern.mask;
+    let mut named = 1u64;
+    for (v, size) in pattern.sizes.iter().enumerate() {
+        if need >> (4 * v) & 15 != 0 {
+            named = named.saturating_mul(u64::from(*size));
+        }
+    }
+    named < 16
+}
+
+// The entries with the goals alone, by a look at each state.
+#[inline(never)]
+fn look_at_states<const STATES: usize>(pattern: &Pattern, entries: &mut [Entry])
+    requires { (length entries.old ≡ states_of pattern.now) × (length entries.old ≤ STATES) × (1 ≤ STATES) × (STATES ≤ 4096) }
+    ensures { (words : List ℕ) → WordsOf pattern.now words → entries.new ≡ started pattern.now.task pattern.now.mask words (length entries.old) }
+{
+    let mut words = [0u64; STATES];
+    fill_states(pattern, &mut words);
+    let need = goal_need(pattern.task) & pattern.mask;
+    let value = goal_value(pattern.task) & pattern.mask;
+    for (i, entry) in entries.iter_mut().enumerate() {
+        *entry = entry_at_start(words[i], need, value);
+    }
+}
+
+// The entries with the goals alone: found by the digits that the goal leaves free, which costs some tens of instructions for each goal, or, where they
+// are many, by a look at each state.
 #[inline(never)]
 fn build_goals<const STATES: usize>(pattern: &Pattern, entries: &mut [Entry])
     requires { (length entries.old ≡ states_of pattern.now) × (length entries.old ≤ STATES) × (1 ≤ STATES) × (STATES ≤ 4096) }
     ensures { (words : List ℕ) → WordsOf pattern.now words → entries.new ≡ started pattern.now.task pattern.now.mask words (length entries.old) }
 {
+    if has_many_goals(pattern) {
+        return look_at_states::<STATES>(pattern, entries);
+    }
     let weights = weights_of(pattern);
     let mut queue: WaitingStates<STATES, 1> = WaitingStates::new(entries.len(), 0);
     put_goals(pattern, &weights, entries, &mut queue);
@@ -108,6 +148,11 @@ pub(crate) fn build_table(pattern: &Pattern, entries: &mut [Entry])
     requires { length entries.old ≡ states_of pattern.now }
     ensures { TableOf pattern.now entries.new }
 {
+    // Where the goal names no variable of the pattern, every state is a goal.
+    if goal_need(pattern.task) & pattern.mask == 0 {
+        entries.fill(0);
+        return;
+    }
     let edges = edge_count(
         pattern.task,
         pattern.mask,

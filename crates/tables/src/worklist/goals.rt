@@ -1,5 +1,5 @@
 // The goals of a pattern: their entries are 0, and they wait. They are found by going over the digits that the goal leaves free, and by no look at each
-// state: most patterns have few goals.
+// state: most patterns have few goals (`build` looks at each state where they are many and no action counts).
 ghost use Rattle.std.specs.Prelude.{◌≡◌, ℕ, ◌+◌, ◌*◌, ◌≤◌, List, length};
 ghost use Rattle.tables.specs.Steps.{started};
 ghost use Rattle.tables.specs.Patterned.{states_of};

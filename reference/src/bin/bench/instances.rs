@@ -341,6 +341,12 @@ pub fn large(seed: u64, size: u8, patterns: usize, actions: usize) -> Task {
     }
 }
 
+/// The task with a goal of these values alone: patterns of which it names few
+/// variables have many goals, and those of which it names none nothing else.
+fn with_goal(task: Task, goal: Named) -> Task {
+    Task { goal: names(task.sizes.len(), goal), ..task }
+}
+
 /// One pattern of twelve variables of size 2 and 64 actions of eight outcomes,
 /// each of which sets four variables that it does not need: as many edges as
 /// there can be, and at each more free variables than two.
@@ -542,6 +548,16 @@ pub fn instances(seed: u64) -> Vec<Instance> {
         Instance::of("Gray code, 11 variables", gray(11), &TABLES),
         Instance::of("8 tables of 16^3, 64 actions", large(seed, 16, 8, 64), &TABLES[..4]),
         Instance::of("8 tables of 2^12, 64 actions", large(seed, 2, 8, 64), &TABLES[..4]),
+        Instance::of(
+            "8 tables of 2^12, 64 actions, all goals",
+            with_goal(large(seed, 2, 8, 64), &[]),
+            &[BuildTables],
+        ),
+        Instance::of(
+            "8 tables of 2^12, no actions, half goals",
+            with_goal(large(seed, 2, 8, 0), &[(7, 1)]),
+            &[BuildTables],
+        ),
         Instance::of("table of 2^12, 512 edges", broad(seed), &[BuildTables]),
         Instance::of("table of 16^3, no actions", large(seed, 16, 1, 0), &[BuildTables, Spread]),
         Instance::of("no tables", no_tables(), &[BuildTables, Spread]),

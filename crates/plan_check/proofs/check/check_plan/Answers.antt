@@ -38,7 +38,7 @@ read_after r s plan h = rw h
 
 pub cells_at-requires : goal.cells_at-requires
 cells_at-requires c =
-    let good = passed _ _ _ (sym c.new.ensures ∙ c.in_ok-checked.was) (sym c.check_state.ensures ∙ c.in_ok-check_state.was) in
+    let good = passed _ _ _ (sym c.new.ensures.value ∙ c.in_ok-checked.was) (sym c.check_state.ensures.value ∙ c.in_ok-check_state.was) in
     let whole = (checked_good _ _ good.1).1.whole in
     omega arith
 
@@ -52,7 +52,7 @@ returns-in_err-check_state-clause-numbers c = let a = c.args in told a.rec.now a
 
 pub returns : goal.returns
 returns c =
-    let good = passed _ _ _ (sym c.new.ensures ∙ c.in_ok-checked.was) (sym c.check_state.ensures ∙ c.in_ok-check_state.was) in
+    let good = passed _ _ _ (sym c.new.ensures.value ∙ c.in_ok-checked.was) (sym c.check_state.ensures.value ∙ c.in_ok-check_state.was) in
     let whole = (checked_good _ _ good.1).1.whole in
     let same = c.cells_at.ensures ∙ take_all 16 c.args.state.now (omega arith) in
     let e = (rw (same, ← good.0) at c.check_from.ensures) ∙ read_after _ _ c.args.plan.now good.1 in

@@ -7,7 +7,7 @@ use lib.Dec.{ltb}
 use lib.ListN.{length}
 use mathlib.Core.List.{List}
 use mathlib.Core.Path.{◌∙◌, ◌≡◌, ap, refl, sym}
-use Rattle.reader.specs.Grammar.{Whole, answer_of, complete, read_answer, read_from, read_leaves, read_whole, refused}
+use Rattle.reader.specs.Grammar.{Whole, answer_of, complete, read_answer, read_from, read_leaves, read_whole, refused, whole_of}
 use Rattle.task_record.specs.Answers.{short_record}
 use Rattle.task_record.specs.Refusals.{refusal_numbers}
 use Rattle.task_record.specs.declared.refusal.Refusal.{Refusal}
@@ -15,11 +15,12 @@ use Rattle.task_record.specs.declared.refusal.Refusal.TheVariants.{ShortRecord}
 use Rattle.planning.specs.Numbers.{Numbers, refused_if}
 use Rattle.reader.specs.Answers.{read_numbers, whole_numbers, text_by_lines}
 use Rattle.std.proofs.Common.{Result, Err}
+use Rattle.std.proofs.lemmas.Result.{err_from_is_err_and}
 use mathlib.Core.Bool.{Bool, true, false, cond}
 use Rattle.task_record.specs.Layout.{record_size}
 use Rattle.reader.specs.Text.{lines_of}
 use Rattle.reader.specs.declared.order.Due.TheVariants.{Vars}
-use Rattle.reader.proofs.Answers.{answers_read}
+use Rattle.reader.proofs.Answers.{answers_read, answers_refused}
 use Rattle.reader.proofs.Stores.{sets_front}
 use Rattle.reader.proofs.text.read_text.Goals.{Then-is_good}
 use Rattle.reader.proofs.text.read_text.Goals as goal
@@ -55,5 +56,15 @@ returns-then-is_good c = let a = c.args in
     let d = answers_read a.text.now a.record.now c.if-record-lt-RECORD_SIZE.false l (good-text (goal.at.returns-then-is_good c).Then-is_good ∙ ap complete (sym c.draft.view_is)) in
     let both = told a.text.now a.record.now _ (d.0, c.put_cells.ensures ∙ sets_front a.record.now l record_size (search rules) c.if-record-lt-RECORD_SIZE.false ∙ d.1) in record { value = both.0; numbers = both.1 }
 
+pub returns-in_err-read_slowly : goal.returns-in_err-read_slowly
+returns-in_err-read_slowly c = let a = c.args in
+    let l = c.read_slowly.new.local in
+    let q = err_from_is_err_and c.from_residual.result c.from_residual.ensures.1 in
+    let d = answers_refused a.text.now a.record.now c.if-record-lt-RECORD_SIZE.false c.in_err-read_slowly.field-0.0 (c.read_slowly.ensures ∙ ap (λ (r : Result Unit Refusal). whole_of r l) c.in_err-read_slowly.was) in
+    let both = told a.text.now a.record.now _ (q.1 ∙ ap Err q.2 ∙ d.0, d.1) in record { value = both.0; numbers = both.1 }
+
 pub returns : goal.returns
-returns c = let both = told _ _ _ c.read_slowly.ensures in record { value = both.0; numbers = both.1 }
+returns c = let a = c.args in
+    let l = c.read_slowly.new.local in
+    let d = answers_read a.text.now a.record.now c.if-record-lt-RECORD_SIZE.false l (c.read_slowly.ensures ∙ ap (λ (r : Result Unit Refusal). whole_of r l) c.in_ok-read_slowly.was) in
+    let both = told a.text.now a.record.now _ (d.0, c.put_cells-2.ensures ∙ sets_front a.record.now l record_size (search rules) c.if-record-lt-RECORD_SIZE.false ∙ d.1) in record { value = both.0; numbers = both.1 }

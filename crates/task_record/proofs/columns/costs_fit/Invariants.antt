@@ -1,7 +1,6 @@
 -- `costs_fit`: no fault was gathered only if each cost so far is there exactly where its action is used. Assumes nothing.
-use Rattle.std.proofs.Common.{◌≡◌, ℕ, ◌+◌, ◌<◌, ◌≤◌, ltb, get_or}
+use Rattle.std.proofs.Common.{◌≡◌, ℕ, ◌<◌, ◌≤◌, ltb, get_or}
 use Rattle.task_record.specs.Layout.{at_cost}
-use Rattle.task_record.specs.Numbers.{action_count}
 use Rattle.task_record.proofs.columns.costs_fit.Given as goal
 
 abbrev pub invariant-loop-m : goal.invariant-loop-m
