@@ -553,8 +553,9 @@ pub fn instances(seed: u64) -> Vec<Instance> {
             with_goal(large(seed, 2, 8, 64), &[]),
             &[BuildTables],
         ),
+        // Half of the states of six tables, and all of two.
         Instance::of(
-            "8 tables of 2^12, no actions, half goals",
+            "8 tables of 2^12, no actions, many goals",
             with_goal(large(seed, 2, 8, 0), &[(7, 1)]),
             &[BuildTables],
         ),
